@@ -1,0 +1,2 @@
+-- `Numbers`: the stored form of a number, and its digits read and written.
+pub mod Numbers
