@@ -1,0 +1,92 @@
+-- Document 01, "Request string": how the fields are read from a text. "Each field is read from the remaining part of the string; the first field that cannot be read ends the reading." Assumes nothing.
+use Prim.Native.Nat.{ℕ, suc, _+_}
+use mathlib.Core.Bool.{Bool, true, false, cond, _&&_}
+use mathlib.Core.Option.{Option, none, some}
+use mathlib.Core.List.{List, [], _∷_, _++_}
+use lib.ListN.{length, take, drop}
+use lib.Dec.{leb, eqb}
+use Rattle.answers.specs.Checks.{_>>=_, onlyIf}
+use Rattle.numbers.specs.Numbers.{numberAt}
+use Rattle.numbers.specs.declared.NumberRead.{NumberRead}
+use Rattle.numbers.specs.declared.NumberRead.the-variants.{Number, Unreadable}
+use Rattle.strings.specs.declared.Operation.{Operation}
+use Rattle.strings.specs.declared.Operation.the-variants.{Register, Erase, Interrogate}
+use Rattle.strings.specs.declared.Erasing.{Erasing}
+use Rattle.strings.specs.declared.Erasing.the-variants.{Empty, Forced}
+use Rattle.strings.specs.Text.{Request, isAdditional, mostAdditional, operationText, serviceText, star, hash}
+
+-- a field that was read, and what is left of the string
+pub record Field (X : Type 0) : Type 0 where
+  pub got : X
+  pub rest : List ℕ
+
+-- the string begins with the characters p
+abbrev pub begins : List ℕ → List ℕ → Bool
+begins [] s = true
+begins (c ∷ p) [] = false
+begins (c ∷ p) (x ∷ s) = eqb x c && begins p s
+
+-- what is left behind the characters p, if the string begins with them
+abbrev pub behind : List ℕ → List ℕ → Option (List ℕ)
+behind p s = onlyIf (begins p s) (drop (length p) s)
+
+-- the field x, written as the characters p
+abbrev pub fieldAt : {X : Type 0} → X → List ℕ → List ℕ → Option (Field X)
+fieldAt x p s = onlyIf (begins p s) (record { got = x; rest = drop (length p) s })
+
+-- the first that can be read
+abbrev pub orElse : {X : Type 0} → Option X → Option X → Option X
+orElse none other = other
+orElse (some x) other = some x
+
+-- the operation
+unfoldable pub operationAt : List ℕ → Option (Field Operation)
+operationAt s =
+    orElse (fieldAt Register (operationText Register) s)
+    (orElse (fieldAt Erase (operationText Erase) s) (fieldAt Interrogate (operationText Interrogate) s))
+
+-- `214` and the star behind it
+unfoldable pub serviceAt : List ℕ → Option (List ℕ)
+serviceAt s = behind (serviceText ++ star) s
+
+-- a number in stored form, read from s, and the star behind it
+abbrev pub starredNumber : List ℕ → NumberRead → Option (Field ℕ)
+starredNumber s (Number w n) = fieldAt w star (drop n s)
+starredNumber s Unreadable = none
+
+unfoldable pub numberFieldAt : List ℕ → Option (Field ℕ)
+numberFieldAt s = starredNumber s (numberAt s)
+
+-- `88`, a star, the MSISDN to erase and its star: behind `##` only
+abbrev pub forcedAt : Operation → List ℕ → Option (Field Erasing)
+forcedAt Register s = none
+forcedAt Erase s = do
+  rest ← behind (56 ∷ 56 ∷ 42 ∷ []) s
+  msisdn ← numberFieldAt rest
+  some (record { got = Forced (record { 0 = msisdn .got }); rest = msisdn .rest })
+forcedAt Interrogate s = none
+
+-- supervisor field and MSISDN to erase, each with its star: both empty, or of a forced erasure
+unfoldable pub erasingAt : Operation → List ℕ → Option (Field Erasing)
+erasingAt o s = orElse (fieldAt Empty (star ++ star) s) (forcedAt o s)
+
+-- how many characters at the front may stand in an additional field
+unfoldable pub leadingAdditional : List ℕ → ℕ
+leadingAdditional [] = 0
+leadingAdditional (c ∷ s) = cond (isAdditional c) (suc (leadingAdditional s)) 0
+
+-- the additional field: 0 to 30 characters, and `#` as last character of the string
+unfoldable pub additionalAt : List ℕ → Option (List ℕ)
+additionalAt s =
+    let n = leadingAdditional s in
+    onlyIf (leb n mostAdditional && begins hash (drop n s) && eqb (length s) (n + 1)) (take n s)
+
+-- all fields, in their order
+unfoldable pub fieldsOf : List ℕ → Option Request
+fieldsOf s = do
+  operation ← operationAt s
+  rest ← serviceAt (operation .rest)
+  number ← numberFieldAt rest
+  erasing ← erasingAt (operation .got) (number .rest)
+  additional ← additionalAt (erasing .rest)
+  some (record { operation = operation .got; number = record { 0 = number .got }; erasing = erasing .got; additional = additional })

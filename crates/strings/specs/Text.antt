@@ -1,0 +1,100 @@
+-- Document 01, "Request string" (000, 4.2.4.1): the fields of a request, when they are sound, and their text. Assumes nothing.
+use Prim.Native.Nat.{ℕ}
+use mathlib.Core.Bool.{Bool, true, false, _&&_, _||_}
+use mathlib.Core.List.{List, [], _∷_, _++_}
+use lib.ListN.{length}
+use lib.Dec.{leb, eqb}
+use Rattle.numbers.specs.Numbers.{isDigit, isNumber, digitsOf}
+use Rattle.numbers.specs.declared.FunctionalNumber.{FunctionalNumber}
+use Rattle.numbers.specs.declared.Msisdn.{Msisdn}
+use Rattle.strings.specs.declared.Operation.{Operation}
+use Rattle.strings.specs.declared.Operation.the-variants.{Register, Erase, Interrogate}
+use Rattle.strings.specs.declared.Erasing.{Erasing}
+use Rattle.strings.specs.declared.Erasing.the-variants.{Empty, Forced}
+
+-- the fields of a request, the additional field by its characters
+pub record Request : Type 0 where
+  pub operation : Operation
+  pub number : FunctionalNumber
+  pub erasing : Erasing
+  pub additional : List ℕ
+
+-- "from 0–9, A–Z and space"
+unfoldable pub isAdditional : ℕ → Bool
+isAdditional c = isDigit c || (leb 65 c && leb c 90) || eqb c 32
+
+unfoldable pub areAdditional : List ℕ → Bool
+areAdditional [] = true
+areAdditional (c ∷ cs) = isAdditional c && areAdditional cs
+
+-- "The additional field has 0 to 30 characters"
+abbrev pub mostAdditional : ℕ
+mostAdditional = 30
+
+-- "Supervisor field and MSISDN are both empty, or, with `##` only, `88` and a number"
+abbrev pub erasingSound : Operation → Erasing → Bool
+erasingSound o Empty = true
+erasingSound Register (Forced m) = false
+erasingSound Erase (Forced m) = isNumber (m .0)
+erasingSound Interrogate (Forced m) = false
+
+-- fields that keep the string's rules
+unfoldable pub requestSound : Request → Bool
+requestSound f =
+    isNumber (f .number .0) && erasingSound (f .operation) (f .erasing) && leb (length (f .additional)) mostAdditional && areAdditional (f .additional)
+
+-- "operation `**` (register), `##` (erase) or `*#` (interrogate)"
+abbrev pub operationText : Operation → List ℕ
+operationText Register = 42 ∷ 42 ∷ []
+operationText Erase = 35 ∷ 35 ∷ []
+operationText Interrogate = 42 ∷ 35 ∷ []
+
+-- `214`, `*`, `#` and `88`
+abbrev pub serviceText : List ℕ
+serviceText = 50 ∷ 49 ∷ 52 ∷ []
+
+abbrev pub star : List ℕ
+star = 42 ∷ []
+
+abbrev pub hash : List ℕ
+hash = 35 ∷ []
+
+abbrev pub supervisorText : Erasing → List ℕ
+supervisorText Empty = []
+supervisorText (Forced m) = 56 ∷ 56 ∷ []
+
+abbrev pub msisdnText : Erasing → List ℕ
+msisdnText Empty = []
+msisdnText (Forced m) = digitsOf (m .0)
+
+-- the parts of a string, one behind the other
+abbrev pub joined : List (List ℕ) → List ℕ
+joined [] = []
+joined (part ∷ parts) = part ++ joined parts
+
+-- "In order: operation …; `214`; `*`; functional number; `*`; supervisor field; `*`; MSISDN to erase; `*`; additional field; `#` as last character"
+unfoldable pub textOf : Request → List ℕ
+textOf f = joined
+    (operationText (f .operation)
+    ∷ serviceText
+    ∷ star
+    ∷ digitsOf (f .number .0)
+    ∷ star
+    ∷ supervisorText (f .erasing)
+    ∷ star
+    ∷ msisdnText (f .erasing)
+    ∷ star
+    ∷ f .additional
+    ∷ hash
+    ∷ [])
+
+-- "Notices": `##214*` number `*88*` supervisor `*#`, the text of a forced erasure with the supervisor in the MSISDN's place
+unfoldable pub noticeOf : FunctionalNumber → Msisdn → Request
+noticeOf number supervisor = record { operation = Erase; number = number; erasing = Forced supervisor; additional = [] }
+
+-- "at most 72 characters, 63 octets"
+abbrev pub mostCharacters : ℕ
+mostCharacters = 72
+
+abbrev pub mostOctets : ℕ
+mostOctets = 63
