@@ -1,0 +1,106 @@
+-- Document 01, "The lent table and list": the words of a row, when they are sound, and the record that they are. Assumes nothing.
+use Prim.Native.Nat.{ℕ, _+_, _*_, _/_, _%_, _^_}
+use mathlib.Core.Bool.{Bool, true, cond, not, _&&_, _||_}
+use mathlib.Core.List.{List}
+use lib.ListN.{getD, set}
+use lib.Dec.{eqb, ltb, leb}
+use Rattle.numbers.specs.Numbers.{isNumber}
+use Rattle.numbers.specs.declared.Msisdn.{Msisdn}
+use Rattle.records.specs.declared.Notice.{Notice}
+use Rattle.records.specs.declared.Notice.the-variants.{Absent, Waiting, InFlight}
+use Rattle.records.specs.declared.Record.{Record}
+use Rattle.records.specs.Steps.{mostSendings}
+
+-- "six 64-bit words a number … The words: functional number; holder, a number, or 0; phase; notice's addressee; supervisor; second of the last failure"
+abbrev pub rowWords : ℕ
+rowWords = 6
+
+-- the word at a place of row i
+abbrev pub word : List ℕ → ℕ → ℕ → ℕ
+word t i place = getD t (rowWords * i + place) 0
+
+-- the functional number of row i: the row's first word
+abbrev pub numberAt : List ℕ → ℕ → ℕ
+numberAt t i = getD t (rowWords * i) 0
+
+abbrev pub holderAt : List ℕ → ℕ → ℕ
+holderAt t i = word t i 1
+
+abbrev pub phaseAt : List ℕ → ℕ → ℕ
+phaseAt t i = word t i 2
+
+abbrev pub addresseeAt : List ℕ → ℕ → ℕ
+addresseeAt t i = word t i 3
+
+abbrev pub supervisorAt : List ℕ → ℕ → ℕ
+supervisorAt t i = word t i 4
+
+abbrev pub secondAt : List ℕ → ℕ → ℕ
+secondAt t i = word t i 5
+
+-- the largest phase: "Even 2k (2 to 10): in flight, k done"
+abbrev pub lastPhase : ℕ
+lastPhase = 2 * mostSendings
+
+-- a waiting phase after a failure: "3, 5, 7 or 9"
+abbrev pub failedOnce : ℕ → Bool
+failedOnce phase = eqb (phase % 2) 1 && leb 3 phase
+
+-- "With phase 0 the last three words are 0. Otherwise addressee and supervisor are numbers and differ. The last word is below 2^32, and 0 unless the phase is 3, 5, 7 or 9"
+unfoldable pub noticeSound : ℕ → ℕ → ℕ → ℕ → Bool
+noticeSound phase addressee supervisor second =
+    cond (eqb phase 0) (eqb addressee 0 && eqb supervisor 0 && eqb second 0)
+    (leb phase lastPhase
+    && (isNumber addressee && isNumber supervisor && not (eqb addressee supervisor))
+    && (ltb second (2 ^ 32) && (eqb second 0 || failedOnce phase)))
+
+-- "holder, a number, or 0"
+abbrev pub holderSound : ℕ → Bool
+holderSound holder = eqb holder 0 || isNumber holder
+
+-- row i, by itself, as document 01 says
+unfoldable pub rowSound : List ℕ → ℕ → Bool
+rowSound t i =
+    isNumber (numberAt t i) && holderSound (holderAt t i) && noticeSound (phaseAt t i) (addresseeAt t i) (supervisorAt t i) (secondAt t i)
+
+-- "Phase 0: no notice. Odd 2k+1 (1 to 9): waiting, k sendings done. Even 2k (2 to 10): in flight, k done"
+unfoldable pub noticeOf : ℕ → ℕ → Notice
+noticeOf phase second = cond (eqb phase 0) Absent (cond (eqb (phase % 2) 1) (Waiting (phase / 2) second) (InFlight (phase / 2)))
+
+abbrev pub phaseOf : Notice → ℕ
+phaseOf Absent = 0
+phaseOf (Waiting k s) = 2 * k + 1
+phaseOf (InFlight k) = 2 * k
+
+abbrev pub secondOf : Notice → ℕ
+secondOf Absent = 0
+secondOf (Waiting k s) = s
+secondOf (InFlight k) = 0
+
+-- the record of row i
+unfoldable pub recordAt : List ℕ → ℕ → Record
+recordAt t i = record {
+  holder = record { 0 = holderAt t i };
+  notice = noticeOf (phaseAt t i) (secondAt t i);
+  addressee = record { 0 = addresseeAt t i };
+  supervisor = record { 0 = supervisorAt t i };
+}
+
+-- the table with r for the record of row i; its number stays, and so does every other row
+unfoldable pub stored : List ℕ → ℕ → Record → List ℕ
+stored t i r =
+    set (set (set (set (set t (rowWords * i + 1) (r .holder .0)) (rowWords * i + 2) (phaseOf (r .notice)))
+    (rowWords * i + 3) (r .addressee .0)) (rowWords * i + 4) (r .supervisor .0)) (rowWords * i + 5) (secondOf (r .notice))
+
+-- a notice in flight was sent at least once: the one record that no row is, in flight with 0 sendings, is left out
+abbrev pub sentOnce : Notice → Bool
+sentOnce Absent = true
+sentOnce (Waiting k s) = true
+sentOnce (InFlight k) = leb 1 k
+
+-- a record that the words of a sound row can be
+unfoldable pub recordSound : Record → Bool
+recordSound r =
+    holderSound (r .holder .0)
+    && noticeSound (phaseOf (r .notice)) (r .addressee .0) (r .supervisor .0) (secondOf (r .notice))
+    && sentOnce (r .notice)
