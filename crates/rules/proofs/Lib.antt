@@ -1,0 +1,2 @@
+-- The theorems about the rules.
+pub mod Examples

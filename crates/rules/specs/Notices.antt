@@ -1,0 +1,98 @@
+-- Document 01, "Notices": what a sending, a result and a finding come to. Assumes nothing.
+use Prim.Native.Nat.{ℕ, zero, suc}
+use mathlib.Core.Bool.{Bool, true, false, cond, not, _&&_, _||_}
+use mathlib.Core.Option.{Option, none, some}
+use mathlib.Core.List.{List, [], _∷_}
+use lib.ListN.{length}
+use lib.Dec.{eqb, ltb, leb}
+use Rattle.answers.specs.Checks.{decide, isNone}
+use Rattle.numbers.specs.Numbers.{isNumber}
+use Rattle.numbers.specs.declared.FunctionalNumber.{FunctionalNumber}
+use Rattle.strings.specs.Text.{textOf, noticeOf}
+use Rattle.records.specs.declared.Notice.{Notice}
+use Rattle.records.specs.declared.Notice.the-variants.{Absent, Waiting, InFlight}
+use Rattle.records.specs.declared.Record.{Record}
+use Rattle.records.specs.Steps.{mostSendings, lastKind, isWaiting, isInFlight, isDue, sendingsDone, launched, withNotice, cleared, delayAllowed}
+use Rattle.records.specs.Rows.{numberAt, recordAt, stored}
+use Rattle.tables.specs.declared.Found.{Found}
+use Rattle.tables.specs.declared.Found.the-variants.{At, Nothing}
+use Rattle.tables.specs.Tables.{tableSound, rowOf, recordOf, rowsIn}
+use Rattle.rules.specs.Answers.{Answer, refusal, sent, delivered, dropped, again, found, noneDue, Outcome, made, bufferRoom, over, octetCount, refusing}
+
+-- the notice in a record that is there
+abbrev pub noticeIn : Option Record → Notice
+noticeIn none = Absent
+noticeIn (some r) = r .notice
+
+-- ---- sending
+
+-- "Checks: 1 (buffer under 80), 2, 7 (malformed, or not in the table), 6 (delay), 4 (phase not odd), 5 (not due)"
+abbrev pub sendingChecks : Bool → List ℕ → ℕ → Option Record → ℕ → ℕ → List (Bool × Answer)
+sendingChecks soundTable buffer number r delay clock =
+    (ltb (length buffer) bufferRoom, refusal 1)
+    ∷ (not soundTable, refusal 2)
+    ∷ (not (isNumber number) || isNone r, refusal 7)
+    ∷ (not (delayAllowed delay), refusal 6)
+    ∷ (not (isWaiting (noticeIn r)), refusal 4)
+    ∷ (not (isDue delay clock (noticeIn r)), refusal 5)
+    ∷ []
+
+-- "Then the phase grows by 1, the last word becomes 0, and the buffer holds packed `##214*` number `*88*` supervisor `*#`; the addressee and octet count are returned"
+abbrev pub sentAt : FunctionalNumber → Found → List ℕ → List ℕ → Outcome
+sentAt number Nothing table buffer = made (refusal 7) table buffer
+sentAt number (At i) table buffer =
+    let r = recordAt table i in
+    let text = textOf (noticeOf number (r .supervisor)) in
+    made (sent (r .addressee .0) (octetCount text)) (stored table i (withNotice (launched (r .notice)) r)) (over text buffer)
+
+unfoldable pub sending : List ℕ → List ℕ → FunctionalNumber → ℕ → ℕ → Outcome
+sending table buffer number delay clock =
+    decide (refusing table buffer (sendingChecks (tableSound table) buffer (number .0) (recordOf table (number .0)) delay clock))
+    (sentAt number (rowOf table (number .0)) table buffer)
+
+-- ---- result
+
+-- "Checks: 2, 7, 3 (kind above 5), 4 (phase 0 or odd)"
+abbrev pub resultChecks : Bool → ℕ → Option Record → ℕ → List (Bool × Answer)
+resultChecks soundTable number r kind =
+    (not soundTable, refusal 2)
+    ∷ (not (isNumber number) || isNone r, refusal 7)
+    ∷ (ltb lastKind kind, refusal 3)
+    ∷ (not (isInFlight (noticeIn r)), refusal 4)
+    ∷ []
+
+-- "Kinds 0 to 4 clear the notice. Kind 5 clears it at phase 10"
+abbrev pub clears : ℕ → Notice → Bool
+clears kind n = ltb kind lastKind || leb mostSendings (sendingsDone n)
+
+-- "It returns delivered for kind 0, dropped where 1 to 5 clears, again otherwise"
+abbrev pub returned : ℕ → Notice → Answer
+returned kind n = cond (eqb kind 0) delivered (cond (clears kind n) dropped again)
+
+-- "otherwise the phase grows by 1 and the last word is now"
+abbrev pub afterResult : ℕ → ℕ → Record → Record
+afterResult kind clock r = cond (clears kind (r .notice)) (cleared r) (withNotice (Waiting (sendingsDone (r .notice)) clock) r)
+
+abbrev pub resultAt : ℕ → ℕ → Found → List ℕ → Outcome
+resultAt kind clock Nothing table = made (refusal 7) table []
+resultAt kind clock (At i) table =
+    let r = recordAt table i in
+    made (returned kind (r .notice)) (stored table i (afterResult kind clock r)) []
+
+-- a result is lent no buffer
+unfoldable pub result : List ℕ → FunctionalNumber → ℕ → ℕ → Outcome
+result table number kind clock =
+    decide (refusing table [] (resultChecks (tableSound table) (number .0) (recordOf table (number .0)) kind)) (resultAt kind clock (rowOf table (number .0)) table)
+
+-- ---- finding
+
+-- the first due number among n rows from row i on
+unfoldable pub firstDue : List ℕ → ℕ → ℕ → ℕ → ℕ → Answer
+firstDue table delay clock zero i = noneDue
+firstDue table delay clock (suc n) i =
+    cond (isDue delay clock (recordAt table i .notice)) (found (numberAt table i)) (firstDue table delay clock n (suc i))
+
+-- "Finding: checks 2, 6; returns the lowest due number, or none exactly if none is due"
+unfoldable pub finding : List ℕ → ℕ → ℕ → Answer
+finding table delay clock =
+    decide ((not (tableSound table), refusal 2) ∷ (not (delayAllowed delay), refusal 6) ∷ []) (firstDue table delay clock (rowsIn table) 0)
