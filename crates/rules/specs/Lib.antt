@@ -1,6 +1,7 @@
--- `Answers`: answers in the paper's words, and the texts that they write. `Requests`, `Notices`: what each of the four calls comes to. `Run`: a list of calls, and what it is to rearrange one. `Calls`: requests, sendings and results as such calls.
+-- `Answers`: answers in the paper's words, and the texts that they write. `Requests`, `Notices`: what each of the four calls comes to. `Run`: a list of calls, and what it is to rearrange one. `Calls`: requests, sendings and results as such calls. `Visits`: a second form, by the record that a call visits.
 pub mod Answers
 pub mod Requests
 pub mod Notices
 pub mod Run
 pub mod Calls
+pub mod Visits

@@ -1,0 +1,118 @@
+-- A second form of the rules, for the theorems and the code: once a request's string reads, and for every sending and result, a call visits the record of one number, and a step of that record decides. It is proved equal to the first form. Assumes nothing.
+use Prim.Native.Nat.{ℕ}
+use mathlib.Core.Bool.{Bool, true, false, not, _&&_}
+use mathlib.Core.Option.{Option, none, some}
+use mathlib.Core.List.{List, [], _∷_}
+use lib.ListN.{length}
+use lib.Dec.{ltb}
+use Rattle.answers.specs.Checks.{decide}
+use Rattle.numbers.specs.declared.FunctionalNumber.{FunctionalNumber}
+use Rattle.numbers.specs.declared.Msisdn.{Msisdn}
+use Rattle.strings.specs.declared.Operation.{Operation}
+use Rattle.strings.specs.declared.Operation.the-variants.{Register, Erase, Interrogate}
+use Rattle.strings.specs.declared.Erasing.{Erasing}
+use Rattle.strings.specs.declared.Erasing.the-variants.{Empty, Forced}
+use Rattle.strings.specs.Text.{Request, textOf, noticeOf}
+use Rattle.strings.specs.Outcomes.{requestOf}
+use Rattle.records.specs.declared.Record.{Record}
+use Rattle.records.specs.declared.Step.{Step}
+use Rattle.records.specs.declared.Step.the-variants as step
+use Rattle.records.specs.declared.Holder.{Holder}
+use Rattle.records.specs.declared.Holder.the-variants as holds
+use Rattle.records.specs.declared.Resulted.{Resulted}
+use Rattle.records.specs.declared.Resulted.the-variants.{Refused, Delivered, Dropped, Again}
+use Rattle.records.specs.Steps as steps
+use Rattle.tables.specs.Tables.{flagsOf}
+use Rattle.rules.specs.Answers.{Answer, refusal, error, outcome, holder, sent, delivered, dropped, again, bufferRoom, twoDigits, holderText, over, octetCount}
+use Rattle.rules.specs.Requests.{hasFollowMe, isSupervisor, isForced, refusalChecks}
+use Rattle.rules.specs.Calls.{Call, request, sending, result, Reply, reading}
+
+-- what a call gets, and the record that it leaves
+pub record Visited : Type 0 where
+  pub reply : Reply
+  pub next : Record
+
+abbrev pub visited : Answer → List ℕ → Record → Visited
+visited a buffer r = record { reply = record { answer = a; buffer = buffer }; next = r }
+
+-- ---- requests
+
+-- an outcome with its text in the reply
+abbrev pub says : ℕ → List ℕ → Record → Visited
+says n reply r = visited (outcome n (octetCount (twoDigits n))) (over (twoDigits n) reply) r
+
+-- a step of the record r: the outcome that leaves it, or the outcome n with the next record
+abbrev pub stepped : ℕ → List ℕ → Record → Step → Visited
+stepped n reply r (step.Stays m) = says m reply r
+stepped n reply r (step.Becomes next) = says n reply next
+
+abbrev pub told : List ℕ → Record → Holder → Visited
+told reply r (holds.Stays m) = says m reply r
+told reply r (holds.Held msisdn) = visited (holder (msisdn .0) (octetCount (holderText (msisdn .0)))) (over (holderText (msisdn .0)) reply) r
+
+abbrev pub erases : Erasing → Msisdn → Record → Step
+erases Empty requester r = steps.erased requester r
+erases (Forced msisdn) requester r = steps.forced requester msisdn r
+
+-- what the record decides, by the operation
+abbrev pub decides : Operation → Erasing → FunctionalNumber → Msisdn → List ℕ → Record → Visited
+decides Register erasing number requester reply r = stepped 1 reply r (steps.registered number requester r)
+decides Erase erasing number requester reply r = stepped 2 reply r (erases erasing requester r)
+decides Interrogate erasing number requester reply r = told reply r (steps.interrogated r)
+
+unfoldable pub decided : Request → Msisdn → List ℕ → Record → Visited
+decided f requester reply r = decides (f .operation) (f .erasing) (f .number) requester reply r
+
+-- ---- sendings and results
+
+-- the record, sent: the addressee and the notice's octets
+abbrev pub sentStep : FunctionalNumber → List ℕ → Record → Step → Visited
+sentStep number buffer r (step.Stays m) = visited (refusal m) buffer r
+sentStep number buffer r (step.Becomes next) =
+    let text = textOf (noticeOf number (r .supervisor)) in
+    visited (sent (r .addressee .0) (octetCount text)) (over text buffer) next
+
+abbrev pub resultStep : Record → Resulted → Visited
+resultStep r (Refused m) = visited (refusal m) [] r
+resultStep r (Delivered next) = visited delivered [] next
+resultStep r (Dropped next) = visited dropped [] next
+resultStep r (Again next) = visited again [] next
+
+-- ---- a call
+
+abbrev pub visitRequest : ℕ → Msisdn → List ℕ → Option Request → Record → Visited
+visitRequest flags requester reply none r = visited (error 36) reply r
+visitRequest flags requester reply (some f) r =
+    decide ((not (hasFollowMe flags), says 42 reply r) ∷ (isForced (f .erasing) && not (isSupervisor flags), says 22 reply r) ∷ [])
+    (decided f requester reply r)
+
+-- what a call that names a number makes of that number's record
+abbrev pub visit : List ℕ → ℕ → Call → Record → Visited
+visit list delay (request requester scheme string reply) r = visitRequest (flagsOf list (requester .0)) requester reply (requestOf string) r
+visit list delay (sending now number buffer) r =
+    decide ((ltb (length buffer) bufferRoom, visited (refusal 1) buffer r) ∷ []) (sentStep number buffer r (steps.sent delay (reading now) r))
+visit list delay (result now number kind) r = resultStep r (steps.resulted kind (reading now) r)
+
+-- ---- a number that is not in the table
+
+abbrev pub saying : ℕ → List ℕ → Reply
+saying n reply = record { answer = outcome n (octetCount (twoDigits n)); buffer = over (twoDigits n) reply }
+
+abbrev pub missedRequest : ℕ → List ℕ → Option Request → Reply
+missedRequest flags reply none = record { answer = error 36; buffer = reply }
+missedRequest flags reply (some f) =
+    decide ((not (hasFollowMe flags), saying 42 reply) ∷ (isForced (f .erasing) && not (isSupervisor flags), saying 22 reply) ∷ []) (saying 41 reply)
+
+abbrev pub missed : List ℕ → Call → Reply
+missed list (request requester scheme string reply) = missedRequest (flagsOf list (requester .0)) reply (requestOf string)
+missed list (sending now number buffer) =
+    decide ((ltb (length buffer) bufferRoom, record { answer = refusal 1; buffer = buffer }) ∷ []) (record { answer = refusal 7; buffer = buffer })
+missed list (result now number kind) = record { answer = refusal 7; buffer = [] }
+
+-- ---- a request that names none: its refusal or error, and the buffer as it was
+
+abbrev pub stopped : List ℕ → Call → Reply
+stopped list (request requester scheme string reply) =
+    record { answer = decide (refusalChecks true list reply requester scheme string) (error 36); buffer = reply }
+stopped list (sending now number buffer) = record { answer = refusal 7; buffer = buffer }
+stopped list (result now number kind) = record { answer = refusal 7; buffer = [] }
