@@ -1,0 +1,3 @@
+-- `Choice`: no contract of the four calls leaves a choice. `Checks`: what a call comes to at each of its checks.
+pub mod Choice
+pub mod Checks

@@ -1,0 +1,2 @@
+-- `Said`: the paper's class, number and values for each case of an answer.
+pub mod Said
