@@ -65,16 +65,16 @@ unpacked-below os = rw unpacked-is (Below-digits 128 (omega arith) (kept os) (nu
 
 -- ---- which characters the packer takes
 
--- a turn of the test
+-- a turn of the test, and its end
 pub takes-next :
     (cs : List ℕ) (i : ℕ) (ok : Bool) → i < length cs → takes cs ≡ (ok && takes (drop i cs))
     → takes cs ≡ (ok && ltb (getD cs i 0) 128 && not (eqb (getD cs i 0) 13) && takes (drop (i + 1) cs))
 unfolding takes taken
 takes-next cs i ok h e = e ∙ rw (add-one, drop-cons cs i 0 h) (simp and-assoc)
 
-pub takes-all : (cs : List ℕ) (i : ℕ) (ok : Bool) → length cs ≤ i → takes cs ≡ (ok && takes (drop i cs)) → ok ≡ takes cs
+pub takes-end : (cs : List ℕ) (i : ℕ) (ok : Bool) → length cs ≤ i → takes cs ≡ (ok && takes (drop i cs)) → ok ≡ takes cs
 unfolding takes
-takes-all cs i ok h e = sym (e ∙ rw (drop-of-length-le cs h) (and-true ok))
+takes-end cs i ok h e = sym (e ∙ rw (drop-of-length-le cs h) (and-true ok))
 
 pub takes-below : (cs : List ℕ) → takes cs ≡ true → Below 128 cs
 unfolding takes taken

@@ -1,3 +1,6 @@
+use mathlib.Core.Path.{_≡_, sym}
+use lib.ListN.{List·getD-eq-default}
+use native.Mathlib.Omega.{arith}
 use borrow.Author.Needs.{needs}
 use Rattle.packing.proofs.last_of.Statement.{statement}
 use Rattle.packing.proofs.last_of.Tie as tie
@@ -6,7 +9,7 @@ use Rattle.packing.proofs.last_of.Lts as lts
 
 -- src/lib.rt:62:9
 returns : tie.Need-returns
-returns c = ?
+returns c = sym (List·getD-eq-default (c .before .args .octets .now) 0 (omega arith))
 
 -- src/lib.rt:64:12
 sub-result : tie.Need-sub-result

@@ -1,4 +1,7 @@
+use mathlib.Core.Path.{_≡_, sym}
+use native.Mathlib.Omega.{arith}
 use borrow.Author.Needs.{needs}
+use Rattle.packing.proofs.Laws.{readable-is}
 use Rattle.packing.proofs.reads.Statement.{statement}
 use Rattle.packing.proofs.reads.Tie as tie
 use Rattle.packing.proofs.reads.Reads as reads
@@ -27,7 +30,7 @@ shr-result c = search needs
 
 -- src/lib.rt:68:1
 returns : tie.Need-returns
-returns c = ?
+returns c = sym (readable-is (c .before .before .args .octets .now) (λ i. omega (arith, c .before .shared-slice-known .given i)) (c .last-of .result) (c .last-of .ensures))
 
 pub reads-spec : {M : Type 1} → statement M
 reads-spec =
