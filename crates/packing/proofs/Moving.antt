@@ -50,7 +50,7 @@ module _ {a b : ℕ} {ds old new : List ℕ} {i j held bits : ℕ} (m : Moved a 
   -- the lowest of the held bits are written as one digit
   pub put-out : b ≤ bits → j < length old → Moved a b ds old (set new j (held % 2 ^ b)) i (j + 1) (held / 2 ^ b) (bits - b)
   put-out h l =
-    record {
+      record {
         place = rw (add-one, mul-suc) (omega (arith, m .place));
         small = shr-lt (bits - b) b (rw split (m .small));
         rest = rw (add-one, pow-suc, ← div-div-eq-div-mul) (ap (λ (n : ℕ). n / 2 ^ b) above ∙ add-mul-div-left held (2 ^ (bits - b) * R) (pow-pos b));

@@ -45,8 +45,8 @@ loop-holds c = record { within = omega arith; some = omega arith; few = omega ar
 
 shared-slice-read-held : tie.Need-shared-slice-read-held Inv-loop μ-loop
 shared-slice-read-held c =
-   let h = c .before .before .before in
-   octet-left (h .loop .inv) (h .before .pre .0) (c .before .before .loop-test .taken) (c .before .if1 .taken)
+    let h = c .before .before .before in
+    octet-left (h .loop .inv) (h .before .pre .0) (c .before .before .loop-test .taken) (c .before .if1 .taken)
 
 cast-held : tie.Need-cast-held Inv-loop μ-loop
 cast-held c = omega (arith, c .shared-slice-known .given (c .before .before .before .loop .i))
@@ -56,27 +56,27 @@ shl-held c = omega arith
 
 add-held : tie.Need-add-held Inv-loop μ-loop
 add-held c =
-   let h = c .before .before .before in
-   omega (arith, next-octet (h .loop .inv) (omega (arith, c .shared-slice-known .given (h .loop .i))) .small, pow-mono {i = h .loop .bits + 8} {j = 15} (omega arith))
+    let h = c .before .before .before in
+    omega (arith, next-octet (h .loop .inv) (omega (arith, c .shared-slice-known .given (h .loop .i))) .small, pow-mono {i = h .loop .bits + 8} {j = 15} (omega arith))
 
 add-bits : tie.Need-add-bits Inv-loop μ-loop
 add-bits c = omega arith
 
 add-i : tie.Need-add-i Inv-loop μ-loop
 add-i c =
-   let h = c .before .before .before in
-   omega (arith, octet-left (h .loop .inv) (h .before .pre .0) (c .before .before .loop-test .taken) (c .before .if1 .taken))
+    let h = c .before .before .before in
+    omega (arith, octet-left (h .loop .inv) (h .before .pre .0) (c .before .before .loop-test .taken) (c .before .if1 .taken))
 
 -- with an octet read or not, there are bits for a character
 joined :
-   (c : tie.Joined1 Inv-loop μ-loop)
-   → State (c .before .before .before .args .n) 7 (c .before .before .before .args .octets .now) (c .before .before .before .args .out .now) (c .before .before .loop .out) (c .if1 .i) (c .before .before .loop .j) (c .if1 .held) (c .if1 .bits)
+    (c : tie.Joined1 Inv-loop μ-loop)
+    → State (c .before .before .before .args .n) 7 (c .before .before .before .args .octets .now) (c .before .before .before .args .out .now) (c .before .before .loop .out) (c .if1 .i) (c .before .before .loop .j) (c .if1 .held) (c .if1 .bits)
 joined c =
-   let h = c .before .before in
-   ⊎-elim
-   (λ w. rw (w .2, w .3, w .4) (record { within = omega arith; some = omega arith; few = omega arith; moved = next-octet (h .loop .inv) (omega (arith, w .1 .given (h .loop .i))) }))
-   (λ w. rw (w .1, w .2, w .3) (record { within = omega arith; some = omega arith; few = omega arith; moved = h .loop .inv .moved }))
-   (c .if1 .came)
+    let h = c .before .before in
+    ⊎-elim
+    (λ w. rw (w .2, w .3, w .4) (record { within = omega arith; some = omega arith; few = omega arith; moved = next-octet (h .loop .inv) (omega (arith, w .1 .given (h .loop .i))) }))
+    (λ w. rw (w .1, w .2, w .3) (record { within = omega arith; some = omega arith; few = omega arith; moved = h .loop .inv .moved }))
+    (c .if1 .came)
 
 cast-out : tie.Need-cast-out Inv-loop μ-loop
 cast-out c = search needs
@@ -95,8 +95,8 @@ loop-less c = omega arith
 
 loop-again : tie.Need-loop-again Inv-loop μ-loop
 loop-again c =
-   let s = joined (c .before .before) in
-   record { within = omega arith; some = omega arith; few = omega (arith, s .few); moved = put-out (s .moved) (s .some) (omega arith) }
+    let s = joined (c .before .before) in
+    record { within = omega arith; some = omega arith; few = omega (arith, s .few); moved = put-out (s .moved) (s .some) (omega arith) }
 
 same-length : tie.Need-same-length Inv-loop μ-loop
 same-length c = c .before .loop .inv .moved .room

@@ -79,8 +79,8 @@ shl-held c = omega arith
 
 add-held : tie.Need-add-held Inv-loop μ-loop
 add-held c =
-   let h = c .before .before in
-   omega (arith, next-character (h .loop .inv) (h .before .pre .0) (c .before .loop-test .taken) .small, pow-mono {i = h .loop .bits + 7} {j = 14} (omega arith))
+    let h = c .before .before in
+    omega (arith, next-character (h .loop .inv) (h .before .pre .0) (c .before .loop-test .taken) .small, pow-mono {i = h .loop .bits + 7} {j = 14} (omega arith))
 
 add-bits : tie.Need-add-bits Inv-loop μ-loop
 add-bits c = omega arith
@@ -93,29 +93,29 @@ cast-out c = search needs
 
 slice-write-out : tie.Need-slice-write-out Inv-loop μ-loop
 slice-write-out c =
-   let h = c .before .before .before in
-   omega (arith, octet-room (h .loop .inv) (h .before .pre .1) (omega arith), h .loop .inv .moved .room)
+    let h = c .before .before .before in
+    omega (arith, octet-room (h .loop .inv) (h .before .pre .1) (omega arith), h .loop .inv .moved .room)
 
 add-j : tie.Need-add-j Inv-loop μ-loop
-add-j c = 
-   let h = c .before .before .before in
-   omega (arith, octet-room (h .loop .inv) (h .before .pre .1) (omega arith), h .loop .inv .moved .room)
+add-j c =
+    let h = c .before .before .before in
+    omega (arith, octet-room (h .loop .inv) (h .before .pre .1) (omega arith), h .loop .inv .moved .room)
 
 loop-less : tie.Need-loop-less Inv-loop μ-loop
 loop-less c = omega arith
 
 loop-again : tie.Need-loop-again Inv-loop μ-loop
 loop-again c =
-   let h = c .before .before .before in
-   record { within = omega arith; few = omega arith; moved = put-out (next-character (h .loop .inv) (h .before .pre .0) (c .before .before .loop-test .taken)) (c .if1 .taken) (octet-room (h .loop .inv) (h .before .pre .1) (omega arith)) }
+    let h = c .before .before .before in
+    record { within = omega arith; few = omega arith; moved = put-out (next-character (h .loop .inv) (h .before .pre .0) (c .before .before .loop-test .taken)) (c .if1 .taken) (octet-room (h .loop .inv) (h .before .pre .1) (omega arith)) }
 
 loop-less-2 : tie.Need-loop-less-2 Inv-loop μ-loop
 loop-less-2 c = omega arith
 
 loop-again-2 : tie.Need-loop-again-2 Inv-loop μ-loop
 loop-again-2 c =
-   let h = c .before .before .before in
-   record { within = omega arith; few = omega arith; moved = next-character (h .loop .inv) (h .before .pre .0) (c .before .before .loop-test .taken) }
+    let h = c .before .before .before in
+    record { within = omega arith; few = omega arith; moved = next-character (h .loop .inv) (h .before .pre .0) (c .before .before .loop-test .taken) }
 
 mul-out : tie.Need-mul-out Inv-loop μ-loop
 mul-out c = search needs
@@ -128,16 +128,16 @@ cast-out-2 c = omega (arith, held-small (c .before .before .loop .inv))
 
 slice-write-out-2 : tie.Need-slice-write-out-2 Inv-loop μ-loop
 slice-write-out-2 c =
-   let h = c .before .before in
-   omega (arith, octet-room (h .loop .inv) (h .before .pre .1) (omega arith), h .loop .inv .moved .room)
+    let h = c .before .before in
+    omega (arith, octet-room (h .loop .inv) (h .before .pre .1) (omega arith), h .loop .inv .moved .room)
 
 cast-out-3 : tie.Need-cast-out-3 Inv-loop μ-loop
 cast-out-3 c = omega (arith, held-small (c .before .before .before .loop .inv))
 
 slice-write-out-3 : tie.Need-slice-write-out-3 Inv-loop μ-loop
 slice-write-out-3 c =
-   let h = c .before .before .before in
-   omega (arith, octet-room (h .loop .inv) (h .before .pre .1) (omega arith), h .loop .inv .moved .room)
+    let h = c .before .before .before in
+    omega (arith, octet-room (h .loop .inv) (h .before .pre .1) (omega arith), h .loop .inv .moved .room)
 
 same-length : tie.Need-same-length Inv-loop μ-loop
 same-length c = simp length-set (c .before .before .loop .inv .moved .room)
