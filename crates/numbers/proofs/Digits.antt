@@ -47,7 +47,7 @@ pushed-snoc w (b ∷ cs) c = pushed-snoc (10 * w + (b - 48)) cs c
 tenfold : (a n : ℕ) → a * 10 ^ suc n ≡ 10 * a * 10 ^ n
 tenfold a n = rw (pow-suc, mul-comm (10 ^ n) 10, ← mul-assoc, mul-comm a 10)
 
-pushed-least : (w : ℕ) (cs : List ℕ) → w * 10 ^ length cs ≤ pushed w cs
+pub pushed-least : (w : ℕ) (cs : List ℕ) → w * 10 ^ length cs ≤ pushed w cs
 unfolding pushed
 pushed-least w [] = omega (arith, pow-zero 10)
 pushed-least w (c ∷ cs) =

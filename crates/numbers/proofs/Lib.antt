@@ -1,4 +1,7 @@
--- `Lengths`: a number has one length. `Least`: how the table of least numbers tells a number. `Digits`: the stored form and the digits are inverse to each other.
+-- `Lengths`: a number has one length. `Least`: how the table of least numbers tells a number. `Digits`: the stored form and the digits undo each other.
+-- `Reading`: digits read. `Writing`: digits written.
 pub mod Lengths
 mod Least
 pub mod Digits
+pub mod Reading
+pub mod Writing
