@@ -143,6 +143,13 @@ module _ (w : ℕ) (h : isNumber w ≡ true) where
   pub stored-digits : stored (digitsOf w) ≡ w
   stored-digits = digits-spelt .2 .value
 
+  -- room for so many gives them all
+  pub digits-fit : digitsUpTo (length (digitsOf w)) w ≡ digitsOf w
+  digits-fit = rw stored-digits at (digits-back (digitsOf w) (length (digitsOf w)) digits-are (omega arith))
+
+  pub digits-least : 10 ^ length (digitsOf w) ≤ w
+  digits-least = rw stored-digits at (stored-length (digitsOf w) digits-are .0)
+
 pub digits-stored : (cs : List ℕ) → areDigits cs ≡ true → length cs ≤ mostDigits → digitsOf (stored cs) ≡ cs
 unfolding digitsOf
 digits-stored cs h l = digits-back cs mostDigits h l

@@ -14,7 +14,7 @@ use Rattle.answers.proofs.Tests.{no-path, and-left, and-right, and-both, and-no
 use Rattle.numbers.specs.Numbers.{fewestDigits, mostDigits, isDigit, areDigits, pushed, stored, isNumber, digitsOf, leadingDigits, numberAt}
 use Rattle.numbers.specs.declared.NumberRead.{NumberRead}
 use Rattle.numbers.specs.declared.NumberRead.the-variants.{Number, Unreadable}
-use Rattle.numbers.proofs.Digits.{digit-range, digits-head, digits-tail, stored-length, pushed-least}
+use Rattle.numbers.proofs.Digits.{digit-range, digits-head, digits-tail, stored-length, pushed-least, stored-number, digits-are, digits-fewest, digits-most, stored-digits, digits-stored}
 
 -- ---- how many digits stand at the front
 
@@ -71,3 +71,98 @@ turn cs i w all most l h e =
       digits = rw add-one (digits-tail (getD cs i 0) (drop (suc i) cs) here);
       same = rw add-one same;
     }
+
+-- ---- the digits at the front of a string
+
+-- n digits stand at the front of s, and no digit behind them
+pub record Front (n : ℕ) (s : List ℕ) : Type 0 where
+  pub within : n ≤ length s
+  pub digits : areDigits (take n s) ≡ true
+  pub ended : leadingDigits (drop n s) ≡ 0
+
+pub leading-front : (s : List ℕ) → Front (leadingDigits s) s
+unfolding areDigits leadingDigits
+leading-front [] = record { within = zero-le; digits = refl; ended = refl }
+leading-front (c ∷ cs) = go (isDigit c) refl (leading-front cs)
+  where
+    go : (b : Bool) → isDigit c ≡ b → Front (leadingDigits cs) cs → Front (leadingDigits (c ∷ cs)) (c ∷ cs)
+    go true e f =
+        rw (leading-more c cs e)
+        (record { within = suc-le-suc (f .within); digits = and-both (isDigit c) (areDigits (take (leadingDigits cs) cs)) e (f .digits); ended = f .ended })
+    go false e f = rw (leading-stop c cs e) (record { within = zero-le; digits = refl; ended = leading-stop c cs e })
+
+leading-append : (cs s : List ℕ) → areDigits cs ≡ true → leadingDigits (cs ++ s) ≡ length cs + leadingDigits s
+leading-append [] s h = omega arith
+leading-append (c ∷ cs) s h =
+    leading-more c (cs ++ s) (digits-head c cs h) ∙ omega (arith, leading-append cs s (digits-tail c cs h))
+
+-- ---- the number at the front of a string
+
+pub too-few : (s : List ℕ) (n : ℕ) → n ≡ leadingDigits s → n < fewestDigits → numberAt s ≡ Unreadable
+unfolding numberAt
+too-few s n e h = rw (← e, lt-leb fewestDigits n h)
+
+pub too-many : (s : List ℕ) (n : ℕ) → n ≡ leadingDigits s → mostDigits < n → numberAt s ≡ Unreadable
+unfolding numberAt
+too-many s n e h = rw (← e, and-no (leb fewestDigits n) (leb n mostDigits) (lt-leb n mostDigits h))
+
+pub reads : (s : List ℕ) (w n : ℕ) → n ≡ leadingDigits s → fewestDigits ≤ n → n ≤ mostDigits → w ≡ stored (take n s) → numberAt s ≡ Number w n
+unfolding numberAt
+reads s w n e l m v = rw (← e, le-leb fewestDigits n l, le-leb n mostDigits m, v)
+
+-- what stands behind a number's digits is no digit: the number is read
+pub number-read : (w : ℕ) (s : List ℕ) → isNumber w ≡ true → leadingDigits s ≡ 0 → numberAt (digitsOf w ++ s) ≡ Number w (length (digitsOf w))
+number-read w s h e =
+    let cs = digitsOf w in
+    reads (cs ++ s) w (length cs) (omega (arith, leading-append cs s (digits-are w h), e)) (digits-fewest w h) (digits-most w h)
+    (rw (take-at cs s (length cs) refl) (sym (stored-digits w h)))
+
+pub number-read-before : (w c : ℕ) (s : List ℕ) → isNumber w ≡ true → isDigit c ≡ false → numberAt (digitsOf w ++ c ∷ s) ≡ Number w (length (digitsOf w))
+number-read-before w c s h e = number-read w (c ∷ s) h (leading-stop c s e)
+
+pub number-read-last : (w : ℕ) → isNumber w ≡ true → numberAt (digitsOf w) ≡ Number w (length (digitsOf w))
+unfolding leadingDigits
+number-read-last w h = rw append-nil at (number-read w [] h refl)
+
+-- the number w of n digits was read from the front of s
+pub record ReadFrom (s : List ℕ) (w n : ℕ) : Type 0 where
+  pub number : isNumber w ≡ true
+  pub count : n ≡ length (digitsOf w)
+  pub front : s ≡ digitsOf w ++ drop n s
+  pub within : n ≤ length s
+  pub fewest : fewestDigits ≤ n
+  pub most : n ≤ mostDigits
+  pub ended : leadingDigits (drop n s) ≡ 0
+
+read-front : (s : List ℕ) (n : ℕ) → Front n s → fewestDigits ≤ n → n ≤ mostDigits → ReadFrom s (stored (take n s)) n
+read-front s n f l m =
+    let cs = take n s in
+    let size : length cs ≡ n = length-take-le n s (f .within) in
+    let back : digitsOf (stored cs) ≡ cs = digits-stored cs (f .digits) (omega arith) in
+    record {
+      number = stored-number cs (f .digits) (omega arith) (omega arith);
+      count = rw back (sym size);
+      front = rw back (sym (take-append-drop n s));
+      within = f .within;
+      fewest = l;
+      most = m;
+      ended = f .ended;
+    }
+
+-- whatever is read is a number, and its digits stand at the front with no digit behind them
+pub read-from : (s : List ℕ) (w n : ℕ) → numberAt s ≡ Number w n → ReadFrom s w n
+unfolding numberAt
+read-from s w n e = go (leb fewestDigits k && leb k mostDigits) refl e
+  where
+    k : ℕ
+    k = leadingDigits s
+
+    go :
+        (b : Bool) → (leb fewestDigits k && leb k mostDigits) ≡ b → cond b (Number (stored (take k s)) k) Unreadable ≡ Number w n → ReadFrom s w n
+    go false t r = absurd (let z : _≡_ {A = ℕ} 0 1 = cc in omega arith)
+    go true t r =
+        let value : stored (take k s) ≡ w = cc in
+        let same : k ≡ n = cc in
+        rw (← value, ← same)
+        (read-front s k (leading-front s) (leb-true fewestDigits k (and-left (leb fewestDigits k) (leb k mostDigits) t))
+        (leb-true k mostDigits (and-right (leb fewestDigits k) (leb k mostDigits) t)))

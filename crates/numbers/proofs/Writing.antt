@@ -1,17 +1,22 @@
 -- A number's digits counted and written. Assumes nothing.
 use mathlib.Core.Path.{_≡_, refl, sym, ap, _∙_}
 use mathlib.Core.Logic.{_⊎_, inl, inr}
-use mathlib.Core.Bool.{Bool, true, false}
+use mathlib.Core.Bool.{Bool, true, false, not}
 use mathlib.Core.List.{List, [], _∷_, _++_}
 use Prim.Native.Nat.{ℕ, zero, suc, _+_, _-_, _*_, _/_, _%_, _^_, _≤_, _<_}
 use native.Mathlib.Nat.{pow-suc, one-le-pow}
 use native.Mathlib.Omega.{arith}
 use lib.ListN.{length, drop, set, getD, length-append, length-set}
 use lib.Seq.{append-snoc, drop-cons, getD-set-same, drop-set-lt, lt-length-set}
-use lib.Dec.{lit<}
+use lib.Dec.{ltb, lit<}
+use borrow.Author.Tests.{lt-ltb, le-ltb}
+use Rattle.answers.specs.Writing.{made}
+use Rattle.answers.specs.declared.Written.{Written}
+use Rattle.answers.specs.declared.Written.the-variants.{Count, TooShort, Unfit}
 use Rattle.answers.proofs.Tests.{less-or-not}
-use Rattle.numbers.specs.Numbers.{mostDigits, digitsUpTo, digitsOf}
-use Rattle.numbers.proofs.Digits.{digits-none, digits-last}
+use Rattle.answers.proofs.Writing.{writing-short, writing-unfit, writing-good, wrote-count, done-good}
+use Rattle.numbers.specs.Numbers.{mostDigits, isNumber, digitsUpTo, digitsOf, writingDigits}
+use Rattle.numbers.proofs.Digits.{digits-none, digits-last, digits-fit}
 
 -- ---- counting
 
@@ -49,3 +54,31 @@ left-more left k w e h =
     let one = one-le-pow k 10 (lit< tt) in
     let p = rw (e, ten) at h in
     omega arith
+
+-- ---- what the digit writer comes to
+
+pub digits-short : (w : ℕ) (out : List ℕ) → length out < mostDigits → made TooShort out ≡ writingDigits w out
+unfolding writingDigits
+digits-short w out h = sym (writing-short (ltb (length out) mostDigits) (not (isNumber w)) (digitsOf w) out (lt-ltb (length out) mostDigits h))
+
+pub digits-unfit : (w : ℕ) (out : List ℕ) → mostDigits ≤ length out → isNumber w ≡ false → made Unfit out ≡ writingDigits w out
+unfolding writingDigits
+digits-unfit w out h u =
+    sym (writing-unfit (ltb (length out) mostDigits) (not (isNumber w)) (digitsOf w) out (le-ltb (length out) mostDigits h) (ap not u))
+
+pub digits-good :
+    (w n : ℕ) (out new : List ℕ) → mostDigits ≤ length out → isNumber w ≡ true → n ≡ length (digitsOf w) → new ≡ digitsUpTo n w ++ drop n out
+    → made (Count n) new ≡ writingDigits w out
+unfolding writingDigits
+digits-good w n out new h g e f =
+    let all : digitsUpTo n w ≡ digitsOf w = rw e (digits-fit w g) in
+    wrote-count (digitsOf w) out new n (sym e) (f ∙ rw all)
+    ∙ sym (writing-good (ltb (length out) mostDigits) (not (isNumber w)) (digitsOf w) out (le-ltb (length out) mostDigits h) (ap not g))
+
+-- what a caller knows of a number's digits written where there is room
+pub written-digits :
+    (w : ℕ) (out : List ℕ) (r : Written) (new : List ℕ) → isNumber w ≡ true → mostDigits ≤ length out → made r new ≡ writingDigits w out
+    → (r ≡ Count (length (digitsOf w))) × (new ≡ digitsOf w ++ drop (length (digitsOf w)) out)
+unfolding writingDigits
+written-digits w out r new g h done =
+    done-good (ltb (length out) mostDigits) (not (isNumber w)) (digitsOf w) out r new done (le-ltb (length out) mostDigits h) (ap not g)

@@ -1,48 +1,49 @@
+use mathlib.Core.Path.{_≡_, sym, _∙_}
+use mathlib.Core.Bool.{true}
+use native.Mathlib.Omega.{arith}
 use borrow.Author.Needs.{needs}
+use borrow.Author.Tests.{not-true, not-false}
+use Rattle.numbers.specs.Numbers.{isNumber}
+use Rattle.numbers.proofs.Digits.{digits-most, digits-least}
+use Rattle.numbers.proofs.Writing.{digits-short, digits-unfit, digits-good}
 use Rattle.numbers.proofs.write_digits.Statement.{statement}
 use Rattle.numbers.proofs.write_digits.Tie as tie
-use Rattle.numbers.proofs.write_digits.Reads as reads
-use Rattle.numbers.proofs.write_digits.Lts as lts
-use Rattle.numbers.proofs.count_digits.Reads as count-digits-reads
-use Rattle.numbers.proofs.is_number.Reads as is-number-reads
-use Rattle.numbers.proofs.write_last.Reads as write-last-reads
 
--- src/lib.rt:207:9
 returns : tie.Need-returns
-returns c = ?
+returns c = let a = c .before .before .args in digits-short (a .word) (a .out .now) (c .if1 .taken)
 
--- src/lib.rt:209:9
 is-number-requires : tie.Need-is-number-requires
 is-number-requires c κs = search needs
 
--- src/lib.rt:210:9
 returns-2 : tie.Need-returns-2
-returns-2 c = ?
+returns-2 c =
+    let n = c .before in
+    let a = n .before .before .before .args in
+    digits-unfit (a .word) (a .out .now) (n .before .if1 .left) (sym (n .is-number .ensures) ∙ not-true _ (c .if2 .taken))
 
--- src/lib.rt:212:9
+number : (c : tie.Else2) → isNumber (c .before .before .before .before .args .word) ≡ true
+number c = sym (c .before .is-number .ensures) ∙ not-false _ (c .if2 .left)
+
 count-digits-requires : tie.Need-count-digits-requires
-count-digits-requires c κs = ?
+count-digits-requires c κs = number c
 
--- src/lib.rt:213:5
 write-last-requires : tie.Need-write-last-requires
-write-last-requires c κs = ?
+write-last-requires c κs =
+    let n = c .before .before in
+    let w = n .before .before .before .before .args .word in
+    let e = c .before .count-digits .ensures in
+    (rw e (digits-least w (number n)), omega (arith, e, digits-most w (number n), n .before .before .if1 .left))
 
--- src/lib.rt:203:1
 same-length : tie.Need-same-length
 same-length c = search needs
 
--- src/lib.rt:203:1
 returns-3 : tie.Need-returns-3
-returns-3 c = ?
+returns-3 c =
+    let d = c .before .before .before .before in
+    let n = d .before in
+    let a = n .before .before .before .before .args in
+    digits-good (a .word) (d .count-digits .result) (a .out .now) _ (n .before .before .if1 .left) (number n) (d .count-digits .ensures) (c .before .before .write-last .ensures)
 
 pub write-digits-spec : {M : Type 1} → statement M
 write-digits-spec =
-    tie.close
-    (tie.spec
-    returns
-    is-number-requires
-    returns-2
-    count-digits-requires
-    write-last-requires
-    same-length
-    returns-3)
+    tie.close (tie.spec returns is-number-requires returns-2 count-digits-requires write-last-requires same-length returns-3)
