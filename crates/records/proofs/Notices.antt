@@ -6,7 +6,7 @@ use Prim.Native.Nat.{ℕ, _+_, _*_, _/_, _%_, _^_, _≤_, _<_}
 use native.Mathlib.Omega.{arith}
 use lib.Dec.{eqb, ltb, leb}
 use borrow.Author.Tests.{eq-eqb, ne-eqb, eqb-true, eqb-false, leb-true, le-leb, ltb-true, lt-ltb, not-true}
-use Rattle.answers.proofs.Tests.{no-path, and-left, and-right, and-both, and-three, or-cases, or-right, either}
+use Rattle.answers.proofs.Tests.{and-left, and-right, and-three, or-cases, less-or-not}
 use Rattle.numbers.specs.Numbers.{isNumber}
 use Rattle.records.specs.declared.Notice.{Notice}
 use Rattle.records.specs.declared.Notice.the-variants.{Absent, Waiting, InFlight}
@@ -58,6 +58,14 @@ unfolding noticeSound
 absent-words addressee supervisor second e =
     let w = and-three (eqb addressee 0) (eqb supervisor 0) (eqb second 0) e in
     (eqb-true addressee 0 (w .0), eqb-true supervisor 0 (w .1), eqb-true second 0 (w .2))
+
+-- the phase and the second fit their types
+pub notice-bounds : (phase addressee supervisor second : ℕ) → noticeSound phase addressee supervisor second ≡ true → (phase ≤ lastPhase) × (second < 2 ^ 32)
+notice-bounds phase addressee supervisor second e =
+    ⊎-elim
+    (λ h. let p = pending phase addressee supervisor second e h in (p .most, p .below))
+    (λ h. let z : phase ≡ 0 = omega arith in let w = absent-words addressee supervisor second (rw z at e) .2 in (omega arith, omega arith))
+    (less-or-not 0 phase)
 
 -- ---- a notice and its phase
 

@@ -5,7 +5,7 @@ use mathlib.Core.Bool.{Bool, true, _&&_}
 use mathlib.Core.List.{List}
 use Prim.Native.Nat.{ℕ, zero, suc, _+_, _*_, _/_, _≤_, _<_}
 use native.Mathlib.Omega.{arith}
-use lib.ListN.{length, getD}
+use lib.ListN.{length, getD, set}
 use lib.Seq.{sets, length-sets}
 use Rattle.answers.proofs.Tests.{and-three, less-or-not}
 use Rattle.numbers.specs.Numbers.{isNumber}
@@ -98,6 +98,18 @@ same-words t i u j st su e (suc k) l m = at t i ∙ sym (words-back t i st k (om
     at t i = ap (λ (n : ℕ). getD t n 0) (omega arith)
 
 -- ---- a stored record
+
+-- word by word, as straight-line code stores it
+pub five-stores : (t : List ℕ) (i : ℕ) (r : Record) (phase second : ℕ) → phase ≡ phaseOf (r .notice) → second ≡ secondOf (r .notice)
+    → set (set (set (set (set t (rowWords * i + 1) (r .holder .0)) (rowWords * i + 2) phase) (rowWords * i + 3) (r .addressee .0)) (rowWords * i + 4) (r .supervisor .0)) (rowWords * i + 5) second
+    ≡ stored t i r
+unfolding stored
+five-stores t i r phase second p s =
+    let two : rowWords * i + 2 ≡ suc (rowWords * i + 1) = omega arith in
+    let three : rowWords * i + 3 ≡ suc (suc (rowWords * i + 1)) = omega arith in
+    let four : rowWords * i + 4 ≡ suc (suc (suc (rowWords * i + 1))) = omega arith in
+    let five : rowWords * i + 5 ≡ suc (suc (suc (suc (rowWords * i + 1)))) = omega arith in
+    rw (two, three, four, five, p, s)
 
 module _ (t : List ℕ) (i : ℕ) (r : Record) where
   pub stored-length : length (stored t i r) ≡ length t

@@ -10,6 +10,7 @@ use Rattle.numbers.specs.declared.Msisdn.{Msisdn}
 use Rattle.records.specs.declared.Notice.{Notice}
 use Rattle.records.specs.declared.Notice.the-variants.{Absent, Waiting, InFlight}
 use Rattle.records.specs.declared.Record.{Record}
+use Rattle.records.specs.declared.Words.{Words}
 use Rattle.records.specs.Steps.{mostSendings}
 
 -- "six 64-bit words a number … The words: functional number; holder, a number, or 0; phase; notice's addressee; supervisor; second of the last failure"
@@ -38,6 +39,17 @@ supervisorAt t i = word t i 4
 
 abbrev pub secondAt : List ℕ → ℕ → ℕ
 secondAt t i = word t i 5
+
+-- the words of row i
+abbrev pub wordsAt : List ℕ → ℕ → Words
+wordsAt t i = record {
+  number = numberAt t i;
+  holder = holderAt t i;
+  phase = phaseAt t i;
+  addressee = addresseeAt t i;
+  supervisor = supervisorAt t i;
+  second = secondAt t i;
+}
 
 -- the largest phase: "Even 2k (2 to 10): in flight, k done"
 abbrev pub lastPhase : ℕ
