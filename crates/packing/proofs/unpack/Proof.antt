@@ -16,20 +16,20 @@ add-room c = search needs
 returns : tie.Need-returns
 returns c = sym (unpacking-short (c .before .before .before .args .octets .now) _ (rw chars-count (c .if1 .taken)))
 
-reads-requires : tie.Need-reads-requires
-reads-requires c κs = search needs
+is-readable-requires : tie.Need-is-readable-requires
+is-readable-requires c κs = search needs
 
 returns-2 : tie.Need-returns-2
-returns-2 c = sym (unpacking-unfit _ _ (rw chars-count (c .before .before .if1 .left)) (sym (c .before .reads .ensures) ∙ not-true _ (c .if2 .taken)))
+returns-2 c = sym (unpacking-unfit _ _ (rw chars-count (c .before .before .if1 .left)) (sym (c .before .is-readable .ensures) ∙ not-true _ (c .if2 .taken)))
 
-kept-of-requires : tie.Need-kept-of-requires
-kept-of-requires c κs = search needs
+kept-count-requires : tie.Need-kept-count-requires
+kept-count-requires c κs = search needs
 
 write-chars-requires : tie.Need-write-chars-requires
 write-chars-requires c κs =
     let k = c .before in
     let os = k .before .before .before .before .before .before .args .octets .now in
-    (k .kept-of .ensures, omega (arith, k .kept-of .ensures, kept-le os, chars-count (length os)))
+    (k .kept-count .ensures, omega (arith, k .kept-count .ensures, kept-le os, chars-count (length os)))
 
 same-length : tie.Need-same-length
 same-length c = search needs
@@ -40,8 +40,8 @@ returns-3 c =
     let k = w .before .before in
     let t = k .before .before in
     let a = t .before .before .before .before .args in
-    wrote-count (unpacked (a .octets .now)) (a .out .now) (w .write-chars .last .1 .0) _ (length-unpacked (a .octets .now) ∙ sym (k .kept-of .ensures)) (w .write-chars .ensures)
-    ∙ sym (unpacking-good (a .octets .now) (a .out .now) (rw chars-count (t .before .if1 .left)) (sym (t .reads .ensures) ∙ not-false _ (k .before .if2 .left)))
+    wrote-count (unpacked (a .octets .now)) (a .out .now) (w .write-chars .last .1 .0) _ (length-unpacked (a .octets .now) ∙ sym (k .kept-count .ensures)) (w .write-chars .ensures)
+    ∙ sym (unpacking-good (a .octets .now) (a .out .now) (rw chars-count (t .before .if1 .left)) (sym (t .is-readable .ensures) ∙ not-false _ (k .before .if2 .left)))
 
 pub unpack-spec : {M : Type 1} → statement M
-unpack-spec = tie.close (tie.spec add-room returns reads-requires returns-2 kept-of-requires write-chars-requires same-length returns-3)
+unpack-spec = tie.close (tie.spec add-room returns is-readable-requires returns-2 kept-count-requires write-chars-requires same-length returns-3)

@@ -7,17 +7,17 @@ use lib.Dec.{eqb}
 use borrow.Author.Needs.{needs}
 use Rattle.packing.specs.Packing.{filled}
 use Rattle.packing.proofs.Laws.{filled-is, filled-some, kept-less, kept-all}
-use Rattle.packing.proofs.kept_of.Statement.{statement}
-use Rattle.packing.proofs.kept_of.Tie as tie
+use Rattle.packing.proofs.kept_count.Statement.{statement}
+use Rattle.packing.proofs.kept_count.Tie as tie
 
 add-count : tie.Need-add-count
 add-count c = search needs
 
-last-of-requires : tie.Need-last-of-requires
-last-of-requires c κs = search needs
+last-octet-requires : tie.Need-last-octet-requires
+last-octet-requires c κs = search needs
 
-test : (c : tie.After-last-of) → filled (c .before .before .args .octets .now) ≡ (eqb (length (c .before .before .args .octets .now) % 7) 0 && eqb (c .last-of .result / 2) 13)
-test c = filled-is _ (λ i. omega (arith, c .before .shared-slice-known .given i)) (c .last-of .result) (c .last-of .ensures)
+test : (c : tie.After-last-octet) → filled (c .before .before .args .octets .now) ≡ (eqb (length (c .before .before .args .octets .now) % 7) 0 && eqb (c .last-octet .result / 2) 13)
+test c = filled-is _ (λ i. omega (arith, c .before .shared-slice-known .given i)) (c .last-octet .result) (c .last-octet .ensures)
 
 sub-result : tie.Need-sub-result
 sub-result c = omega (arith, filled-some _ (test (c .before) ∙ c .if1 .taken))
@@ -28,5 +28,5 @@ returns c = kept-less _ (test (c .before) ∙ c .if1 .taken)
 returns-2 : tie.Need-returns-2
 returns-2 c = kept-all _ (test (c .before) ∙ c .if1 .left)
 
-pub kept-of-spec : {M : Type 1} → statement M
-kept-of-spec = tie.close (tie.spec add-count last-of-requires sub-result returns returns-2)
+pub kept-count-spec : {M : Type 1} → statement M
+kept-count-spec = tie.close (tie.spec add-count last-octet-requires sub-result returns returns-2)
