@@ -7,9 +7,9 @@ use native.Mathlib.Nat.{pow-le-pow-right, le-of-suc-le-suc, not-suc-le-zero, add
 use native.Mathlib.Omega.{arith}
 use lib.ListN.{getD}
 use lib.Count.{leadingZeros, leading-le, leading-length}
-use lib.Dec.{leb, ltb, eqb, lit<}
-use borrow.Author.Tests.{leb-true, ltb-true, eqb-true, lt-ltb}
-use Rattle.answers.proofs.Tests.{same-test, or-cases}
+use lib.Dec.{leb, eqb, lit<}
+use borrow.Author.Tests.{leb-true, eqb-true}
+use Rattle.answers.proofs.Tests.{same-test, or-cases, either}
 use Rattle.numbers.specs.Numbers.{fewestDigits, mostDigits, isNumber}
 use Rattle.numbers.specs.Least.{lengths, apart, leastOf, leastFrom, leastNumbers}
 use Rattle.numbers.proofs.Lengths.{allOf, all-at, HasLength, length-of, is-number}
@@ -69,22 +69,26 @@ entry-of d w l fits =
 
 -- ---- one comparison
 
--- p is the entry at the leading zero bits of w, and x is w less p, modulo 2 ^ 64
+-- p is the entry at the leading zero bits of w, x is w less p, modulo 2 ^ 64, and the test is whether x is below p
 pub tells :
-    (w p x : ℕ) → p ≡ getD leastNumbers (leadingZeros 64 w) 0 → w < 2 ^ 64 → x < 2 ^ 64 → (x + p) % 2 ^ 64 ≡ w → ltb x p ≡ isNumber w
-tells w p x at fits x-fits less = same-test (ltb x p) (isNumber w) (λ s. number (ltb-true x p s) (entry-is (leadingZeros 64 w) lengths)) compare
+    (w p x : ℕ) (test : Bool) → p ≡ getD leastNumbers (leadingZeros 64 w) 0 → w < 2 ^ 64 → x < 2 ^ 64 → (x + p) % 2 ^ 64 ≡ w
+    → (test ≡ true → x < p) → (test ≡ false → p ≤ x) → test ≡ isNumber w
+tells w p x test at fits x-fits less holds fails = same-test test (isNumber w) (λ s. number (holds s) (entry-is z lengths)) (λ n. compare n (either test))
   where
-    entry : p ≡ leastOf (leadingZeros 64 w) lengths
+    z : ℕ
+    z = leadingZeros 64 w
+
+    entry : p ≡ leastOf z lengths
     entry = at ∙ entry-at w
 
     number :
-        x < p → (leastOf (leadingZeros 64 w) lengths ≡ 0)
-        ⊎ ((d : ℕ) × (fewestDigits ≤ d) × (d < fewestDigits + lengths) × (leastOf (leadingZeros 64 w) lengths ≡ 10 ^ d)) → isNumber w ≡ true
+        x < p → (leastOf z lengths ≡ 0) ⊎ ((d : ℕ) × (fewestDigits ≤ d) × (d < fewestDigits + lengths) × (leastOf z lengths ≡ 10 ^ d)) → isNumber w ≡ true
     number s (inl e) = absurd (omega (arith, entry))
     number s (inr r) =
         let most : r .0 ≤ mostDigits = omega (arith, r .2) in
         let small = pow-le-pow-right {n = 10} (lit< tt) most in
         is-number (r .0) w (record { fewest = r .1; most = most; least = omega (arith, entry, r .3); below = omega (arith, entry, r .3) })
 
-    compare : isNumber w ≡ true → ltb x p ≡ true
-    compare n = let l = length-of w n in lt-ltb x p (omega (arith, entry, entry-of (l .0) w (l .1) fits, l .1 .least, l .1 .below))
+    compare : isNumber w ≡ true → (test ≡ true) ⊎ (test ≡ false) → test ≡ true
+    compare n (inl t) = t
+    compare n (inr f) = let l = length-of w n in absurd (omega (arith, fails f, entry, entry-of (l .0) w (l .1) fits, l .1 .least, l .1 .below))

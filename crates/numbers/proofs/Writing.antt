@@ -40,11 +40,10 @@ count-more w m h = rw (digits-last 14 w m, digits-room 14 (w / 10) (omega arith)
 -- ---- writing from the last digit down
 
 pub write-more :
-    (left k w : ℕ) (out : List ℕ) → left ≡ suc k → k < length out → 10 ≤ w
-    → digitsUpTo left w ++ drop left out ≡ digitsUpTo k (w / 10) ++ drop k (set out k (48 + w % 10))
-write-more left k w out e l m =
-    let d = 48 + w % 10 in
-    rw (e, digits-last k w m, drop-cons (set out k d) k 0 (lt-length-set out k d l), getD-set-same out k d 0 l, drop-set-lt (suc k) out k d (omega arith))
+    (left k w d : ℕ) (out : List ℕ) → left ≡ suc k → d ≡ 48 + w % 10 → k < length out → 10 ≤ w
+    → digitsUpTo left w ++ drop left out ≡ digitsUpTo k (w / 10) ++ drop k (set out k d)
+write-more left k w d out e f l m =
+    rw (e, digits-last k w m, ← f, drop-cons (set out k d) k 0 (lt-length-set out k d l), getD-set-same out k d 0 l, drop-set-lt (suc k) out k d (omega arith))
     (append-snoc (digitsUpTo k (w / 10)) d (drop (suc k) out))
 
 -- while a digit is left, it stands behind another
