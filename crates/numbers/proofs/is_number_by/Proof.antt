@@ -22,7 +22,8 @@ returns : tie.Need-returns
 returns c =
     let a = c .before .before in
     let d = c .wrapping-sub-u64 in
-    tells (a .args .word) _ (d .result) _ (rw (a .pre)) (a .fits .word .fits) (omega (arith, d .ok)) (d .ensures) (λ e. omega (arith, ltb-true)) (λ e. omega (arith, ltb-false))
+    tells (a .args .word) _ (d .result) _ (rw (a .pre)) (a .fits .word .fits) (omega (arith, d .ok)) (d .ensures) (λ e. omega (arith, ltb-true))
+    (λ e. omega (arith, ltb-false))
 
 pub is-number-by-spec : {M : Type 1} → statement M
 is-number-by-spec = tie.close (tie.spec cast-zeros mul-start element-copy-out-start wrapping-sub-u64-requires returns)

@@ -32,7 +32,8 @@ stored-of-requires c κs = let d = c .before .before .before in (counted d .digi
 returns-3 : tie.Need-returns-3
 returns-3 c =
     let d = c .before .before .before .before in
-    sym (reads (d .before .before .args .part .now) (c .stored-of .result) (d .leading-digits .result) (d .leading-digits .ensures) (omega arith) (omega arith) (c .stored-of .ensures))
+    let n = d .leading-digits in
+    sym (reads (d .before .before .args .part .now) (c .stored-of .result) (n .result) (n .ensures) (omega arith) (omega arith) (c .stored-of .ensures))
 
 pub read-number-spec : {M : Type 1} → statement M
 read-number-spec =

@@ -1,7 +1,7 @@
 -- The invariant: the digits that are left, and what stands behind them, are what is to be written. Assumes nothing.
 use mathlib.Core.Path.{_≡_, refl, sym, _∙_}
 use mathlib.Core.List.{_++_}
-use Prim.Native.Nat.{suc, _+_, _-_, _%_, _^_, _≤_}
+use Prim.Native.Nat.{suc, _-_, _^_, _≤_}
 use native.Mathlib.Omega.{arith}
 use borrow.Author.Needs.{needs}
 use lib.ListN.{length, drop, length-set}
