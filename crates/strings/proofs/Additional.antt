@@ -1,0 +1,57 @@
+-- The additional field: its characters counted from the front, and its reader reads exactly its texts. Assumes nothing.
+use mathlib.Core.Path.{_≡_, refl, sym, ap, _∙_}
+use mathlib.Core.Bool.{Bool, true, false, _&&_}
+use mathlib.Core.Option.{some}
+use mathlib.Core.List.{List, [], _∷_, _++_}
+use Prim.Native.Nat.{ℕ, suc, _+_, _≤_}
+use native.Mathlib.Omega.{arith}
+use lib.ListN.{length, take, drop, take-append-drop, length-append, length-drop, drop-of-length-le}
+use lib.Seq.{length-take-le, drop-append-seam, take-append-seam}
+use lib.Dec.{leb, eqb}
+use borrow.Author.Tests.{eqb-true, eq-eqb, leb-true}
+use Rattle.answers.proofs.Tests.{and-left, and-right, and-both}
+use Rattle.answers.proofs.Checks.{onlyIf-some}
+use Rattle.numbers.specs.Numbers.{isDigit}
+use Rattle.strings.specs.Text.{isAdditional, areAdditional, mostAdditional, hash}
+use Rattle.strings.specs.Reader.{begins, leadingAdditional, additionalAt}
+use Rattle.strings.proofs.Exact.{begins-only}
+
+leading-text : (a : List ℕ) (c : ℕ) (s : List ℕ) → areAdditional a ≡ true → isAdditional c ≡ false → leadingAdditional (a ++ c ∷ s) ≡ length a
+unfolding leadingAdditional areAdditional
+leading-text [] c s h k = rw k
+leading-text (x ∷ a) c s h k = rw (and-left (isAdditional x) (areAdditional a) h) (ap suc (leading-text a c s (and-right (isAdditional x) (areAdditional a) h) k))
+
+leading-are : (s : List ℕ) → areAdditional (take (leadingAdditional s) s) ≡ true
+unfolding leadingAdditional areAdditional
+leading-are [] = refl
+leading-are (c ∷ s) = go (isAdditional c) refl (leading-are s)
+  where
+    go : (b : Bool) → isAdditional c ≡ b → areAdditional (take (leadingAdditional s) s) ≡ true → areAdditional (take (leadingAdditional (c ∷ s)) (c ∷ s)) ≡ true
+    go true e ih = rw e (rw e ih)
+    go false e ih = rw e
+
+pub additional-back : (a : List ℕ) → leb (length a) mostAdditional ≡ true → areAdditional a ≡ true → additionalAt (a ++ hash) ≡ some a
+unfolding additionalAt
+additional-back a most are =
+    rw (leading-text a 35 [] are (unfold isAdditional isDigit in refl), drop-append-seam a hash, most, eq-eqb (length (a ++ hash)) (length a + 1) (length-append a hash), take-append-seam a hash)
+
+-- `#`, and nothing behind it
+hash-only : (s : List ℕ) → begins hash s ≡ true → length s ≤ 1 → s ≡ hash
+hash-only s b h = begins-only hash s b ∙ ap (λ (l : List ℕ). hash ++ l) (drop-of-length-le s h)
+
+pub additional-only : (s : List ℕ) {a : List ℕ} → additionalAt s ≡ some a → (leb (length a) mostAdditional ≡ true) × (areAdditional a ≡ true) × (s ≡ a ++ hash)
+unfolding additionalAt
+additional-only s e = go (leadingAdditional s) (leading-are s) (onlyIf-some _ e)
+  where
+    go :
+        (n : ℕ) {a : List ℕ} → areAdditional (take n s) ≡ true
+        → ((leb n mostAdditional && begins hash (drop n s) && eqb (length s) (n + 1)) ≡ true) × (take n s ≡ a)
+        → (leb (length a) mostAdditional ≡ true) × (areAdditional a ≡ true) × (s ≡ a ++ hash)
+    go n are t =
+        let front = and-left (leb n mostAdditional && begins hash (drop n s)) (eqb (length s) (n + 1)) (t .0) in
+        let l = eqb-true (length s) (n + 1) (and-right (leb n mostAdditional && begins hash (drop n s)) (eqb (length s) (n + 1)) (t .0)) in
+        rw (← (t .1)) (
+          rw (length-take-le n s (omega arith)) (and-left (leb n mostAdditional) (begins hash (drop n s)) front),
+          are,
+          sym (take-append-drop n s) ∙ ap (λ (r : List ℕ). take n s ++ r) (hash-only (drop n s) (and-right (leb n mostAdditional) (begins hash (drop n s)) front) (omega (arith, length-drop n s)))
+        )
