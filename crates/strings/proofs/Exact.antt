@@ -42,10 +42,7 @@ begins-only (c ∷ p) (x ∷ s) e =
     let b = begins-only p s (and-right (eqb x c) (begins p s) e) in
     cc
 
-pub behind-text : (p s : List ℕ) → behind p (p ++ s) ≡ some s
-behind-text p s = rw (begins-text p s) (ap some (drop-append-seam p s))
-
-pub behind-only : (p s : List ℕ) {rest : List ℕ} → behind p s ≡ some rest → s ≡ p ++ rest
+behind-only : (p s : List ℕ) {rest : List ℕ} → behind p s ≡ some rest → s ≡ p ++ rest
 behind-only p s e =
     let d = onlyIf-some (begins p s) e in
     begins-only p s (d .0) ∙ ap (λ (l : List ℕ). p ++ l) (d .1)
@@ -82,9 +79,19 @@ operation-exact = record { back = back; only = only }
         is : (o : Operation) → fieldAt o (operationText o) s ≡ some f → s ≡ operationText (f .got) ++ f .rest
         is o d = let k = field-only o (operationText o) s d in k .1 ∙ ap (λ (x : Operation). operationText x ++ f .rest) (k .0)
 
+-- ---- `214` and its star
+
+pub service-back : (s : List ℕ) → serviceAt ((serviceText ++ star) ++ s) ≡ some s
+unfolding serviceAt
+service-back s = refl
+
+pub service-only : (s : List ℕ) {rest : List ℕ} → serviceAt s ≡ some rest → s ≡ (serviceText ++ star) ++ rest
+unfolding serviceAt
+service-only s e = behind-only (serviceText ++ star) s e
+
 -- ---- a number and its star
 
-abbrev starred : ℕ → List ℕ
+abbrev pub starred : ℕ → List ℕ
 starred w = digitsOf w ++ star
 
 -- both fields of an erasure, each with its star
