@@ -3,10 +3,11 @@ use mathlib.Core.Path.{_≡_, refl, sym, ap, _∙_}
 use mathlib.Core.Bool.{Bool, true, false, _&&_}
 use mathlib.Core.Option.{some}
 use mathlib.Core.List.{List, [], _∷_, _++_}
-use Prim.Native.Nat.{ℕ, suc, _+_, _≤_}
+use Prim.Native.Nat.{ℕ, suc, _+_, _≤_, _<_}
+use native.Mathlib.Numerals.{add-one}
 use native.Mathlib.Omega.{arith}
-use lib.ListN.{length, take, drop, take-append-drop, length-append, length-drop, drop-of-length-le}
-use lib.Seq.{length-take-le, drop-append-seam, take-append-seam}
+use lib.ListN.{length, getD, take, drop, take-append-drop, length-append, length-drop, drop-of-length-le}
+use lib.Seq.{drop-cons, length-take-le, drop-append-seam, take-append-seam}
 use lib.Dec.{leb, eqb}
 use borrow.Author.Tests.{eqb-true, eq-eqb, leb-true}
 use Rattle.answers.proofs.Tests.{and-left, and-right, and-both}
@@ -14,7 +15,7 @@ use Rattle.answers.proofs.Checks.{onlyIf-some}
 use Rattle.numbers.specs.Numbers.{isDigit}
 use Rattle.strings.specs.Text.{isAdditional, areAdditional, mostAdditional, hash}
 use Rattle.strings.specs.Reader.{begins, leadingAdditional, additionalAt}
-use Rattle.strings.proofs.Exact.{begins-only}
+use Rattle.strings.proofs.Begins.{begins-only}
 
 leading-text : (a : List ℕ) (c : ℕ) (s : List ℕ) → areAdditional a ≡ true → isAdditional c ≡ false → leadingAdditional (a ++ c ∷ s) ≡ length a
 unfolding leadingAdditional areAdditional
@@ -30,8 +31,25 @@ leading-are (c ∷ s) = go (isAdditional c) refl (leading-are s)
     go true e ih = rw e (rw e ih)
     go false e ih = rw e
 
+-- ---- the count, one character after the other
+
+module _ (s : List ℕ) (n : ℕ) (so-far : leadingAdditional s ≡ n + leadingAdditional (drop n s)) where
+  pub leading-end : length s ≤ n → n ≡ leadingAdditional s
+  unfolding leadingAdditional
+  leading-end h = sym (so-far ∙ rw (drop-of-length-le s h) (omega arith))
+
+  pub leading-stop : n < length s → isAdditional (getD s n 0) ≡ false → n ≡ leadingAdditional s
+  unfolding leadingAdditional
+  leading-stop h e = sym (so-far ∙ rw (drop-cons s n 0 h, e) (omega arith))
+
+  pub leading-step : n < length s → isAdditional (getD s n 0) ≡ true → leadingAdditional s ≡ n + 1 + leadingAdditional (drop (n + 1) s)
+  unfolding leadingAdditional
+  leading-step h e = so-far ∙ rw (add-one n, drop-cons s n 0 h, e) (omega arith)
+
+-- ---- the field
+
 pub additional-back : (a : List ℕ) → leb (length a) mostAdditional ≡ true → areAdditional a ≡ true → additionalAt (a ++ hash) ≡ some a
-unfolding additionalAt
+unfolding begins additionalAt
 additional-back a most are =
     rw (leading-text a 35 [] are (unfold isAdditional isDigit in refl), drop-append-seam a hash, most, eq-eqb (length (a ++ hash)) (length a + 1) (length-append a hash), take-append-seam a hash)
 

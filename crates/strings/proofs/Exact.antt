@@ -10,6 +10,7 @@ use lib.ListN.{length, take, drop}
 use lib.Seq.{drop-append-seam}
 use lib.Dec.{eqb}
 use borrow.Author.Tests.{eqb-true, eq-eqb}
+use Rattle.answers.specs.Ascii.{ascii}
 use Rattle.answers.specs.Checks.{_>>=_, onlyIf}
 use Rattle.answers.proofs.Tests.{no-path, and-left, and-right}
 use Rattle.answers.proofs.Checks.{not-some, bind-some, onlyIf-some}
@@ -20,6 +21,7 @@ use Rattle.strings.specs.declared.Operation.{Operation}
 use Rattle.strings.specs.declared.Operation.the-variants.{Register, Erase, Interrogate}
 use Rattle.strings.specs.declared.Erasing.{Erasing}
 use Rattle.strings.specs.declared.Erasing.the-variants.{Empty, Forced}
+use Rattle.strings.proofs.Begins.{begins-text, begins-only}
 use Rattle.strings.specs.Text.{operationText, serviceText, star, hash, supervisorText, msisdnText, erasingSound}
 use Rattle.strings.specs.Reader.{Field, begins, behind, fieldAt, orElse, operationAt, serviceAt, starredNumber, numberFieldAt, forcedAt, erasingAt}
 
@@ -29,18 +31,6 @@ pub record Exact {X : Type 0} (reader : List ℕ → Option (Field X)) (text : X
   pub only : (s : List ℕ) {f : Field X} → reader s ≡ some f → (sound (f .got) ≡ true) × (s ≡ text (f .got) ++ f .rest)
 
 -- ---- fixed characters
-
-begins-text : (p s : List ℕ) → begins p (p ++ s) ≡ true
-begins-text [] s = refl
-begins-text (c ∷ p) s = rw (eq-eqb c c refl) (begins-text p s)
-
-pub begins-only : (p s : List ℕ) → begins p s ≡ true → s ≡ p ++ drop (length p) s
-begins-only [] s e = refl
-begins-only (c ∷ p) [] e = no-path e
-begins-only (c ∷ p) (x ∷ s) e =
-    let a = eqb-true x c (and-left (eqb x c) (begins p s) e) in
-    let b = begins-only p s (and-right (eqb x c) (begins p s) e) in
-    cc
 
 behind-only : (p s : List ℕ) {rest : List ℕ} → behind p s ≡ some rest → s ≡ p ++ rest
 behind-only p s e =
@@ -66,7 +56,7 @@ abbrev always : Operation → Bool
 always o = true
 
 pub operation-exact : Exact operationAt operationText always
-unfolding operationAt
+unfolding begins operationAt
 operation-exact = record { back = back; only = only }
   where
     back : (o : Operation) (s : List ℕ) → always o ≡ true → operationAt (operationText o ++ s) ≡ some (record { got = o; rest = s })
@@ -82,7 +72,7 @@ operation-exact = record { back = back; only = only }
 -- ---- `214` and its star
 
 pub service-back : (s : List ℕ) → serviceAt ((serviceText ++ star) ++ s) ≡ some s
-unfolding serviceAt
+unfolding begins serviceAt
 service-back s = refl
 
 pub service-only : (s : List ℕ) {rest : List ℕ} → serviceAt s ≡ some rest → s ≡ (serviceText ++ star) ++ rest
@@ -103,7 +93,7 @@ module _
     (number-only : (s : List ℕ) (w n : ℕ) → numberAt s ≡ Number w n → (isNumber w ≡ true) × (s ≡ digitsOf w ++ drop n s))
     where
   pub number-exact : Exact numberFieldAt starred isNumber
-  unfolding numberFieldAt
+  unfolding begins numberFieldAt
   number-exact = record { back = back; only = only }
     where
       back : (w : ℕ) (s : List ℕ) → isNumber w ≡ true → numberFieldAt (starred w ++ s) ≡ some (record { got = w; rest = s })
@@ -124,7 +114,7 @@ module _
   -- ---- supervisor field and MSISDN to erase, each with its star
 
   pub erasing-exact : (o : Operation) → Exact (erasingAt o) erasingText (erasingSound o)
-  unfolding erasingAt
+  unfolding begins erasingAt
   erasing-exact o = record { back = back o; only = only }
     where
       back : (o : Operation) (e : Erasing) (s : List ℕ) → erasingSound o e ≡ true → erasingAt o (erasingText e ++ s) ≡ some (record { got = e; rest = s })
@@ -135,10 +125,10 @@ module _
       forced : (o : Operation) (s : List ℕ) {f : Field Erasing} → forcedAt o s ≡ some f → (erasingSound o (f .got) ≡ true) × (s ≡ erasingText (f .got) ++ f .rest)
       forced Register s h = not-some h
       forced Erase s h =
-          bind-some (behind (56 ∷ 56 ∷ 42 ∷ []) s) _ h λ rest p q.
+          bind-some (behind (ascii "88" ++ star) s) _ h λ rest p q.
           bind-some (numberFieldAt rest) _ q λ n r e.
           let k = number-exact .only rest r in
-          rw (← (Option·some-injective _ _ e)) (k .0, behind-only (56 ∷ 56 ∷ 42 ∷ []) s p ∙ ap (λ (l : List ℕ). 56 ∷ 56 ∷ 42 ∷ l) (k .1))
+          rw (← (Option·some-injective _ _ e)) (k .0, behind-only (ascii "88" ++ star) s p ∙ ap (λ (l : List ℕ). (ascii "88" ++ star) ++ l) (k .1))
       forced Interrogate s h = not-some h
       only : (s : List ℕ) {f : Field Erasing} → erasingAt o s ≡ some f → (erasingSound o (f .got) ≡ true) × (s ≡ erasingText (f .got) ++ f .rest)
       only s {f} h = ⊎-elim empty (forced o s) (else-some _ _ h)

@@ -1,6 +1,10 @@
 // The request string: its fields, their text, and its packed octets, read and written.
 use numbers::FunctionalNumber;
 use numbers::Msisdn;
+ghost use mathlib.Core.Path.{_≡_};
+ghost use Rattle.strings.specs.Text.{isAdditional};
+ghost use Rattle.strings.specs.Reader.{begins, leadingAdditional};
+ghost use Rattle.strings.specs.Found.{OperationIs, ServiceIs, AdditionalIs};
 
 // What is asked for: `**`, `##` or `*#`.
 pub enum Operation {
@@ -34,4 +38,103 @@ pub enum Reading {
 pub struct ReadRequest {
     pub reading: Reading,
     pub text: [u8; 72],
+}
+
+// What a field's reader answers: the field at the front of a part and how far it reaches, or that it cannot be read.
+enum OperationRead {
+    Read(Operation, usize),
+    Unreadable,
+}
+
+enum ServiceRead {
+    Read(usize),
+    Unreadable,
+}
+
+enum AdditionalRead {
+    Read(usize),
+    Unreadable,
+}
+
+// An additional field has at most so many characters.
+const MOST_ADDITIONAL: usize = 30;
+
+// Whether a part begins with these characters.
+fn begins_with(part: &[u8], characters: &[u8]) -> bool
+    ensures { λ r. ⌜ r ≡ begins (now (characters .entry)) (now (part .entry)) ⌝ }
+{
+    if part.len() < characters.len() {
+        return false;
+    }
+    let mut i = 0;
+    while i < characters.len() {
+        if part[i] != characters[i] {
+            return false;
+        }
+        i += 1;
+    }
+    true
+}
+
+// The operation.
+fn read_operation(part: &[u8]) -> OperationRead
+    ensures { λ r. ⌜ OperationIs r (now (part .entry)) ⌝ }
+{
+    if begins_with(part, b"**") {
+        return OperationRead::Read(Operation::Register, 2);
+    }
+    if begins_with(part, b"##") {
+        return OperationRead::Read(Operation::Erase, 2);
+    }
+    if begins_with(part, b"*#") {
+        return OperationRead::Read(Operation::Interrogate, 2);
+    }
+    OperationRead::Unreadable
+}
+
+// `214` and its star.
+fn read_service(part: &[u8]) -> ServiceRead
+    ensures { λ r. ⌜ ServiceIs r (now (part .entry)) ⌝ }
+{
+    if begins_with(part, b"214*") {
+        return ServiceRead::Read(4);
+    }
+    ServiceRead::Unreadable
+}
+
+fn is_additional(c: u8) -> bool
+    ensures { λ r. ⌜ r ≡ isAdditional c ⌝ }
+{
+    (b'0' <= c) & (c <= b'9') | (b'A' <= c) & (c <= b'Z') | (c == b' ')
+}
+
+// How many characters at the front of a part may stand in an additional field.
+fn leading_additional(part: &[u8]) -> usize
+    ensures { λ r. ⌜ r ≡ leadingAdditional (now (part .entry)) ⌝ }
+{
+    let mut n = 0;
+    while n < part.len() {
+        if !is_additional(part[n]) {
+            return n;
+        }
+        n += 1;
+    }
+    n
+}
+
+// The additional field, and `#` as last character.
+fn read_additional(part: &[u8]) -> AdditionalRead
+    ensures { λ r. ⌜ AdditionalIs r (now (part .entry)) ⌝ }
+{
+    let n = leading_additional(part);
+    if MOST_ADDITIONAL < n {
+        return AdditionalRead::Unreadable;
+    }
+    if !begins_with(&part[n..], b"#") {
+        return AdditionalRead::Unreadable;
+    }
+    if part.len() != n + 1 {
+        return AdditionalRead::Unreadable;
+    }
+    AdditionalRead::Read(n)
 }
