@@ -1,7 +1,7 @@
 -- The additional field: its characters counted from the front, and its reader reads exactly its texts. Assumes nothing.
 use mathlib.Core.Path.{_≡_, refl, sym, ap, _∙_}
-use mathlib.Core.Bool.{Bool, true, false, _&&_}
-use mathlib.Core.Option.{some}
+use mathlib.Core.Bool.{Bool, true, false, cond, _&&_}
+use mathlib.Core.Option.{none, some}
 use mathlib.Core.List.{List, [], _∷_, _++_}
 use Prim.Native.Nat.{ℕ, suc, _+_, _≤_, _<_}
 use native.Mathlib.Numerals.{add-one}
@@ -9,7 +9,7 @@ use native.Mathlib.Omega.{arith}
 use lib.ListN.{length, getD, take, drop, take-append-drop, length-append, length-drop, drop-of-length-le}
 use lib.Seq.{drop-cons, length-take-le, drop-append-seam, take-append-seam}
 use lib.Dec.{leb, eqb}
-use borrow.Author.Tests.{eqb-true, eq-eqb, leb-true}
+use borrow.Author.Tests.{eqb-true, eq-eqb, ne-eqb, le-leb, lt-leb}
 use Rattle.answers.proofs.Tests.{and-left, and-right, and-both}
 use Rattle.answers.proofs.Checks.{onlyIf-some}
 use Rattle.numbers.specs.Numbers.{isDigit}
@@ -46,7 +46,35 @@ module _ (s : List ℕ) (n : ℕ) (so-far : leadingAdditional s ≡ n + leadingA
   unfolding leadingAdditional
   leading-step h e = so-far ∙ rw (add-one n, drop-cons s n 0 h, e) (omega arith)
 
--- ---- the field
+pub leading-within : (s : List ℕ) → leadingAdditional s ≤ length s
+unfolding leadingAdditional
+leading-within [] = omega arith
+leading-within (c ∷ s) = go (isAdditional c) (leading-within s)
+  where
+    go : (b : Bool) → leadingAdditional s ≤ length s → cond b (suc (leadingAdditional s)) 0 ≤ length (c ∷ s)
+    go true ih = omega arith
+    go false ih = omega arith
+
+-- ---- the field, by the tests in their order
+
+module _ (s : List ℕ) (n : ℕ) (count : n ≡ leadingAdditional s) where
+  pub additional-many : mostAdditional < n → additionalAt s ≡ none
+  unfolding additionalAt
+  additional-many h = rw (← count, lt-leb n mostAdditional h)
+
+  pub additional-open : n ≤ mostAdditional → begins hash (drop n s) ≡ false → additionalAt s ≡ none
+  unfolding additionalAt
+  additional-open h e = rw (← count, le-leb n mostAdditional h, e)
+
+  pub additional-more : n ≤ mostAdditional → begins hash (drop n s) ≡ true → (length s ≡ n + 1 → ⊥) → additionalAt s ≡ none
+  unfolding additionalAt
+  additional-more h e d = rw (← count, le-leb n mostAdditional h, e, ne-eqb (length s) (n + 1) d)
+
+  pub additional-read : n ≤ mostAdditional → begins hash (drop n s) ≡ true → length s ≡ n + 1 → additionalAt s ≡ some (take n s)
+  unfolding additionalAt
+  additional-read h e l = rw (← count, le-leb n mostAdditional h, e, eq-eqb (length s) (n + 1) l)
+
+-- ---- its reader reads exactly its texts
 
 pub additional-back : (a : List ℕ) → leb (length a) mostAdditional ≡ true → areAdditional a ≡ true → additionalAt (a ++ hash) ≡ some a
 unfolding begins additionalAt

@@ -1,54 +1,51 @@
+-- `strings::read_additional` meets its contract: its tests are the definition's, in the same order. Assumes nothing.
+use mathlib.Core.Path.{_≡_, sym, _∙_}
+use native.Mathlib.Omega.{arith}
 use borrow.Author.Needs.{needs}
+use borrow.Author.Tests.{not-true, not-false}
+use Rattle.answers.proofs.Parts.{rest-of}
+use Rattle.strings.proofs.Additional.{leading-within, additional-many, additional-open, additional-more, additional-read}
 use Rattle.strings.proofs.read_additional.Statement.{statement}
 use Rattle.strings.proofs.read_additional.Tie as tie
-use Rattle.strings.proofs.read_additional.Reads as reads
-use Rattle.strings.proofs.read_additional.Lts as lts
-use Rattle.strings.proofs.begins_with.Reads as begins-with-reads
-use Rattle.strings.proofs.leading_additional.Reads as leading-additional-reads
 
--- src/lib.rt:129:9
 leading-additional-requires : tie.Need-leading-additional-requires
 leading-additional-requires c κs = search needs
 
--- src/lib.rt:131:9
 returns : tie.Need-returns
-returns c = ?
+returns c = additional-many _ _ (c .before .leading-additional .ensures) (c .if1 .taken)
 
--- src/lib.rt:133:21
 sub-begins-with : tie.Need-sub-begins-with
-sub-begins-with c = ?
+sub-begins-with c = omega (arith, c .before .leading-additional .ensures, leading-within (c .before .before .before .args .part .now))
 
--- src/lib.rt:133:21
 part-begins-with-start : tie.Need-part-begins-with-start
-part-begins-with-start c = ?
+part-begins-with-start c = omega (arith, c .before .leading-additional .ensures, leading-within (c .before .before .before .args .part .now))
 
--- src/lib.rt:133:21
 part-begins-with-end : tie.Need-part-begins-with-end
 part-begins-with-end c = search needs
 
--- src/lib.rt:133:33
 slice-aggregate-begins-with : tie.Need-slice-aggregate-begins-with
 slice-aggregate-begins-with c = search needs
 
--- src/lib.rt:133:9
 begins-with-requires : tie.Need-begins-with-requires
 begins-with-requires c κs = search needs
 
--- src/lib.rt:134:9
 returns-2 : tie.Need-returns-2
-returns-2 c = ?
+returns-2 c =
+    let l = c .before .before .before .before .before in
+    additional-open _ _ (l .leading-additional .ensures) (c .before .before .before .before .if1 .left) (sym (rw rest-of at (c .before .begins-with .ensures)) ∙ not-true _ (c .if2 .taken))
 
--- src/lib.rt:136:22
 add-if3 : tie.Need-add-if3
 add-if3 c = search needs
 
--- src/lib.rt:137:9
 returns-3 : tie.Need-returns-3
-returns-3 c = ?
+returns-3 c =
+    let l = c .before .before .before .before .before .before in
+    additional-more _ _ (l .leading-additional .ensures) (c .before .before .before .before .before .if1 .left) (sym (rw rest-of at (c .before .before .begins-with .ensures)) ∙ not-false _ (c .before .if2 .left)) (c .if3 .taken)
 
--- src/lib.rt:126:1
 returns-4 : tie.Need-returns-4
-returns-4 c = ?
+returns-4 c =
+    let l = c .before .before .before .before .before .before in
+    (c .if3 .left, additional-read _ _ (l .leading-additional .ensures) (c .before .before .before .before .before .if1 .left) (sym (rw rest-of at (c .before .before .begins-with .ensures)) ∙ not-false _ (c .before .if2 .left)) (c .if3 .left))
 
 pub read-additional-spec : {M : Type 1} → statement M
 read-additional-spec =

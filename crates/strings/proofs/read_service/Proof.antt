@@ -1,25 +1,26 @@
+-- `strings::read_service` meets its contract. Assumes nothing.
+use mathlib.Core.Path.{_≡_, sym, _∙_}
 use borrow.Author.Needs.{needs}
+use Rattle.strings.specs.Reader.{serviceAt}
+use Rattle.strings.proofs.Begins.{begins-within}
 use Rattle.strings.proofs.read_service.Statement.{statement}
 use Rattle.strings.proofs.read_service.Tie as tie
-use Rattle.strings.proofs.read_service.Reads as reads
-use Rattle.strings.proofs.read_service.Lts as lts
-use Rattle.strings.proofs.begins_with.Reads as begins-with-reads
 
--- src/lib.rt:99:26
 slice-aggregate-begins-with : tie.Need-slice-aggregate-begins-with
 slice-aggregate-begins-with c = search needs
 
--- src/lib.rt:99:8
 begins-with-requires : tie.Need-begins-with-requires
 begins-with-requires c κs = search needs
 
--- src/lib.rt:100:9
 returns : tie.Need-returns
-returns c = ?
+unfolding serviceAt
+returns c =
+    let t = sym (c .before .begins-with .ensures) ∙ c .if1 .taken in
+    (begins-within _ _ t, rw t)
 
--- src/lib.rt:96:1
 returns-2 : tie.Need-returns-2
-returns-2 c = ?
+unfolding serviceAt
+returns-2 c = rw (sym (c .before .begins-with .ensures) ∙ c .if1 .left)
 
 pub read-service-spec : {M : Type 1} → statement M
 read-service-spec =
