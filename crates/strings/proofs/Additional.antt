@@ -99,5 +99,5 @@ additional-only s e = go (leadingAdditional s) (leading-are s) (onlyIf-some _ e)
         rw (← (t .1)) (
           rw (length-take-le n s (omega arith)) (and-left (leb n mostAdditional) (begins hash (drop n s)) front),
           are,
-          sym (take-append-drop n s) ∙ ap (λ (r : List ℕ). take n s ++ r) (hash-only (drop n s) (and-right (leb n mostAdditional) (begins hash (drop n s)) front) (omega (arith, length-drop n s)))
+          sym (take-append-drop n s) ∙ ap (λ (r : List ℕ). take n s ++ r) (hash-only (drop n s) (and-right (leb n mostAdditional) (begins hash (drop n s)) front) (omega (arith, length-drop n s))),
         )

@@ -5,4 +5,5 @@ pub mod Exact
 pub mod Additional
 pub mod Text
 pub mod ReadBack
+pub mod Copying
 pub mod Examples

@@ -2,7 +2,12 @@
 use numbers::FunctionalNumber;
 use numbers::Msisdn;
 ghost use mathlib.Core.Path.{_≡_};
-ghost use Rattle.strings.specs.Text.{isAdditional};
+ghost use mathlib.Core.List.{_++_};
+ghost use Prim.Native.Nat.{_<_, _≤_};
+ghost use lib.ListN.{length};
+ghost use Rattle.answers.specs.Writing.{made, wrote};
+ghost use Rattle.answers.specs.declared.Written.the-variants.{Count};
+ghost use Rattle.strings.specs.Text.{isAdditional, operationText, serviceText, star, hash};
 ghost use Rattle.strings.specs.Reader.{begins, leadingAdditional};
 ghost use Rattle.strings.specs.Found.{OperationIs, ServiceIs, AdditionalIs};
 
@@ -137,4 +142,38 @@ fn read_additional(part: &[u8]) -> AdditionalRead
         return AdditionalRead::Unreadable;
     }
     AdditionalRead::Read(n)
+}
+
+// Writes characters over the front of a part.
+fn put(characters: &[u8], out: &mut [u8]) -> usize
+    requires { ⌜ length (now characters) ≤ length (now out) ⌝ }
+    ensures { λ r. ⌜ made (Count r) (now (out .exit)) ≡ wrote (now (characters .entry)) (now (out .entry)) ⌝ }
+{
+    let mut i = 0;
+    while i < characters.len() {
+        out[i] = characters[i];
+        i += 1;
+    }
+    i
+}
+
+// Writes the operation, `214` and the star.
+fn put_operation(operation: Operation, out: &mut [u8]) -> usize
+    requires { ⌜ 6 ≤ length (now out) ⌝ }
+    ensures { λ r. ⌜ made (Count r) (now (out .exit)) ≡ wrote (operationText operation ++ (serviceText ++ star)) (now (out .entry)) ⌝ }
+{
+    match operation {
+        Operation::Register => put(b"**214*", out),
+        Operation::Erase => put(b"##214*", out),
+        Operation::Interrogate => put(b"*#214*", out),
+    }
+}
+
+// Writes the additional field and `#`.
+fn put_additional(additional: &[u8], out: &mut [u8]) -> usize
+    requires { ⌜ length (now additional) < length (now out) ⌝ }
+    ensures { λ r. ⌜ made (Count r) (now (out .exit)) ≡ wrote (now (additional .entry) ++ hash) (now (out .entry)) ⌝ }
+{
+    let at = put(additional, out);
+    at + put(b"#", &mut out[at..])
 }
