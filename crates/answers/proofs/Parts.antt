@@ -6,15 +6,21 @@ use native.Mathlib.Omega.{arith}
 use lib.ListN.{length, take, drop, length-append, length-drop, drop-of-length-le}
 use lib.Seq.{take-all, take-at, drop-at, drop-drop}
 use borrow.Rule.Slice.PartMut.{putMid}
-use Rattle.answers.specs.Writing.{made, wrote}
+use Rattle.answers.specs.Writing.{Outcome, made, wrote}
 use Rattle.answers.specs.declared.Written.the-variants.{Count}
-use Rattle.answers.proofs.Writing.{wrote-count, count-wrote}
+use Rattle.answers.proofs.Writing.{wrote-count}
 
 pub rest-of : (n : ℕ) (s : List ℕ) → take (length s - n) (drop n s) ≡ drop n s
 rest-of n s = take-all (length s - n) (drop n s) (omega (arith, length-drop n s))
 
 pub rest-back : (n : ℕ) (s part : List ℕ) → putMid n (length s - n) s part ≡ take n s ++ part
 rest-back n s part = rw (drop-of-length-le (drop n s) {i = length s - n} (omega (arith, length-drop n s)), append-nil)
+
+-- what a count and a buffer say of what was written
+pub count-wrote : (text out new : List ℕ) (n : ℕ) → made (Count n) new ≡ wrote text out → (n ≡ length text) × (new ≡ text ++ drop n out)
+count-wrote text out new n e =
+    let c : n ≡ length text = cc (ap (λ (x : Outcome). x .answer) e) in
+    (c, ap (λ (x : Outcome). x .buffer) e ∙ rw (← c))
 
 -- a text, and in the rest behind it another: both, one behind the other
 pub wrote-behind :

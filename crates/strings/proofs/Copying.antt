@@ -8,7 +8,7 @@ use lib.ListN.{length, getD, take, drop, set, length-append}
 use lib.Seq.{length-take-le, take-suc, drop-cons, append-snoc, set-at, take-at, drop-at, take-all, drop-drop}
 use Rattle.answers.specs.Writing.{made, wrote}
 use Rattle.answers.specs.declared.Written.the-variants.{Count}
-use Rattle.answers.proofs.Writing.{wrote-count, count-wrote}
+use Rattle.answers.proofs.Writing.{wrote-count}
 
 pub copy-more :
     (s old new : List ℕ) (i : ℕ) → i < length s → i < length old → new ≡ take i s ++ drop i old

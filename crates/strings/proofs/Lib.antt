@@ -5,5 +5,6 @@ pub mod Exact
 pub mod Additional
 pub mod Text
 pub mod ReadBack
+pub mod Cursor
 pub mod Copying
 pub mod Examples

@@ -13,13 +13,13 @@ use Rattle.strings.specs.declared.AdditionalRead.{AdditionalRead}
 use Rattle.strings.specs.declared.AdditionalRead.the-variants.{Read as AdditionalField, Unreadable as NoAdditional}
 use Rattle.strings.specs.Reader.{Field, operationAt, serviceAt, additionalAt}
 
--- the reader finds x, which reaches n characters into s
-pub record Found {X : Type 0} (reader : List ℕ → Option (Field X)) (s : List ℕ) (x : X) (n : ℕ) : Type 0 where
-  pub within : n ≤ length s
-  pub found : reader s ≡ some (record { got = x; rest = drop n s })
+-- the reader finds x in s from one place up to another
+pub record Found {X : Type 0} (reader : List ℕ → Option (Field X)) (s : List ℕ) (at : ℕ) (x : X) (end : ℕ) : Type 0 where
+  pub within : end ≤ length s
+  pub found : reader (drop at s) ≡ some (record { got = x; rest = drop end s })
 
 abbrev pub OperationIs : OperationRead → List ℕ → Type 0
-OperationIs (OperationField o n) s = Found operationAt s o n
+OperationIs (OperationField o n) s = Found operationAt s 0 o n
 OperationIs NoOperation s = operationAt s ≡ none
 
 abbrev pub ServiceIs : ServiceRead → List ℕ → Type 0

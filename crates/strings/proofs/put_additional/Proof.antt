@@ -5,8 +5,7 @@ use lib.ListN.{length, length-append, length-take, length-drop}
 use native.Mathlib.Omega.{arith}
 use borrow.Author.Needs.{needs}
 use Rattle.strings.specs.Text.{hash}
-use Rattle.answers.proofs.Writing.{count-wrote}
-use Rattle.answers.proofs.Parts.{wrote-behind}
+use Rattle.answers.proofs.Parts.{count-wrote, wrote-behind}
 use Rattle.strings.proofs.put_additional.Statement.{statement}
 use Rattle.strings.proofs.put_additional.Tie as tie
 use Rattle.strings.proofs.put_additional.Reads as reads
