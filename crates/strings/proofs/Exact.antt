@@ -21,6 +21,7 @@ use Rattle.strings.specs.declared.Operation.{Operation}
 use Rattle.strings.specs.declared.Operation.the-variants.{Register, Erase, Interrogate}
 use Rattle.strings.specs.declared.Erasing.{Erasing}
 use Rattle.strings.specs.declared.Erasing.the-variants.{Empty, Forced}
+use Rattle.numbers.proofs.Reading.{number-read-before, read-from}
 use Rattle.strings.proofs.Begins.{begins-text, begins-only}
 use Rattle.strings.specs.Text.{operationText, serviceText, star, hash, supervisorText, msisdnText, erasingSound}
 use Rattle.strings.specs.Reader.{Field, begins, behind, fieldAt, orElse, operationAt, serviceAt, starredNumber, numberFieldAt, forcedAt, erasingAt}
@@ -89,52 +90,48 @@ starred w = digitsOf w ++ star
 abbrev pub erasingText : Erasing → List ℕ
 erasingText e = supervisorText e ++ (star ++ (msisdnText e ++ star))
 
-module _
-    (number-back : (w c : ℕ) (s : List ℕ) → isNumber w ≡ true → isDigit c ≡ false → numberAt (digitsOf w ++ c ∷ s) ≡ Number w (length (digitsOf w)))
-    (number-only : (s : List ℕ) (w n : ℕ) → numberAt s ≡ Number w n → (isNumber w ≡ true) × (s ≡ digitsOf w ++ drop n s))
+pub number-exact : Exact numberFieldAt starred isNumber
+unfolding begins numberFieldAt
+number-exact = record { back = back; only = only }
   where
-    pub number-exact : Exact numberFieldAt starred isNumber
-    unfolding begins numberFieldAt
-    number-exact = record { back = back; only = only }
+    back : (w : ℕ) (s : List ℕ) → isNumber w ≡ true → numberFieldAt (starred w ++ s) ≡ some (record { got = w; rest = s })
+    back w s e = rw (append-assoc (digitsOf w) star s, number-read-before w 42 s e (unfold isDigit in refl), drop-append-seam (digitsOf w) (42 ∷ s))
+
+    only : (s : List ℕ) {f : Field ℕ} → numberFieldAt s ≡ some f → (isNumber (f .got) ≡ true) × (s ≡ starred (f .got) ++ f .rest)
+    only s {f} e = go (numberAt s) refl e
       where
-        back : (w : ℕ) (s : List ℕ) → isNumber w ≡ true → numberFieldAt (starred w ++ s) ≡ some (record { got = w; rest = s })
-        back w s e = rw (append-assoc (digitsOf w) star s, number-back w 42 s e (unfold isDigit in refl), drop-append-seam (digitsOf w) (42 ∷ s))
+        go : (r : NumberRead) → numberAt s ≡ r → starredNumber s r ≡ some f → (isNumber (f .got) ≡ true) × (s ≡ starred (f .got) ++ f .rest)
+        go (Number w n) r d =
+            let k = field-only w star (drop n s) d in
+            let m = read-from s w n r in (
+              ap isNumber (sym (k .0)) ∙ m .number,
+              rw (append-assoc (digitsOf (f .got)) star (f .rest), ← (k .0), ← (k .1)) (m .front),
+            )
+        go Unreadable r d = not-some d
 
-        only : (s : List ℕ) {f : Field ℕ} → numberFieldAt s ≡ some f → (isNumber (f .got) ≡ true) × (s ≡ starred (f .got) ++ f .rest)
-        only s {f} e = go (numberAt s) refl e
-          where
-            go : (r : NumberRead) → numberAt s ≡ r → starredNumber s r ≡ some f → (isNumber (f .got) ≡ true) × (s ≡ starred (f .got) ++ f .rest)
-            go (Number w n) r d =
-                let k = field-only w star (drop n s) d in
-                let m = number-only s w n r in (
-                  ap isNumber (sym (k .0)) ∙ m .0,
-                  rw (append-assoc (digitsOf (f .got)) star (f .rest), ← (k .0), ← (k .1)) (m .1),
-                )
-            go Unreadable r d = not-some d
+-- ---- supervisor field and MSISDN to erase, each with its star
 
-    -- ---- supervisor field and MSISDN to erase, each with its star
+pub erasing-exact : (o : Operation) → Exact (erasingAt o) erasingText (erasingSound o)
+unfolding begins erasingAt
+erasing-exact o = record { back = back o; only = only }
+  where
+    back : (o : Operation) (e : Erasing) (s : List ℕ) → erasingSound o e ≡ true → erasingAt o (erasingText e ++ s) ≡ some (record { got = e; rest = s })
+    back o Empty s h = refl
+    back Register (Forced m) s h = no-path h
+    back Erase (Forced m) s h = rw (number-exact .back (m .0) s h)
+    back Interrogate (Forced m) s h = no-path h
 
-    pub erasing-exact : (o : Operation) → Exact (erasingAt o) erasingText (erasingSound o)
-    unfolding begins erasingAt
-    erasing-exact o = record { back = back o; only = only }
+    forced : (o : Operation) (s : List ℕ) {f : Field Erasing} → forcedAt o s ≡ some f → (erasingSound o (f .got) ≡ true) × (s ≡ erasingText (f .got) ++ f .rest)
+    forced Register s h = not-some h
+    forced Erase s h =
+        bind-some (behind (ascii "88" ++ star) s) _ h λ rest p q.
+        bind-some (numberFieldAt rest) _ q λ n r e.
+        let k = number-exact .only rest r in
+        rw (← (Option·some-injective _ _ e)) (k .0, behind-only (ascii "88" ++ star) s p ∙ ap (λ (l : List ℕ). (ascii "88" ++ star) ++ l) (k .1))
+    forced Interrogate s h = not-some h
+
+    only : (s : List ℕ) {f : Field Erasing} → erasingAt o s ≡ some f → (erasingSound o (f .got) ≡ true) × (s ≡ erasingText (f .got) ++ f .rest)
+    only s {f} h = ⊎-elim empty (forced o s) (else-some _ _ h)
       where
-        back : (o : Operation) (e : Erasing) (s : List ℕ) → erasingSound o e ≡ true → erasingAt o (erasingText e ++ s) ≡ some (record { got = e; rest = s })
-        back o Empty s h = refl
-        back Register (Forced m) s h = no-path h
-        back Erase (Forced m) s h = rw (number-exact .back (m .0) s h)
-        back Interrogate (Forced m) s h = no-path h
-
-        forced : (o : Operation) (s : List ℕ) {f : Field Erasing} → forcedAt o s ≡ some f → (erasingSound o (f .got) ≡ true) × (s ≡ erasingText (f .got) ++ f .rest)
-        forced Register s h = not-some h
-        forced Erase s h =
-            bind-some (behind (ascii "88" ++ star) s) _ h λ rest p q.
-            bind-some (numberFieldAt rest) _ q λ n r e.
-            let k = number-exact .only rest r in
-            rw (← (Option·some-injective _ _ e)) (k .0, behind-only (ascii "88" ++ star) s p ∙ ap (λ (l : List ℕ). (ascii "88" ++ star) ++ l) (k .1))
-        forced Interrogate s h = not-some h
-
-        only : (s : List ℕ) {f : Field Erasing} → erasingAt o s ≡ some f → (erasingSound o (f .got) ≡ true) × (s ≡ erasingText (f .got) ++ f .rest)
-        only s {f} h = ⊎-elim empty (forced o s) (else-some _ _ h)
-          where
-            empty : fieldAt Empty (star ++ star) s ≡ some f → (erasingSound o (f .got) ≡ true) × (s ≡ erasingText (f .got) ++ f .rest)
-            empty d = let k = field-only Empty (star ++ star) s d in rw (← (k .0)) (refl, k .1)
+        empty : fieldAt Empty (star ++ star) s ≡ some f → (erasingSound o (f .got) ≡ true) × (s ≡ erasingText (f .got) ++ f .rest)
+        empty d = let k = field-only Empty (star ++ star) s d in rw (← (k .0)) (refl, k .1)

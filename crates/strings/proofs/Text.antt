@@ -10,6 +10,7 @@ use lib.Dec.{leb, eqb}
 use borrow.Author.Tests.{leb-true, eqb-true, lt-ltb, ne-eqb}
 use Rattle.answers.proofs.Tests.{no-path, and-left, and-right, or-cases}
 use Rattle.numbers.specs.Numbers.{isDigit, areDigits, isNumber, digitsOf}
+use Rattle.numbers.proofs.Digits.{digits-are, digits-most}
 use Rattle.numbers.specs.declared.Msisdn.{Msisdn}
 use Rattle.packing.specs.Packing.{taken, takes, octetsFor}
 use Rattle.strings.specs.declared.Operation.{Operation}
@@ -92,44 +93,40 @@ forced-number Register m h = no-path h
 forced-number Erase m h = h
 forced-number Interrogate m h = no-path h
 
-module _
-    (digits-are : (w : ℕ) → isNumber w ≡ true → areDigits (digitsOf w) ≡ true)
-    (digits-most : (w : ℕ) → isNumber w ≡ true → length (digitsOf w) ≤ 15)
+starred-taken : (w : ℕ) → isNumber w ≡ true → takes (starred w) ≡ true
+starred-taken w h = takes-append (digitsOf w) star (additional-taken (digitsOf w) (digits-additional (digitsOf w) (digits-are w h))) (unfold takes taken in refl)
+
+text-taken : (f : Request) → requestSound f ≡ true → takes (textOf f) ≡ true
+unfolding takes taken
+text-taken f h =
+    let r = sound-rules f h in
+    rw (text-fields f) (takes-append (operationText (f .operation)) _ (operation (f .operation)) (takes-append (starred (f .number .0)) _ (starred-taken (f .number .0) (r .number)) (takes-append (erasingText (f .erasing)) _ (erasing (f .erasing) (r .erasing)) (takes-append (f .additional) hash (additional-taken (f .additional) (r .additional)) refl))))
   where
-    starred-taken : (w : ℕ) → isNumber w ≡ true → takes (starred w) ≡ true
-    starred-taken w h = takes-append (digitsOf w) star (additional-taken (digitsOf w) (digits-additional (digitsOf w) (digits-are w h))) (unfold takes taken in refl)
+    operation : (o : Operation) → takes (operationText o) ≡ true
+    operation Register = refl
+    operation Erase = refl
+    operation Interrogate = refl
 
-    text-taken : (f : Request) → requestSound f ≡ true → takes (textOf f) ≡ true
-    unfolding takes taken
-    text-taken f h =
-        let r = sound-rules f h in
-        rw (text-fields f) (takes-append (operationText (f .operation)) _ (operation (f .operation)) (takes-append (starred (f .number .0)) _ (starred-taken (f .number .0) (r .number)) (takes-append (erasingText (f .erasing)) _ (erasing (f .erasing) (r .erasing)) (takes-append (f .additional) hash (additional-taken (f .additional) (r .additional)) refl))))
-      where
-        operation : (o : Operation) → takes (operationText o) ≡ true
-        operation Register = refl
-        operation Erase = refl
-        operation Interrogate = refl
+    erasing : (e : Erasing) → erasingSound (f .operation) e ≡ true → takes (erasingText e) ≡ true
+    erasing Empty k = refl
+    erasing (Forced m) k = starred-taken (m .0) (forced-number (f .operation) m k)
 
-        erasing : (e : Erasing) → erasingSound (f .operation) e ≡ true → takes (erasingText e) ≡ true
-        erasing Empty k = refl
-        erasing (Forced m) k = starred-taken (m .0) (forced-number (f .operation) m k)
+-- ---- its length
 
-    -- ---- its length
+pub text-short : (f : Request) → requestSound f ≡ true → length (textOf f) ≤ mostCharacters
+text-short f h =
+    let r = sound-rules f h in
+    rw (text-fields f) (simp length-append (omega (arith, operation (f .operation), digits-most (f .number .0) (r .number), erasing (f .erasing) (r .erasing), leb-true (length (f .additional)) mostAdditional (r .few))))
+  where
+    operation : (o : Operation) → length (operationText o) ≡ 2
+    operation Register = refl
+    operation Erase = refl
+    operation Interrogate = refl
 
-    pub text-short : (f : Request) → requestSound f ≡ true → length (textOf f) ≤ mostCharacters
-    text-short f h =
-        let r = sound-rules f h in
-        rw (text-fields f) (simp length-append (omega (arith, operation (f .operation), digits-most (f .number .0) (r .number), erasing (f .erasing) (r .erasing), leb-true (length (f .additional)) mostAdditional (r .few))))
-      where
-        operation : (o : Operation) → length (operationText o) ≡ 2
-        operation Register = refl
-        operation Erase = refl
-        operation Interrogate = refl
+    erasing : (e : Erasing) → erasingSound (f .operation) e ≡ true → length (supervisorText e) + length (msisdnText e) ≤ 17
+    erasing Empty k = omega arith
+    erasing (Forced m) k = omega (arith, digits-most (m .0) (forced-number (f .operation) m k))
 
-        erasing : (e : Erasing) → erasingSound (f .operation) e ≡ true → length (supervisorText e) + length (msisdnText e) ≤ 17
-        erasing Empty k = omega arith
-        erasing (Forced m) k = omega (arith, digits-most (m .0) (forced-number (f .operation) m k))
-
-    pub octets-short : (f : Request) → requestSound f ≡ true → octetsFor (length (textOf f)) ≤ mostOctets
-    unfolding octetsFor
-    octets-short f h = omega (arith, text-short f h)
+pub octets-short : (f : Request) → requestSound f ≡ true → octetsFor (length (textOf f)) ≤ mostOctets
+unfolding octetsFor
+octets-short f h = omega (arith, text-short f h)
