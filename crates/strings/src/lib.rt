@@ -1,6 +1,8 @@
 // The request string: its fields, their text, and its packed octets, read and written.
+use answers::Written;
 use numbers::FunctionalNumber;
 use numbers::Msisdn;
+use numbers::NumberRead;
 ghost use mathlib.Core.Path.{_≡_};
 ghost use mathlib.Core.List.{_++_};
 ghost use Prim.Native.Nat.{_<_, _≤_};
@@ -8,8 +10,8 @@ ghost use lib.ListN.{length};
 ghost use Rattle.answers.specs.Writing.{made, wrote};
 ghost use Rattle.answers.specs.declared.Written.the-variants.{Count};
 ghost use Rattle.strings.specs.Text.{isAdditional, operationText, serviceText, star, hash};
-ghost use Rattle.strings.specs.Reader.{begins, leadingAdditional};
-ghost use Rattle.strings.specs.Found.{OperationIs, ServiceIs, AdditionalIs};
+ghost use Rattle.strings.specs.Reader.{begins, forcedAt, erasingAt, leadingAdditional};
+ghost use Rattle.strings.specs.Found.{OperationIs, ServiceIs, NumberFieldIs, ErasingIs, AdditionalIs};
 
 // What is asked for: `**`, `##` or `*#`.
 pub enum Operation {
@@ -53,6 +55,16 @@ enum OperationRead {
 
 enum ServiceRead {
     Read(usize),
+    Unreadable,
+}
+
+enum NumberFieldRead {
+    Read(u64, usize),
+    Unreadable,
+}
+
+enum ErasingRead {
+    Read(Erasing, usize),
     Unreadable,
 }
 
@@ -105,6 +117,46 @@ fn read_service(part: &[u8]) -> ServiceRead
         return ServiceRead::Read(4);
     }
     ServiceRead::Unreadable
+}
+
+// A number and its star.
+fn read_number_field(part: &[u8]) -> NumberFieldRead
+    ensures { λ r. ⌜ NumberFieldIs r (now (part .entry)) ⌝ }
+{
+    let NumberRead::Number(word, n) = numbers::read_number(part) else {
+        return NumberFieldRead::Unreadable;
+    };
+    if !begins_with(&part[n..], b"*") {
+        return NumberFieldRead::Unreadable;
+    }
+    NumberFieldRead::Read(word, n + 1)
+}
+
+// `88`, the MSISDN to erase and their stars.
+fn read_forced(part: &[u8]) -> ErasingRead
+    ensures { λ r. ⌜ ErasingIs (forcedAt Operation.Erase) r (now (part .entry)) ⌝ }
+{
+    if !begins_with(part, b"88*") {
+        return ErasingRead::Unreadable;
+    }
+    let NumberFieldRead::Read(word, n) = read_number_field(&part[3..]) else {
+        return ErasingRead::Unreadable;
+    };
+    ErasingRead::Read(Erasing::Forced(Msisdn(word)), 3 + n)
+}
+
+// Supervisor field and MSISDN to erase, each with its star: both empty, or, with `##` only, of a forced erasure.
+fn read_erasing(operation: Operation, part: &[u8]) -> ErasingRead
+    ensures { λ r. ⌜ ErasingIs (erasingAt operation) r (now (part .entry)) ⌝ }
+{
+    if begins_with(part, b"**") {
+        return ErasingRead::Read(Erasing::Empty, 2);
+    }
+    match operation {
+        Operation::Register => ErasingRead::Unreadable,
+        Operation::Erase => read_forced(part),
+        Operation::Interrogate => ErasingRead::Unreadable,
+    }
 }
 
 fn is_additional(c: u8) -> bool
