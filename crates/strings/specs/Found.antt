@@ -23,12 +23,17 @@ pub record Found {X : Type 0} (reader : List ℕ → Option (Field X)) (s : List
   pub within : end ≤ length s
   pub found : reader (drop at s) ≡ some (record { got = x; rest = drop end s })
 
+-- `214` and its star stand in s from one place up to another
+pub record Served (s : List ℕ) (at end : ℕ) : Type 0 where
+  pub within : end ≤ length s
+  pub found : serviceAt (drop at s) ≡ some (drop end s)
+
 abbrev pub OperationIs : OperationRead → List ℕ → Type 0
 OperationIs (OperationField o n) s = Found operationAt s 0 o n
 OperationIs NoOperation s = operationAt s ≡ none
 
 abbrev pub ServiceIs : ServiceRead → List ℕ → Type 0
-ServiceIs (ServiceField n) s = (n ≤ length s) × (serviceAt s ≡ some (drop n s))
+ServiceIs (ServiceField n) s = Served s 0 n
 ServiceIs NoService s = serviceAt s ≡ none
 
 abbrev pub NumberFieldIs : NumberFieldRead → List ℕ → Type 0

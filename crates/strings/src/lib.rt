@@ -10,7 +10,8 @@ ghost use lib.ListN.{length};
 ghost use Rattle.answers.specs.Writing.{made, wrote};
 ghost use Rattle.answers.specs.declared.Written.the-variants.{Count};
 ghost use Rattle.strings.specs.Text.{isAdditional, operationText, serviceText, star, hash};
-ghost use Rattle.strings.specs.Reader.{begins, forcedAt, erasingAt, leadingAdditional};
+ghost use Rattle.strings.specs.Reader.{begins, forcedAt, erasingAt, leadingAdditional, fieldsOf};
+ghost use Rattle.strings.specs.Outcomes.{told, tell};
 ghost use Rattle.strings.specs.Found.{OperationIs, ServiceIs, NumberFieldIs, ErasingIs, AdditionalIs};
 
 // What is asked for: `**`, `##` or `*#`.
@@ -194,6 +195,32 @@ fn read_additional(part: &[u8]) -> AdditionalRead
         return AdditionalRead::Unreadable;
     }
     AdditionalRead::Read(n)
+}
+
+// The fields of a text, each read from the rest of it; the first that cannot be read ends the reading.
+fn read_fields(text: &[u8]) -> Reading
+    ensures { λ r. ⌜ told r (now (text .entry)) ≡ tell (now (text .entry)) (fieldsOf (now (text .entry))) ⌝ }
+{
+    let OperationRead::Read(operation, cursor) = read_operation(text) else {
+        return Reading::Unreadable;
+    };
+    let ServiceRead::Read(n) = read_service(&text[cursor..]) else {
+        return Reading::Unreadable;
+    };
+    let cursor = cursor + n;
+    let NumberFieldRead::Read(word, n) = read_number_field(&text[cursor..]) else {
+        return Reading::Unreadable;
+    };
+    let cursor = cursor + n;
+    let ErasingRead::Read(erasing, n) = read_erasing(operation, &text[cursor..]) else {
+        return Reading::Unreadable;
+    };
+    let start = cursor + n;
+    let AdditionalRead::Read(count) = read_additional(&text[start..]) else {
+        return Reading::Unreadable;
+    };
+    let number = FunctionalNumber(word);
+    Reading::Read(Fields { operation, number, erasing, start, count })
 }
 
 // Writes characters over the front of a part.
