@@ -11,8 +11,11 @@ ghost use Rattle.answers.specs.Writing.{made, wrote};
 ghost use Rattle.answers.specs.declared.Written.the-variants.{Count};
 ghost use Rattle.strings.specs.Text.{isAdditional, operationText, serviceText, star, hash};
 ghost use Rattle.strings.specs.Reader.{begins, forcedAt, erasingAt, leadingAdditional, fieldsOf};
-ghost use Rattle.strings.specs.Outcomes.{told, tell};
+ghost use Rattle.strings.specs.Outcomes.{told, tell, madeRead, reading};
 ghost use Rattle.strings.specs.Found.{OperationIs, ServiceIs, NumberFieldIs, ErasingIs, AdditionalIs};
+
+// The text of sound fields has at most so many characters.
+const MOST_CHARACTERS: usize = 72;
 
 // What is asked for: `**`, `##` or `*#`.
 pub enum Operation {
@@ -45,7 +48,7 @@ pub enum Reading {
 // What was read, beside the unpacked text in which the additional field stands.
 pub struct ReadRequest {
     pub reading: Reading,
-    pub text: [u8; 72],
+    pub text: [u8; MOST_CHARACTERS],
 }
 
 // What a field's reader answers: the field at the front of a part and how far it reaches, or that it cannot be read.
@@ -221,6 +224,27 @@ fn read_fields(text: &[u8]) -> Reading
     };
     let number = FunctionalNumber(word);
     Reading::Read(Fields { operation, number, erasing, start, count })
+}
+
+// Reads a packed request string; one with too many characters for any fields, or with unreadable bits, is unreadable.
+pub fn read_request(octets: &[u8]) -> ReadRequest
+    ensures { λ r. ⌜ madeRead r ≡ reading (now (octets .entry)) ⌝ }
+{
+    let mut text = [0u8; MOST_CHARACTERS];
+    match packing::unpack(octets, &mut text) {
+        Written::Count(n) => {
+            let reading = read_fields(&text[..n]);
+            ReadRequest { reading, text }
+        }
+        Written::TooShort => ReadRequest {
+            reading: Reading::Unreadable,
+            text,
+        },
+        Written::Unfit => ReadRequest {
+            reading: Reading::Unreadable,
+            text,
+        },
+    }
 }
 
 // Writes characters over the front of a part.
