@@ -223,7 +223,13 @@ fn read_fields(text: &[u8]) -> Reading
         return Reading::Unreadable;
     };
     let number = FunctionalNumber(word);
-    Reading::Read(Fields { operation, number, erasing, start, count })
+    Reading::Read(Fields {
+        operation,
+        number,
+        erasing,
+        start,
+        count,
+    })
 }
 
 // Reads a packed request string; one with too many characters for any fields, or with unreadable bits, is unreadable.
