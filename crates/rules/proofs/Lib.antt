@@ -1,2 +1,4 @@
 -- The theorems about the rules.
+pub mod Assumed
+pub mod Visits
 pub mod Examples
