@@ -7,19 +7,23 @@ use Prim.Native.Nat.{ℕ, _<_}
 use Rattle.numbers.specs.Numbers.{isNumber}
 use Rattle.strings.specs.Text.{Request, requestSound, erasingSound}
 use Rattle.strings.specs.Outcomes.{requestOf}
-use Rattle.records.specs.Rows.{rowSound, recordAt, stored, numberAt}
+use Rattle.records.specs.declared.Record.{Record}
+use Rattle.records.specs.Rows.{rowSound, recordAt, stored, numberAt, recordSound}
 use Rattle.tables.specs.declared.Found.{Found}
 use Rattle.tables.specs.declared.Found.the-variants.{At, Nothing}
 use Rattle.tables.specs.Tables.{tableSound, rowOf, recordOf, rowsIn}
 
-pub stored-back : (t : List ℕ) (i : ℕ) → rowSound t i ≡ true → stored t i (recordAt t i) ≡ t
-stored-back t i h = ?
+pub found-within : (t : List ℕ) (k i : ℕ) → rowOf t k ≡ At i → (i < rowsIn t) × (numberAt t i ≡ k)
+found-within t k i e = ?
 
-pub found-sound : (t : List ℕ) (k i : ℕ) → tableSound t ≡ true → rowOf t k ≡ At i → rowSound t i ≡ true
-found-sound t k i s e = ?
+pub row-sound : (t : List ℕ) (i : ℕ) → tableSound t ≡ true → i < rowsIn t → rowSound t i ≡ true
+row-sound t i s l = ?
 
-pub found-number : (t : List ℕ) (k i : ℕ) → tableSound t ≡ true → rowOf t k ≡ At i → isNumber k ≡ true
-found-number t k i s e = ?
+pub stored-sound : (t : List ℕ) (i : ℕ) (r : Record) → tableSound t ≡ true → i < rowsIn t → recordSound r ≡ true → tableSound (stored t i r) ≡ true
+stored-sound t i r s l q = ?
+
+pub stored-row : (t : List ℕ) (i : ℕ) (r : Record) (k : ℕ) → rowOf (stored t i r) k ≡ rowOf t k
+stored-row t i r k = ?
 
 pub read-sound : (s : List ℕ) (f : Request) → requestOf s ≡ some f → erasingSound (f .operation) (f .erasing) ≡ true
 read-sound s f e = ?

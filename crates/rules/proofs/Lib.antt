@@ -1,4 +1,5 @@
 -- The theorems about the rules.
 pub mod Assumed
 pub mod Visits
+pub mod Sound
 pub mod Examples

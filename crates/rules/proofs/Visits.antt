@@ -28,7 +28,8 @@ use Rattle.records.specs.declared.Holder.{Holder}
 use Rattle.records.specs.declared.Holder.the-variants as holds
 use Rattle.records.specs.declared.Resulted.the-variants.{Refused, Delivered, Dropped, Again}
 use Rattle.records.specs.Steps as steps
-use Rattle.records.specs.Rows.{rowSound, recordAt, stored}
+use Rattle.records.specs.Rows.{rowSound, numberAt, recordAt, stored}
+use Rattle.records.proofs.Rows.{sound-row, words-stored}
 use Rattle.tables.specs.declared.Found.{Found}
 use Rattle.tables.specs.declared.Found.the-variants.{At, Nothing}
 use Rattle.tables.specs.Tables.{tableSound, rowOf, recordFound, recordOf, flagsOf}
@@ -37,7 +38,7 @@ use Rattle.rules.specs.Requests as requests
 use Rattle.rules.specs.Notices as notices
 use Rattle.rules.specs.Calls.{Call, request, sending, result, Reply, replied, reading, call, anyHolds, numberRead, nameOf}
 use Rattle.rules.specs.Visits.{Visited, visited, storing, leaving, says, stepped, told, erases, decides, decided, sentStep, resultStep, visitSending, visitResult, visitRequest, visit, saying, missedSending, missedResult, missedRequest, missed, stopped}
-use Rattle.rules.proofs.Assumed.{stored-back, found-sound, found-number, read-sound}
+use Rattle.rules.proofs.Assumed.{found-within, row-sound, read-sound}
 
 -- ---- checks
 
@@ -70,6 +71,19 @@ module _ {A : Type 0} where
   any-answering : {B : Type 0} (g : A → B) (checks : List (Bool × A)) → anyHolds (map (answering g) checks) ≡ anyHolds checks
   any-answering g [] = refl
   any-answering g (check ∷ checks) = rw (any-answering g checks)
+
+-- ---- the row of a number in a sound table
+
+module _ (t : List ℕ) (k i : ℕ) (sound : tableSound t ≡ true) (e : rowOf t k ≡ At i) where
+  pub found-sound : rowSound t i ≡ true
+  found-sound = row-sound t i sound (found-within t k i e .0)
+
+  pub found-number : isNumber k ≡ true
+  found-number = rw (← (found-within t k i e .1)) (sound-row t i found-sound .number)
+
+  -- storing the record that it has changes nothing
+  stored-back : stored t i (recordAt t i) ≡ t
+  stored-back = words-stored t i found-sound
 
 -- ---- requests
 
@@ -222,7 +236,7 @@ module _ (list reply : List ℕ) (requester : Msisdn) (scheme : ℕ) (string : L
           ≡ storing t i (visitRequest (flagsOf list (requester .0)) requester reply (some f) (recordAt t i))
       request-visits i e =
           at-place (At i) e
-          ∙ visits t i (stored-back t i (found-sound t (f .number .0) i sound e)) list requester reply f (read-sound string f reads)
+          ∙ visits t i (stored-back t (f .number .0) i sound e) list requester reply f (read-sound string f reads)
 
       -- the number is not in the table
       pub request-misses : rowOf t (f .number .0) ≡ Nothing
@@ -230,7 +244,7 @@ module _ (list reply : List ℕ) (requester : Msisdn) (scheme : ℕ) (string : L
       request-misses e =
           at-place Nothing e
           ∙ decide-of (λ n. requests.saying n t reply) (leaving t) (λ n. saying n reply) (λ n. refl)
-            (rightChecks (flagsOf list (requester .0)) (f .erasing)) (saying 41 reply)
+          (rightChecks (flagsOf list (requester .0)) (f .erasing)) (saying 41 reply)
 
 -- ---- sendings
 
@@ -262,7 +276,7 @@ module _ (t buffer : List ℕ) (number : FunctionalNumber) (delay clock : ℕ) (
   pub sending-visits : (i : ℕ) → rowOf t (number .0) ≡ At i
       → notices.sending t buffer number delay clock ≡ storing t i (visitSending delay clock number buffer (recordAt t i))
   sending-visits i e =
-      sending-at (At i) e ∙ by-sending i (stored-back t i (found-sound t (number .0) i sound e)) (found-number t (number .0) i sound e)
+      sending-at (At i) e ∙ by-sending i (stored-back t (number .0) i sound e) (found-number t (number .0) i sound e)
 
   -- the number is not in the table
   pub sending-misses : rowOf t (number .0) ≡ Nothing → notices.sending t buffer number delay clock ≡ leaving t (missedSending buffer)
@@ -307,7 +321,7 @@ module _ (t : List ℕ) (number : FunctionalNumber) (kind clock : ℕ) (sound : 
   -- the number is in row i: that row's record decides
   pub result-visits : (i : ℕ) → rowOf t (number .0) ≡ At i → notices.result t number kind clock ≡ storing t i (visitResult kind clock (recordAt t i))
   result-visits i e =
-      result-at (At i) e ∙ by-result i (stored-back t i (found-sound t (number .0) i sound e)) (found-number t (number .0) i sound e)
+      result-at (At i) e ∙ by-result i (stored-back t (number .0) i sound e) (found-number t (number .0) i sound e)
 
   -- the number is not in the table
   pub result-misses : rowOf t (number .0) ≡ Nothing → notices.result t number kind clock ≡ leaving t missedResult
