@@ -50,6 +50,12 @@ pub either : (b : Bool) → (b ≡ true) ⊎ (b ≡ false)
 either true = inl refl
 either false = inr refl
 
+-- two tests that pass together are one
+pub same-test : (a b : Bool) → (a ≡ true → b ≡ true) → (b ≡ true → a ≡ true) → a ≡ b
+same-test true b f g = sym (f refl)
+same-test false true f g = g refl
+same-test false false f g = refl
+
 pub less-or-not : (k n : ℕ) → (k < n) ⊎ (n ≤ k)
 less-or-not k n = go (ltb k n) refl
   where

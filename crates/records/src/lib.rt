@@ -1,12 +1,14 @@
 // One functional number's record, by value: what happens to it, and the row of words that it is lent in.
 use numbers::FunctionalNumber;
 use numbers::Msisdn;
+use numbers::is_number_by;
 ghost use mathlib.Core.Path.{_≡_};
 ghost use mathlib.Core.Bool.{true};
 ghost use Prim.Native.Nat.{_/_, _^_, _≤_, _<_};
 ghost use lib.ListN.{length};
+ghost use Rattle.numbers.specs.Least.{leastNumbers};
 ghost use Rattle.records.specs.Steps.{registered, erased, forced, interrogated, sent, resulted, heldBy, forcedOff, cleared, withNotice, elapsed as elapsedOf, delayOf, delayAllowed, isDue};
-ghost use Rattle.records.specs.Rows.{rowWords, lastPhase, phaseOf, secondOf, noticeOf, wordsAt, rowSound, recordSound, recordAt, stored};
+ghost use Rattle.records.specs.Rows.{rowWords, lastPhase, phaseOf, secondOf, noticeOf, wordsAt, holderSound, noticeSound, rowSound, recordSound, recordAt, stored};
 
 // "a notice is absent, waiting or in flight": with the sendings done, and the second of the last failure.
 pub enum Notice {
@@ -55,6 +57,12 @@ const MOST_SENDINGS: u8 = 5;
 
 // "5 any other error".
 const LAST_KIND: u32 = 5;
+
+// "Even 2k (2 to 10): in flight, k done".
+const LAST_PHASE: u64 = 10;
+
+// "The last word is below 2^32".
+const SECONDS: u64 = 4294967296;
 
 // "six 64-bit words a number": where they stand in a row, the number first.
 pub const ROW_WORDS: usize = 6;
@@ -307,6 +315,29 @@ fn second_of(notice: Notice) -> u64
     }
 }
 
+// "holder, a number, or 0".
+fn holder_sound(holder: u64, least: &[u64; 65]) -> bool
+    requires { ⌜ now least ≡ leastNumbers ⌝ }
+    ensures { λ r. ⌜ r ≡ holderSound holder ⌝ }
+{
+    (holder == 0) | is_number_by(holder, least)
+}
+
+// Whether the last four words of a row are those of a notice, or of none.
+fn notice_sound(phase: u64, addressee: u64, supervisor: u64, second: u64, least: &[u64; 65]) -> bool
+    requires { ⌜ now least ≡ leastNumbers ⌝ }
+    ensures { λ r. ⌜ r ≡ noticeSound phase addressee supervisor second ⌝ }
+{
+    if phase == 0 {
+        return (addressee == 0) & (supervisor == 0) & (second == 0);
+    }
+    let numbers = is_number_by(addressee, least) & is_number_by(supervisor, least);
+    let failed = (phase % 2 == 1) & (3 <= phase);
+    (phase <= LAST_PHASE)
+        & (numbers & (addressee != supervisor))
+        & ((second < SECONDS) & ((second == 0) | failed))
+}
+
 // Reads the words of a row.
 fn words_at(table: &[u64], row: usize) -> Words
     requires { ⌜ row < length (now table) / rowWords ⌝ }
@@ -356,4 +387,23 @@ pub fn store(table: &mut [u64], row: usize, next: Record)
     table[at + ADDRESSEE] = next.addressee.0;
     table[at + SUPERVISOR] = next.supervisor.0;
     table[at + SECOND] = second;
+}
+
+// Whether a row is sound by itself; `least` is the table of least numbers.
+pub fn row_sound(table: &[u64], row: usize, least: &[u64; 65]) -> bool
+    requires { ⌜ row < length (now table) / rowWords ⌝ }
+    requires { ⌜ now least ≡ leastNumbers ⌝ }
+    ensures { λ r. ⌜ r ≡ rowSound (now (table .entry)) row ⌝ }
+{
+    let words = words_at(table, row);
+    let number = is_number_by(words.number, least);
+    let holder = holder_sound(words.holder, least);
+    let notice = notice_sound(
+        words.phase,
+        words.addressee,
+        words.supervisor,
+        words.second,
+        least,
+    );
+    number & holder & notice
 }
