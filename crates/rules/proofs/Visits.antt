@@ -9,7 +9,7 @@ use lib.ListN.{length}
 use lib.Dec.{eqb, ltb, leb}
 use borrow.Author.Tests.{eqb-true, not-false}
 use Rattle.answers.specs.Checks.{decide, isNone}
-use Rattle.answers.proofs.Checks.{chosen, answering, decide-of}
+use Rattle.answers.proofs.Decide.{chosen, answering, decide-of}
 use Rattle.answers.proofs.Tests.{no-path, or-neither, or-right}
 use Rattle.numbers.specs.Numbers.{isNumber}
 use Rattle.numbers.specs.declared.FunctionalNumber.{FunctionalNumber}

@@ -1,0 +1,31 @@
+-- What the reader of one field answers, beside what the field's definition says of the part that it was handed. Assumes nothing.
+use mathlib.Core.Path.{_≡_}
+use mathlib.Core.Option.{Option, none, some}
+use mathlib.Core.List.{List}
+use Prim.Native.Nat.{ℕ, _+_, _≤_}
+use lib.ListN.{length, take, drop}
+use Rattle.strings.specs.declared.Operation.{Operation}
+use Rattle.strings.specs.declared.OperationRead.{OperationRead}
+use Rattle.strings.specs.declared.OperationRead.the-variants.{Read as OperationField, Unreadable as NoOperation}
+use Rattle.strings.specs.declared.ServiceRead.{ServiceRead}
+use Rattle.strings.specs.declared.ServiceRead.the-variants.{Read as ServiceField, Unreadable as NoService}
+use Rattle.strings.specs.declared.AdditionalRead.{AdditionalRead}
+use Rattle.strings.specs.declared.AdditionalRead.the-variants.{Read as AdditionalField, Unreadable as NoAdditional}
+use Rattle.strings.specs.Reader.{Field, operationAt, serviceAt, additionalAt}
+
+-- the reader finds x in s from one place up to another
+pub record Found {X : Type 0} (reader : List ℕ → Option (Field X)) (s : List ℕ) (at : ℕ) (x : X) (end : ℕ) : Type 0 where
+  pub within : end ≤ length s
+  pub found : reader (drop at s) ≡ some (record { got = x; rest = drop end s })
+
+abbrev pub OperationIs : OperationRead → List ℕ → Type 0
+OperationIs (OperationField o n) s = Found operationAt s 0 o n
+OperationIs NoOperation s = operationAt s ≡ none
+
+abbrev pub ServiceIs : ServiceRead → List ℕ → Type 0
+ServiceIs (ServiceField n) s = (n ≤ length s) × (serviceAt s ≡ some (drop n s))
+ServiceIs NoService s = serviceAt s ≡ none
+
+abbrev pub AdditionalIs : AdditionalRead → List ℕ → Type 0
+AdditionalIs (AdditionalField n) s = (length s ≡ n + 1) × (additionalAt s ≡ some (take n s))
+AdditionalIs NoAdditional s = additionalAt s ≡ none
