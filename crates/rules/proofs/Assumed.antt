@@ -11,13 +11,12 @@ use Rattle.records.specs.declared.Record.{Record}
 use Rattle.records.specs.Rows.{rowSound, recordAt, stored, numberAt, recordSound}
 use Rattle.tables.specs.declared.Found.{Found}
 use Rattle.tables.specs.declared.Found.the-variants.{At, Nothing}
-use Rattle.tables.specs.Tables.{tableSound, rowOf, recordOf, rowsIn}
+use Rattle.tables.specs.Tables.{tableSound, rowOf, recordOf, rowsIn, numberKey}
+use Rattle.tables.proofs.Keys.{place-found}
 
 pub found-within : (t : List ℕ) (k i : ℕ) → rowOf t k ≡ At i → (i < rowsIn t) × (numberAt t i ≡ k)
-found-within t k i e = ?
-
-pub row-sound : (t : List ℕ) (i : ℕ) → tableSound t ≡ true → i < rowsIn t → rowSound t i ≡ true
-row-sound t i s l = ?
+unfolding rowOf
+found-within t k i e = place-found (numberKey t) k (rowsIn t) i e
 
 pub stored-sound : (t : List ℕ) (i : ℕ) (r : Record) → tableSound t ≡ true → i < rowsIn t → recordSound r ≡ true → tableSound (stored t i r) ≡ true
 stored-sound t i r s l q = ?
@@ -25,5 +24,3 @@ stored-sound t i r s l q = ?
 pub stored-row : (t : List ℕ) (i : ℕ) (r : Record) (k : ℕ) → rowOf (stored t i r) k ≡ rowOf t k
 stored-row t i r k = ?
 
-pub read-sound : (s : List ℕ) (f : Request) → requestOf s ≡ some f → erasingSound (f .operation) (f .erasing) ≡ true
-read-sound s f e = ?

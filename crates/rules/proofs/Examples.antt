@@ -11,7 +11,7 @@ use Rattle.numbers.specs.Numbers.{isDigit, areDigits, pushed, stored, isNumber,
 use Rattle.numbers.specs.declared.FunctionalNumber.{FunctionalNumber}
 use Rattle.numbers.specs.declared.Msisdn.{Msisdn}
 use Rattle.strings.specs.Text.{isAdditional, areAdditional, requestSound, textOf, noticeOf}
-use Rattle.strings.specs.Reader.{operationAt, serviceAt, numberFieldAt, erasingAt, leadingAdditional, additionalAt, fieldsOf}
+use Rattle.strings.specs.Reader.{begins, operationAt, serviceAt, numberFieldAt, erasingAt, leadingAdditional, additionalAt, fieldsOf}
 use Rattle.strings.specs.Outcomes.{requestOf}
 use Rattle.records.specs.Steps.{elapsed, delayOf, delayAllowed}
 use Rattle.records.specs.Rows as rows
@@ -142,6 +142,6 @@ examples =
     ∷ []
 
 pub p1-to-p15 : All examples
-unfolding number digits octetsFor charsIn padded packed characters readable filled kept unpacked isDigit pushed stored isNumber digitsUpTo digitsOf leadingDigits numberAt isAdditional textOf noticeOf operationAt serviceAt numberFieldAt erasingAt leadingAdditional additionalAt fieldsOf requestOf elapsed delayOf delayAllowed rows.noticeSound rows.rowSound rows.noticeOf rows.recordAt rows.stored placeOf tableSound rowOf recordOf listSound flagsOf requests.requestChecks requests.request notices.sending notices.result
+unfolding number digits octetsFor charsIn padded packed characters readable filled kept unpacked isDigit pushed stored isNumber digitsUpTo digitsOf leadingDigits numberAt isAdditional textOf noticeOf begins operationAt serviceAt numberFieldAt erasingAt leadingAdditional additionalAt fieldsOf requestOf elapsed delayOf delayAllowed rows.noticeSound rows.rowSound rows.noticeOf rows.recordAt rows.stored placeOf tableSound rowOf recordOf listSound flagsOf requests.requestChecks requests.request notices.sending notices.result
 p1-to-p15 =
     refl and refl and refl and refl and refl and refl and refl and refl and refl and refl and refl and refl and refl and refl and refl and refl and refl and refl and refl and done

@@ -20,6 +20,11 @@ use Rattle.strings.specs.declared.Erasing.{Erasing}
 use Rattle.strings.specs.declared.Erasing.the-variants.{Empty, Forced}
 use Rattle.strings.specs.Text.{Request, erasingSound, textOf, noticeOf}
 use Rattle.strings.specs.Outcomes.{requestOf}
+use Rattle.strings.proofs.Text.{sound-rules}
+use Rattle.strings.proofs.ReadBack.{read-only}
+use Rattle.strings.specs.Reader.{fieldsOf}
+use Rattle.packing.specs.Packing.{readable, unpacked}
+use Rattle.answers.proofs.Checks.{not-some}
 use Rattle.records.specs.declared.Notice.the-variants.{Waiting}
 use Rattle.records.specs.declared.Record.{Record}
 use Rattle.records.specs.declared.Step.{Step}
@@ -32,13 +37,14 @@ use Rattle.records.specs.Rows.{rowSound, numberAt, recordAt, stored}
 use Rattle.records.proofs.Rows.{sound-row, words-stored}
 use Rattle.tables.specs.declared.Found.{Found}
 use Rattle.tables.specs.declared.Found.the-variants.{At, Nothing}
+use Rattle.tables.proofs.Sound.{table-row}
 use Rattle.tables.specs.Tables.{tableSound, rowOf, recordFound, recordOf, flagsOf}
 use Rattle.rules.specs.Answers.{Answer, refusal, error, delivered, dropped, again, Outcome, made, bufferRoom, unchanged, refusing}
 use Rattle.rules.specs.Requests as requests
 use Rattle.rules.specs.Notices as notices
 use Rattle.rules.specs.Calls.{Call, request, sending, result, Reply, replied, reading, call, anyHolds, numberRead, nameOf}
 use Rattle.rules.specs.Visits.{Visited, visited, storing, leaving, says, stepped, told, erases, decides, decided, sentStep, resultStep, visitSending, visitResult, visitRequest, visit, saying, missedSending, missedResult, missedRequest, missed, stopped}
-use Rattle.rules.proofs.Assumed.{found-within, row-sound, read-sound}
+use Rattle.rules.proofs.Assumed.{found-within}
 
 -- ---- checks
 
@@ -76,7 +82,7 @@ module _ {A : Type 0} where
 
 module _ (t : List ℕ) (k i : ℕ) (sound : tableSound t ≡ true) (e : rowOf t k ≡ At i) where
   pub found-sound : rowSound t i ≡ true
-  found-sound = row-sound t i sound (found-within t k i e .0)
+  found-sound = table-row t sound i (found-within t k i e .0)
 
   pub found-number : isNumber k ≡ true
   found-number = rw (← (found-within t k i e .1)) (sound-row t i found-sound .number)
@@ -86,6 +92,15 @@ module _ (t : List ℕ) (k i : ℕ) (sound : tableSound t ≡ true) (e : rowOf t
   stored-back = words-stored t i found-sound
 
 -- ---- requests
+
+-- what was read keeps the string's rules
+read-sound : (string : List ℕ) (f : Request) → requestOf string ≡ some f → erasingSound (f .operation) (f .erasing) ≡ true
+unfolding requestOf
+read-sound string f e = go (readable string) e
+  where
+    go : (b : Bool) → cond b (fieldsOf (unpacked string)) none ≡ some f → erasingSound (f .operation) (f .erasing) ≡ true
+    go true e = sound-rules f (read-only (unpacked string) e .0) .erasing
+    go false e = not-some e
 
 -- the rows of the table with an outcome, and what is done: by the fields read and the place of their number
 abbrev outcomes : List ℕ → List ℕ → List ℕ → Msisdn → Option Request → Found → Outcome
