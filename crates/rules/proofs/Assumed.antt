@@ -23,4 +23,3 @@ stored-sound t i r s l q = ?
 
 pub stored-row : (t : List ℕ) (i : ℕ) (r : Record) (k : ℕ) → rowOf (stored t i r) k ≡ rowOf t k
 stored-row t i r k = ?
-

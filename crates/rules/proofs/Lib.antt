@@ -2,4 +2,5 @@
 pub mod Assumed
 pub mod Visits
 pub mod Sound
+pub mod Rearrange
 pub mod Examples
