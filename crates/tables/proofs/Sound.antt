@@ -2,16 +2,17 @@
 use mathlib.Core.Path.{_≡_, refl, sym, ap, _∙_}
 use mathlib.Core.Bool.{Bool, true, false, _&&_}
 use mathlib.Core.List.{List, []}
-use Prim.Native.Nat.{ℕ, _*_, _/_, _%_, _≤_, _<_}
+use Prim.Native.Nat.{ℕ, _+_, _*_, _/_, _%_, _≤_, _<_}
 use lib.ListN.{length}
-use lib.Dec.{eqb, leb}
+use native.Mathlib.Omega.{arith}
+use lib.Dec.{eqb, ltb, leb}
 use borrow.Author.Tests.{eq-eqb, ne-eqb, le-leb, lt-leb, eqb-true, leb-true}
 use Rattle.answers.proofs.Tests.{and-left, and-right, and-three, and-no}
 use Rattle.numbers.specs.Numbers.{isNumber}
 use Rattle.records.specs.Rows.{rowWords, numberAt, rowSound}
 use Rattle.tables.specs.Keys.{key, every, ascends}
 use Rattle.tables.specs.Tables.{mostNumbers, rowsIn, numberKey, rowStands, tableSound, subscriberWords, mostSubscribers, mostFlags, subscribersIn, msisdnKey, flagsAt, subscriberStands, listSound}
-use Rattle.tables.proofs.Keys.{every-not, every-at, every-from, ascending}
+use Rattle.tables.proofs.Keys.{keyBefore, before-next, ascends-before, every-more, every-not, every-at, every-from, ascending}
 
 -- ---- rows of any width
 
@@ -55,6 +56,30 @@ module _ (k : ℕ → ℕ) (test : ℕ → Bool) (n : ℕ) (all : every (λ i. a
   pub tests-hold : (i : ℕ) → i < n → test i ≡ true
   tests-hold i l = and-right (ascends k i) (test i) (every-at (λ i. ascends k i && test i) n all i l)
 
+-- ---- a scan
+
+-- the rows below i stand, and `before` is the key seen last
+pub record Scanned (k : ℕ → ℕ) (test : ℕ → Bool) (n i before : ℕ) : Type 0 where
+  pub order : i ≤ n
+  pub stood : every (λ i. ascends k i && test i) i ≡ true
+  pub last : before ≡ keyBefore k i
+
+module _ (k : ℕ → ℕ) (test : ℕ → Bool) (n : ℕ) where
+  pub scan-start : Scanned k test n 0 0
+  scan-start = record { order = omega arith; stood = refl; last = refl }
+
+  module _ (i before : ℕ) (s : Scanned k test n i before) where
+    -- the row is tested against the key seen last
+    pub scan-test : (seen : Bool) → seen ≡ test i → (ascends k i && test i) ≡ (ltb before (k i) && seen)
+    scan-test seen e = rw (ascends-before, s .last, e)
+
+    pub scan-next : i < n → (ascends k i && test i) ≡ true → Scanned k test n (i + 1) (k i)
+    scan-next l e =
+        record { order = omega arith; stood = every-more (λ i. ascends k i && test i) i (s .stood) e; last = before-next k i }
+
+    pub scan-end : n ≤ i → every (λ i. ascends k i && test i) n ≡ true
+    scan-end h = let e : n ≡ i = omega (arith, s .order) in rw e (s .stood)
+
 -- ---- the table
 
 module _ (t : List ℕ) (sound : tableSound t ≡ true) where
@@ -84,10 +109,11 @@ empty-table = refl
 
 -- ---- the list
 
-module _ (l : List ℕ) (sound : listSound l ≡ true) where
-  subscriberSound : ℕ → Bool
-  subscriberSound i = isNumber (msisdnKey l i) && leb (flagsAt l i) mostFlags
+-- a subscriber's row, by itself
+abbrev pub subscriberSound : List ℕ → ℕ → Bool
+subscriberSound l i = isNumber (msisdnKey l i) && leb (flagsAt l i) mostFlags
 
+module _ (l : List ℕ) (sound : listSound l ≡ true) where
   list-standing : Standing subscriberWords mostSubscribers (subscriberStands l) l
   unfolding listSound
   list-standing = standing subscriberWords mostSubscribers (subscriberStands l) l sound
@@ -99,19 +125,16 @@ module _ (l : List ℕ) (sound : listSound l ≡ true) where
   list-few = list-standing .few
 
   pub list-ascends : every (ascends (msisdnKey l)) (subscribersIn l) ≡ true
-  unfolding subscriberSound
-  list-ascends = keys-ascend (msisdnKey l) subscriberSound (subscribersIn l) (list-standing .all)
+  list-ascends = keys-ascend (msisdnKey l) (subscriberSound l) (subscribersIn l) (list-standing .all)
 
   pub subscriber-number : (i : ℕ) → i < subscribersIn l → isNumber (msisdnKey l i) ≡ true
-  unfolding subscriberSound
   subscriber-number i h =
-      and-left (isNumber (msisdnKey l i)) (leb (flagsAt l i) mostFlags) (tests-hold (msisdnKey l) subscriberSound (subscribersIn l) (list-standing .all) i h)
+      and-left (isNumber (msisdnKey l i)) (leb (flagsAt l i) mostFlags) (tests-hold (msisdnKey l) (subscriberSound l) (subscribersIn l) (list-standing .all) i h)
 
   pub subscriber-flags : (i : ℕ) → i < subscribersIn l → flagsAt l i ≤ mostFlags
-  unfolding subscriberSound
   subscriber-flags i h =
       leb-true (flagsAt l i) mostFlags
-      (and-right (isNumber (msisdnKey l i)) (leb (flagsAt l i) mostFlags) (tests-hold (msisdnKey l) subscriberSound (subscribersIn l) (list-standing .all) i h))
+      (and-right (isNumber (msisdnKey l i)) (leb (flagsAt l i) mostFlags) (tests-hold (msisdnKey l) (subscriberSound l) (subscribersIn l) (list-standing .all) i h))
 
 pub empty-list : listSound [] ≡ true
 unfolding listSound
