@@ -7,6 +7,8 @@ use Prim.Native.Nat.{ℕ, _%_, _^_, _<_}
 use native.Mathlib.Omega.{arith}
 use lib.ListN.{length}
 use lib.Dec.{ltb}
+use borrow.Author.Tests.{eqb-false}
+use Rattle.answers.proofs.Checks.{not-some}
 use Rattle.answers.proofs.Decide.{decide-each}
 use Rattle.numbers.specs.Numbers.{isNumber}
 use Rattle.numbers.specs.declared.FunctionalNumber.{FunctionalNumber}
@@ -30,14 +32,14 @@ use Rattle.records.proofs.Rows.{record-sound, stored-length, stored-number}
 use Rattle.records.proofs.Kept.{SoundStep, SoundResult, registered-sound, erased-sound, forced-sound, sent-sound, resulted-sound}
 use Rattle.tables.specs.declared.Found.{Found}
 use Rattle.tables.specs.declared.Found.the-variants.{At, Nothing}
-use Rattle.tables.specs.Tables.{tableSound, rowOf, recordOf, rowsIn, flagsOf}
+use Rattle.tables.specs.Tables.{tableSound, rowOf, recordFound, recordOf, rowsIn, flagsOf}
 use Rattle.rules.specs.Answers.{refusal, bufferRoom}
 use Rattle.rules.specs.Requests.{hasFollowMe, isForced, isSupervisor}
 use Rattle.rules.specs.Run.{end}
-use Rattle.rules.specs.Calls.{Call, request, sending, result, Reply, reading, call, nameOf, names}
+use Rattle.rules.specs.Calls.{Call, request, sending, result, Reply, reading, call, nameOf, isNamed, names}
 use Rattle.rules.specs.Visits.{Visited, visited, says, stepped, told, erases, decides, decided, sentStep, resultStep, visitRequest, visit, missed, stopped}
 use Rattle.rules.proofs.Visits.{found-sound, requester-number, call-visits, call-misses, call-stops}
-use Rattle.rules.proofs.Assumed.{found-within, stored-sound, stored-row}
+use Rattle.rules.proofs.Assumed.{found-within, stored-sound, record-own, record-other}
 
 -- ---- a visit leaves a sound record
 
@@ -107,25 +109,73 @@ kept-twice t u v p q = record { sound = q .sound; long = q .long ∙ p .long; nu
 kept-stored : (t : List ℕ) (i : ℕ) (r : Record) → tableSound t ≡ true → i < rowsIn t → recordSound r ≡ true → Kept t (stored t i r)
 kept-stored t i r s l q = record { sound = stored-sound t i r s l q; long = stored-length t i r; numbers = stored-number t i r }
 
-module _ (list : List ℕ) (delay : ℕ) where
-  abbrev go : Call → List ℕ → Reply × List ℕ
-  go = call list delay
+-- the row of a record that the table has, and that there is none for one that it does not have
+found-record : (t : List ℕ) (k : ℕ) (r : Record) → recordOf t k ≡ some r → (i : ℕ) × (rowOf t k ≡ At i) × (recordAt t i ≡ r)
+unfolding recordOf
+found-record t k r e = go (rowOf t k) refl e
+  where
+    go : (place : Found) → rowOf t k ≡ place → recordFound t place ≡ some r → (i : ℕ) × (rowOf t k ≡ At i) × (recordAt t i ≡ r)
+    go Nothing p e = not-some e
+    go (At i) p e = (i, p, cc)
 
-  -- over a sound table, a call leaves a sound one with the same numbers in the same rows
-  pub call-keeps : (c : Call) (t : List ℕ) → tableSound t ≡ true → Kept t (go c t .1)
-  call-keeps c t s = named (nameOf list c) refl
+not-found : (t : List ℕ) (k : ℕ) → recordOf t k ≡ none → rowOf t k ≡ Nothing
+unfolding recordOf
+not-found t k e = go (rowOf t k) refl e
+  where
+    go : (place : Found) → rowOf t k ≡ place → recordFound t place ≡ none → rowOf t k ≡ Nothing
+    go Nothing p e = p
+    go (At i) p e = not-some (sym e)
+
+module _ (list : List ℕ) (delay : ℕ) (c : Call) (t : List ℕ) (sound : tableSound t ≡ true) where
+  abbrev went : Reply × List ℕ
+  went = call list delay c t
+
+  at-row : (k i : ℕ) → nameOf list c ≡ some k → rowOf t k ≡ At i → recordSound (visit list delay c (recordAt t i) .next) ≡ true
+  at-row k i n e = visit-sound (recordAt t i) (record-sound t i (found-sound t k i sound e)) list delay c k n
+
+  -- a sound table is left, with the same numbers in the same rows
+  pub call-keeps : Kept t (went .1)
+  call-keeps = named (nameOf list c) refl
     where
-      at : (k : ℕ) → nameOf list c ≡ some k → (place : Found) → rowOf t k ≡ place → Kept t (go c t .1)
-      at k n Nothing e = rw (call-misses list delay t s c k n e) (kept-same t s)
-      at k n (At i) e =
-          rw (call-visits list delay t s c k i n e)
-          (kept-stored t i _ s (found-within t k i e .0) (visit-sound (recordAt t i) (record-sound t i (found-sound t k i s e)) list delay c k n))
+      placed : (k : ℕ) → nameOf list c ≡ some k → (place : Found) → rowOf t k ≡ place → Kept t (went .1)
+      placed k n Nothing e = rw (call-misses list delay t sound c k n e) (kept-same t sound)
+      placed k n (At i) e = rw (call-visits list delay t sound c k i n e) (kept-stored t i _ sound (found-within t k i e .0) (at-row k i n e))
 
-      named : (n : Option ℕ) → nameOf list c ≡ n → Kept t (go c t .1)
-      named none n = rw (call-stops list delay t s c n) (kept-same t s)
-      named (some k) n = at k n (rowOf t k) refl
+      named : (n : Option ℕ) → nameOf list c ≡ n → Kept t (went .1)
+      named none n = rw (call-stops list delay t sound c n) (kept-same t sound)
+      named (some k) n = placed k n (rowOf t k) refl
 
-  -- and so does a list of calls
-  pub end-keeps : (cs : List Call) (t : List ℕ) → tableSound t ≡ true → Kept t (end go cs t)
-  end-keeps [] t s = kept-same t s
-  end-keeps (c ∷ cs) t s = let k = call-keeps c t s in kept-twice t (go c t .1) (end go cs (go c t .1)) k (end-keeps cs (go c t .1) (k .sound))
+  -- the record of the number that the call names decides, and becomes the next one
+  pub call-own : (k : ℕ) (r : Record) → nameOf list c ≡ some k → recordOf t k ≡ some r
+      → (went .0 ≡ visit list delay c r .reply) × (recordOf (went .1) k ≡ some (visit list delay c r .next))
+  call-own k r n e =
+      let (i, p, q) = found-record t k r e in
+      let v = call-visits list delay t sound c k i n p in (
+        ap (λ x. x .0) v ∙ ap (λ r. visit list delay c r .reply) q,
+        ap (λ x. recordOf (x .1) k) v ∙ record-own t k i _ sound p (at-row k i n p) ∙ ap (λ r. some (visit list delay c r .next)) q,
+      )
+
+  -- it is not in the table, and nothing changes
+  pub call-absent : (k : ℕ) → nameOf list c ≡ some k → recordOf t k ≡ none → went ≡ (missed list c, t)
+  call-absent k n e = call-misses list delay t sound c k n (not-found t k e)
+
+  -- the record of any other number stays
+  pub call-other : (k : ℕ) → names list c k ≡ false → recordOf (went .1) k ≡ recordOf t k
+  call-other k m = named (nameOf list c) refl
+    where
+      placed : (j : ℕ) → nameOf list c ≡ some j → (place : Found) → rowOf t j ≡ place → recordOf (went .1) k ≡ recordOf t k
+      placed j n Nothing e = rw (call-misses list delay t sound c j n e)
+      placed j n (At i) e =
+          ap (λ x. recordOf (x .1) k) (call-visits list delay t sound c j i n e)
+          ∙ record-other t j i _ k sound e (λ q. eqb-false j k (ap (λ o. isNamed o k) (sym n) ∙ m) (sym q))
+
+      named : (n : Option ℕ) → nameOf list c ≡ n → recordOf (went .1) k ≡ recordOf t k
+      named none n = rw (call-stops list delay t sound c n)
+      named (some j) n = placed j n (rowOf t j) refl
+
+-- a list of calls leaves a sound table, with the same numbers in the same rows
+pub end-keeps : (list : List ℕ) (delay : ℕ) (cs : List Call) (t : List ℕ) → tableSound t ≡ true → Kept t (end (call list delay) cs t)
+end-keeps list delay [] t sound = kept-same t sound
+end-keeps list delay (c ∷ cs) t sound =
+    let k = call-keeps list delay c t sound in
+    kept-twice t (call list delay c t .1) _ k (end-keeps list delay cs (call list delay c t .1) (k .sound))
