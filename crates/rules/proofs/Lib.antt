@@ -3,4 +3,6 @@ pub mod Assumed
 pub mod Visits
 pub mod Sound
 pub mod Rearrange
+pub mod Alone
+pub mod Local
 pub mod Examples
