@@ -46,6 +46,10 @@ pub ascends-before : (k : ℕ → ℕ) (i : ℕ) → ascends k i ≡ ltb (keyBef
 ascends-before k zero = refl
 ascends-before k (suc i) = refl
 
+pub ascends-same : (k l : ℕ → ℕ) (i : ℕ) → ((i : ℕ) → k i ≡ l i) → ascends k i ≡ ascends l i
+ascends-same k l zero h = simp (h 0)
+ascends-same k l (suc i) h = simp (h i, h (suc i))
+
 -- the first word of a row stands in the list
 pub first-within : (width n i : ℕ) → 0 < width → i < n / width → width * i < n
 first-within width n i w l = lt-of-lt-of-le (mul-lt-mul-of-pos-left l w) (mul-div-le n width)
