@@ -1,16 +1,12 @@
 -- Document 01, "Examples": P1 to P15, of the rules, computed from octets and words, as one list under one statement. Assumes nothing.
 use mathlib.Core.Path.{_≡_, refl}
 use mathlib.Core.Bool.{Bool, true}
-use mathlib.Core.Option.{Option, none, some}
 use mathlib.Core.List.{List, [], _∷_, _++_}
 use Prim.Native.Nat.{ℕ}
 use lib.ListN.{replicate}
-use Rattle.answers.specs.Writing.{writing}
-use Rattle.packing.specs.Packing.{number, digits, octetsFor, charsIn, taken, takes, padded, packed, characters, readable, filled, kept, unpacked}
-use Rattle.numbers.specs.Numbers.{isDigit, areDigits, pushed, stored, isNumber, digitsUpTo, digitsOf, leadingDigits, numberAt}
-use Rattle.numbers.specs.declared.FunctionalNumber.{FunctionalNumber}
-use Rattle.numbers.specs.declared.Msisdn.{Msisdn}
-use Rattle.strings.specs.Text.{isAdditional, areAdditional, requestSound, textOf, noticeOf}
+use Rattle.packing.specs.Packing.{number, digits, octetsFor, charsIn, padded, packed, characters, readable, filled, kept, unpacked}
+use Rattle.numbers.specs.Numbers.{isDigit, pushed, stored, isNumber, digitsUpTo, digitsOf, leadingDigits, numberAt}
+use Rattle.strings.specs.Text.{isAdditional, textOf, noticeOf}
 use Rattle.strings.specs.Reader.{begins, operationAt, serviceAt, numberFieldAt, erasingAt, leadingAdditional, additionalAt, fieldsOf}
 use Rattle.strings.specs.Outcomes.{requestOf}
 use Rattle.records.specs.Steps.{elapsed, delayOf, delayAllowed}

@@ -1,5 +1,4 @@
 -- The theorems about the rules.
-pub mod Assumed
 pub mod Visits
 pub mod Sound
 pub mod Rearrange

@@ -1,6 +1,6 @@
 -- Requests, sendings and results over a sound table are local: each reads and writes the record of the number that it names, and no other. Assumes nothing.
 use mathlib.Core.Path.{_≡_, refl, sym, ap, _∙_}
-use mathlib.Core.Bool.{Bool, true, false, true≢false}
+use mathlib.Core.Bool.{true}
 use mathlib.Core.Option.{Option, none, some}
 use mathlib.Core.List.{List}
 use Prim.Native.Nat.{ℕ}
@@ -9,8 +9,7 @@ use Rattle.answers.proofs.Tests.{no-path}
 use Rattle.records.specs.declared.Record.{Record}
 use Rattle.tables.specs.Tables.{tableSound, recordOf}
 use Rattle.rules.specs.Run.{Local}
-use Rattle.rules.specs.Calls.{Call, Reply, call, nameOf, isNamed, names}
-use Rattle.rules.specs.Visits.{visit}
+use Rattle.rules.specs.Calls.{Call, call, nameOf, isNamed, names}
 use Rattle.rules.proofs.Visits.{call-stops}
 use Rattle.rules.proofs.Sound.{call-keeps, call-own, call-absent, call-other}
 

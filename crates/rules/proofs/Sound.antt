@@ -1,9 +1,9 @@
 -- A call over a sound table leaves a sound table, with the same numbers in the same rows; and what it does to the records. Assumes nothing.
 use mathlib.Core.Path.{_≡_, refl, sym, ap, _∙_}
-use mathlib.Core.Bool.{Bool, true, false, not, _&&_}
+use mathlib.Core.Bool.{true, false, not, _&&_}
 use mathlib.Core.Option.{Option, none, some}
 use mathlib.Core.List.{List, [], _∷_}
-use Prim.Native.Nat.{ℕ, _%_, _^_, _<_}
+use Prim.Native.Nat.{ℕ, _<_}
 use native.Mathlib.Omega.{arith}
 use lib.ListN.{length}
 use lib.Dec.{ltb}
@@ -33,13 +33,13 @@ use Rattle.records.proofs.Kept.{SoundStep, SoundResult, registered-sound, erase
 use Rattle.tables.specs.declared.Found.{Found}
 use Rattle.tables.specs.declared.Found.the-variants.{At, Nothing}
 use Rattle.tables.specs.Tables.{tableSound, rowOf, recordFound, recordOf, rowsIn, flagsOf}
+use Rattle.tables.proofs.Stored.{row-found, own-record, other-record, table-stored}
 use Rattle.rules.specs.Answers.{refusal, bufferRoom}
 use Rattle.rules.specs.Requests.{hasFollowMe, isForced, isSupervisor}
 use Rattle.rules.specs.Run.{end}
 use Rattle.rules.specs.Calls.{Call, request, sending, result, Reply, reading, call, nameOf, isNamed, names}
-use Rattle.rules.specs.Visits.{Visited, visited, says, stepped, told, erases, decides, decided, sentStep, resultStep, visitRequest, visit, missed, stopped}
+use Rattle.rules.specs.Visits.{Visited, visited, says, stepped, told, decides, decided, sentStep, resultStep, visitRequest, visit, missed}
 use Rattle.rules.proofs.Visits.{found-sound, requester-number, call-visits, call-misses, call-stops}
-use Rattle.rules.proofs.Assumed.{found-within, stored-sound, record-own, record-other}
 
 -- ---- a visit leaves a sound record
 
@@ -107,20 +107,20 @@ kept-twice : (t u v : List ℕ) → Kept t u → Kept u v → Kept t v
 kept-twice t u v p q = record { sound = q .sound; long = q .long ∙ p .long; numbers = λ i. q .numbers i ∙ p .numbers i }
 
 kept-stored : (t : List ℕ) (i : ℕ) (r : Record) → tableSound t ≡ true → i < rowsIn t → recordSound r ≡ true → Kept t (stored t i r)
-kept-stored t i r s l q = record { sound = stored-sound t i r s l q; long = stored-length t i r; numbers = stored-number t i r }
+kept-stored t i r s l q = record { sound = table-stored t i r s l q; long = stored-length t i r; numbers = stored-number t i r }
 
 -- the row of a record that the table has, and that there is none for one that it does not have
-found-record : (t : List ℕ) (k : ℕ) (r : Record) → recordOf t k ≡ some r → (i : ℕ) × (rowOf t k ≡ At i) × (recordAt t i ≡ r)
+record-place : (t : List ℕ) (k : ℕ) (r : Record) → recordOf t k ≡ some r → (i : ℕ) × (rowOf t k ≡ At i) × (recordAt t i ≡ r)
 unfolding recordOf
-found-record t k r e = go (rowOf t k) refl e
+record-place t k r e = go (rowOf t k) refl e
   where
     go : (place : Found) → rowOf t k ≡ place → recordFound t place ≡ some r → (i : ℕ) × (rowOf t k ≡ At i) × (recordAt t i ≡ r)
     go Nothing p e = not-some e
     go (At i) p e = (i, p, cc)
 
-not-found : (t : List ℕ) (k : ℕ) → recordOf t k ≡ none → rowOf t k ≡ Nothing
+no-place : (t : List ℕ) (k : ℕ) → recordOf t k ≡ none → rowOf t k ≡ Nothing
 unfolding recordOf
-not-found t k e = go (rowOf t k) refl e
+no-place t k e = go (rowOf t k) refl e
   where
     go : (place : Found) → rowOf t k ≡ place → recordFound t place ≡ none → rowOf t k ≡ Nothing
     go Nothing p e = p
@@ -139,7 +139,7 @@ module _ (list : List ℕ) (delay : ℕ) (c : Call) (t : List ℕ) (sound : tabl
     where
       placed : (k : ℕ) → nameOf list c ≡ some k → (place : Found) → rowOf t k ≡ place → Kept t (went .1)
       placed k n Nothing e = rw (call-misses list delay t sound c k n e) (kept-same t sound)
-      placed k n (At i) e = rw (call-visits list delay t sound c k i n e) (kept-stored t i _ sound (found-within t k i e .0) (at-row k i n e))
+      placed k n (At i) e = rw (call-visits list delay t sound c k i n e) (kept-stored t i _ sound (row-found t k i e .0) (at-row k i n e))
 
       named : (n : Option ℕ) → nameOf list c ≡ n → Kept t (went .1)
       named none n = rw (call-stops list delay t sound c n) (kept-same t sound)
@@ -149,15 +149,15 @@ module _ (list : List ℕ) (delay : ℕ) (c : Call) (t : List ℕ) (sound : tabl
   pub call-own : (k : ℕ) (r : Record) → nameOf list c ≡ some k → recordOf t k ≡ some r
       → (went .0 ≡ visit list delay c r .reply) × (recordOf (went .1) k ≡ some (visit list delay c r .next))
   call-own k r n e =
-      let (i, p, q) = found-record t k r e in
+      let (i, p, q) = record-place t k r e in
       let v = call-visits list delay t sound c k i n p in (
         ap (λ x. x .0) v ∙ ap (λ r. visit list delay c r .reply) q,
-        ap (λ x. recordOf (x .1) k) v ∙ record-own t k i _ sound p (at-row k i n p) ∙ ap (λ r. some (visit list delay c r .next)) q,
+        ap (λ x. recordOf (x .1) k) v ∙ own-record t i _ k p (at-row k i n p) ∙ ap (λ r. some (visit list delay c r .next)) q,
       )
 
   -- it is not in the table, and nothing changes
   pub call-absent : (k : ℕ) → nameOf list c ≡ some k → recordOf t k ≡ none → went ≡ (missed list c, t)
-  call-absent k n e = call-misses list delay t sound c k n (not-found t k e)
+  call-absent k n e = call-misses list delay t sound c k n (no-place t k e)
 
   -- the record of any other number stays
   pub call-other : (k : ℕ) → names list c k ≡ false → recordOf (went .1) k ≡ recordOf t k
@@ -167,7 +167,7 @@ module _ (list : List ℕ) (delay : ℕ) (c : Call) (t : List ℕ) (sound : tabl
       placed j n Nothing e = rw (call-misses list delay t sound c j n e)
       placed j n (At i) e =
           ap (λ x. recordOf (x .1) k) (call-visits list delay t sound c j i n e)
-          ∙ record-other t j i _ k sound e (λ q. eqb-false j k (ap (λ o. isNamed o k) (sym n) ∙ m) (sym q))
+          ∙ other-record t i _ j e k (λ q. eqb-false j k (ap (λ o. isNamed o k) (sym n) ∙ m) (sym q))
 
       named : (n : Option ℕ) → nameOf list c ≡ n → recordOf (went .1) k ≡ recordOf t k
       named none n = rw (call-stops list delay t sound c n)

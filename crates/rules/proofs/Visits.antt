@@ -1,16 +1,17 @@
 -- The second form of the rules equals the first: what each call comes to, by the record that it visits, by the row that it misses, or before it names a number. Assumes nothing.
 use mathlib.Core.Path.{_≡_, refl, sym, ap, _∙_}
-use mathlib.Core.Bool.{Bool, true, false, true≢false, cond, not, _&&_, _||_}
+use mathlib.Core.Bool.{Bool, true, false, cond, not, _&&_, _||_}
 use mathlib.Core.Option.{Option, none, some}
-use mathlib.Core.List.{List, [], _∷_, _++_, map}
+use mathlib.Core.List.{List, [], _∷_, map}
 use Prim.Native.Nat.{ℕ}
-use native.Mathlib.Omega.{arith}
 use lib.ListN.{length}
 use lib.Dec.{eqb, ltb, leb}
 use borrow.Author.Tests.{eqb-true, not-false}
 use Rattle.answers.specs.Checks.{decide, isNone}
-use Rattle.answers.proofs.Decide.{chosen, answering, decide-of}
 use Rattle.answers.proofs.Tests.{no-path, or-neither, or-right}
+use Rattle.answers.proofs.Checks.{not-some}
+use Rattle.answers.proofs.Decide.{chosen, answering, decide-of}
+use Rattle.packing.specs.Packing.{readable, unpacked}
 use Rattle.numbers.specs.Numbers.{isNumber}
 use Rattle.numbers.specs.declared.FunctionalNumber.{FunctionalNumber}
 use Rattle.numbers.specs.declared.Msisdn.{Msisdn}
@@ -18,33 +19,29 @@ use Rattle.strings.specs.declared.Operation.{Operation}
 use Rattle.strings.specs.declared.Operation.the-variants.{Register, Erase, Interrogate}
 use Rattle.strings.specs.declared.Erasing.{Erasing}
 use Rattle.strings.specs.declared.Erasing.the-variants.{Empty, Forced}
-use Rattle.strings.specs.Text.{Request, erasingSound, textOf, noticeOf}
+use Rattle.strings.specs.Text.{Request, erasingSound}
+use Rattle.strings.specs.Reader.{fieldsOf}
 use Rattle.strings.specs.Outcomes.{requestOf}
 use Rattle.strings.proofs.Text.{sound-rules}
 use Rattle.strings.proofs.ReadBack.{read-only}
-use Rattle.strings.specs.Reader.{fieldsOf}
-use Rattle.packing.specs.Packing.{readable, unpacked}
-use Rattle.answers.proofs.Checks.{not-some}
 use Rattle.records.specs.declared.Notice.the-variants.{Waiting}
 use Rattle.records.specs.declared.Record.{Record}
-use Rattle.records.specs.declared.Step.{Step}
 use Rattle.records.specs.declared.Step.the-variants as step
-use Rattle.records.specs.declared.Holder.{Holder}
 use Rattle.records.specs.declared.Holder.the-variants as holds
 use Rattle.records.specs.declared.Resulted.the-variants.{Refused, Delivered, Dropped, Again}
 use Rattle.records.specs.Steps as steps
-use Rattle.records.specs.Rows.{rowSound, numberAt, recordAt, stored}
+use Rattle.records.specs.Rows.{rowSound, recordAt, stored}
 use Rattle.records.proofs.Rows.{sound-row, words-stored}
 use Rattle.tables.specs.declared.Found.{Found}
 use Rattle.tables.specs.declared.Found.the-variants.{At, Nothing}
-use Rattle.tables.proofs.Sound.{table-row}
 use Rattle.tables.specs.Tables.{tableSound, rowOf, recordFound, recordOf, flagsOf}
-use Rattle.rules.specs.Answers.{Answer, refusal, error, delivered, dropped, again, Outcome, made, bufferRoom, unchanged, refusing}
+use Rattle.tables.proofs.Sound.{table-row}
+use Rattle.tables.proofs.Stored.{row-found}
+use Rattle.rules.specs.Answers.{Answer, refusal, error, delivered, dropped, again, Outcome, made, bufferRoom, refusing}
 use Rattle.rules.specs.Requests as requests
 use Rattle.rules.specs.Notices as notices
-use Rattle.rules.specs.Calls.{Call, request, sending, result, Reply, replied, reading, call, anyHolds, numberRead, nameOf}
-use Rattle.rules.specs.Visits.{Visited, visited, storing, leaving, says, stepped, told, erases, decides, decided, sentStep, resultStep, visitSending, visitResult, visitRequest, visit, saying, missedSending, missedResult, missedRequest, missed, stopped}
-use Rattle.rules.proofs.Assumed.{found-within}
+use Rattle.rules.specs.Calls.{Call, request, sending, result, replied, reading, call, anyHolds, numberRead, nameOf}
+use Rattle.rules.specs.Visits.{visited, storing, leaving, says, stepped, told, decides, decided, sentStep, resultStep, visitSending, visitResult, visitRequest, visit, saying, missedSending, missedResult, missedRequest, missed, stopped}
 
 -- ---- checks
 
@@ -82,10 +79,10 @@ module _ {A : Type 0} where
 
 module _ (t : List ℕ) (k i : ℕ) (sound : tableSound t ≡ true) (e : rowOf t k ≡ At i) where
   pub found-sound : rowSound t i ≡ true
-  found-sound = table-row t sound i (found-within t k i e .0)
+  found-sound = table-row t sound i (row-found t k i e .0)
 
   pub found-number : isNumber k ≡ true
-  found-number = rw (← (found-within t k i e .1)) (sound-row t i found-sound .number)
+  found-number = rw (← (row-found t k i e .1)) (sound-row t i found-sound .number)
 
   -- storing the record that it has changes nothing
   stored-back : stored t i (recordAt t i) ≡ t
@@ -196,8 +193,8 @@ module _ (list reply : List ℕ) (requester : Msisdn) (scheme : ℕ) (string : L
   naming k e = go (anyHolds refusals) refl (requestOf string) refl e
     where
       go : (b : Bool) → anyHolds refusals ≡ b → (read : Option Request) → requestOf string ≡ read → cond b none (numberRead read) ≡ some k → Naming k
-      go true h read r e = absurd (let z : _≡_ {A = ℕ} 0 1 = cc in omega arith)
-      go false h none r e = absurd (let z : _≡_ {A = ℕ} 0 1 = cc in omega arith)
+      go true h read r e = not-some e
+      go false h none r e = not-some e
       go false h (some f) r e = record { passed = h; fields = f; reads = r; names = cc }
 
   -- its requester is a number
@@ -213,7 +210,7 @@ module _ (list reply : List ℕ) (requester : Msisdn) (scheme : ℕ) (string : L
       go false h none r e =
           let reads = or-neither (ltb requests.mostStringOctets (length string)) (isNone (requestOf string)) (all-pass refusals h .1 .1 .1 .1 .1 .1 .0) in
           sym (reads .1) ∙ ap isNone r
-      go false h (some f) r e = absurd (let z : _≡_ {A = ℕ} 0 1 = cc in omega arith)
+      go false h (some f) r e = not-some (sym e)
 
   -- over a sound table
   module _ (t : List ℕ) (sound : tableSound t ≡ true) where
@@ -366,5 +363,5 @@ module _ (list : List ℕ) (delay : ℕ) (t : List ℕ) (sound : tableSound t �
   pub call-stops : (c : Call) → nameOf list c ≡ none → call list delay c t ≡ (stopped list c, t)
   call-stops (request requester scheme string reply) n =
       ap replied (request-stops list reply requester scheme string t sound (unnamed list reply requester scheme string n))
-  call-stops (sending now number buffer) n = absurd (let z : _≡_ {A = ℕ} 0 1 = cc in omega arith)
-  call-stops (result now number kind) n = absurd (let z : _≡_ {A = ℕ} 0 1 = cc in omega arith)
+  call-stops (sending now number buffer) n = not-some (sym n)
+  call-stops (result now number kind) n = not-some (sym n)

@@ -1,6 +1,6 @@
 -- A second form of the rules, for the theorems and the code: once a request's string reads, and for every sending and result, a call visits the record of one number, and a step of that record decides. It is proved equal to the first form. Assumes nothing.
 use Prim.Native.Nat.{ℕ}
-use mathlib.Core.Bool.{Bool, true, false, not, _&&_}
+use mathlib.Core.Bool.{true, not, _&&_}
 use mathlib.Core.Option.{Option, none, some}
 use mathlib.Core.List.{List, [], _∷_}
 use lib.ListN.{length}
