@@ -4,4 +4,6 @@ pub mod Sound
 pub mod Rearrange
 pub mod Alone
 pub mod Local
+pub mod Holder
+pub mod Demand
 pub mod Examples

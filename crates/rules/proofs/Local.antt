@@ -15,7 +15,7 @@ use Rattle.rules.proofs.Sound.{call-keeps, call-own, call-absent, call-
 
 -- ---- the number that a call names
 
-named-some : (n : Option ℕ) (k : ℕ) → isNamed n k ≡ true → n ≡ some k
+pub named-some : (n : Option ℕ) (k : ℕ) → isNamed n k ≡ true → n ≡ some k
 named-some none k e = no-path e
 named-some (some j) k e = ap some (eqb-true j k e)
 

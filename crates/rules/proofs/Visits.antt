@@ -106,11 +106,11 @@ outcomes t list reply requester read place =
     (requests.carriedOutAt read place requester t reply)
 
 -- the checks of the requester's flags
-abbrev rightChecks : ℕ → Erasing → List (Bool × ℕ)
+abbrev pub rightChecks : ℕ → Erasing → List (Bool × ℕ)
 rightChecks flags e = (not (requests.hasFollowMe flags), 42) ∷ (requests.isForced e && not (requests.isSupervisor flags), 22) ∷ []
 
 -- the checks of the record, by the operation
-abbrev recordChecks : Operation → Erasing → FunctionalNumber → Msisdn → Record → List (Bool × ℕ)
+abbrev pub recordChecks : Operation → Erasing → FunctionalNumber → Msisdn → Record → List (Bool × ℕ)
 recordChecks Register e number requester r =
     (eqb (number .0) (requester .0), 67) ∷ (not (steps.isNobody (r .holder)) && not (steps.same (r .holder) requester), 61) ∷ []
 recordChecks Erase Empty number requester r = (steps.isNobody (r .holder), 62) ∷ (not (steps.same (r .holder) requester), 63) ∷ []
@@ -260,6 +260,11 @@ module _ (list reply : List ℕ) (requester : Msisdn) (scheme : ℕ) (string : L
 
 -- ---- sendings
 
+-- the checks of the record
+abbrev pub sentChecks : ℕ → ℕ → Record → List (Bool × ℕ)
+sentChecks delay clock r =
+    (not (steps.delayAllowed delay), 6) ∷ (not (steps.isWaiting (r .notice)), 4) ∷ (not (steps.isDue delay clock (r .notice)), 5) ∷ []
+
 module _ (t buffer : List ℕ) (number : FunctionalNumber) (delay clock : ℕ) (sound : tableSound t ≡ true) where
   abbrev sendings : Bool → Found → Outcome
   sendings soundTable place =
@@ -273,10 +278,10 @@ module _ (t buffer : List ℕ) (number : FunctionalNumber) (delay clock : ℕ) (
   by-sending : (i : ℕ) → stored t i (recordAt t i) ≡ t → isNumber (number .0) ≡ true
       → sendings true (At i) ≡ storing t i (visitSending delay clock number buffer (recordAt t i))
   unfolding steps.sent
-  by-sending i same isOne = rw isOne (chosen (storing t i) (ltb (length buffer) bufferRoom) (refuses (refusal 1))
+  by-sending i same isOne = rw isOne
+      (chosen (storing t i) (ltb (length buffer) bufferRoom) (refuses (refusal 1))
       (decide-of (λ n. made (refusal n) t buffer) (λ s. storing t i (sentStep number buffer it s)) step.Stays (λ n. refuses (refusal n))
-      ((not (steps.delayAllowed delay), 6) ∷ (not (steps.isWaiting (it .notice)), 4) ∷ (not (steps.isDue delay clock (it .notice)), 5) ∷ [])
-      (step.Becomes (steps.withNotice (steps.launched (it .notice)) it))))
+      (sentChecks delay clock it) (step.Becomes (steps.withNotice (steps.launched (it .notice)) it))))
     where
       it : Record
       it = recordAt t i
@@ -296,6 +301,10 @@ module _ (t buffer : List ℕ) (number : FunctionalNumber) (delay clock : ℕ) (
       sending-at Nothing e ∙ rw (or-right (not (isNumber (number .0))) true refl) (chosen (leaving t) (ltb (length buffer) bufferRoom) refl refl)
 
 -- ---- results
+
+-- the checks of the kind and the record
+abbrev resultChecks : ℕ → Record → List (Bool × ℕ)
+resultChecks kind r = (ltb steps.lastKind kind, 3) ∷ (not (steps.isInFlight (r .notice)), 4) ∷ []
 
 module _ (t : List ℕ) (number : FunctionalNumber) (kind clock : ℕ) (sound : tableSound t ≡ true) where
   abbrev results : Bool → Found → Outcome
@@ -322,10 +331,10 @@ module _ (t : List ℕ) (number : FunctionalNumber) (kind clock : ℕ) (sound : 
   by-result : (i : ℕ) → stored t i (recordAt t i) ≡ t → isNumber (number .0) ≡ true
       → results true (At i) ≡ storing t i (visitResult kind clock (recordAt t i))
   unfolding steps.resulted
-  by-result i same isOne = rw isOne (ap (decide (refusing t [] ((ltb steps.lastKind kind, refusal 3) ∷ (not (steps.isInFlight (it .notice)), refusal 4) ∷ [])))
-      (returns i (eqb kind 0) (ltb kind steps.lastKind) (leb steps.mostSendings (steps.sendingsDone (it .notice))) (λ e. rw (eqb-true kind 0 e))) ∙
-      decide-of (λ n. made (refusal n) t []) (λ s. storing t i (resultStep it s)) Refused (λ n. rw same)
-      ((ltb steps.lastKind kind, 3) ∷ (not (steps.isInFlight (it .notice)), 4) ∷ []) _)
+  by-result i same isOne = rw isOne
+      (ap (λ done. decide (refusing t [] (map (answering refusal) (resultChecks kind it))) done)
+      (returns i (eqb kind 0) (ltb kind steps.lastKind) (leb steps.mostSendings (steps.sendingsDone (it .notice))) (λ e. rw (eqb-true kind 0 e)))
+      ∙ decide-of (λ n. made (refusal n) t []) (λ s. storing t i (resultStep it s)) Refused (λ n. rw same) (resultChecks kind it) _)
     where
       it : Record
       it = recordAt t i
