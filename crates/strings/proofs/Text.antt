@@ -11,7 +11,6 @@ use borrow.Author.Tests.{leb-true, eqb-true, lt-ltb, ne-eqb}
 use Rattle.answers.proofs.Tests.{no-path, and-left, and-right, or-cases}
 use Rattle.numbers.specs.Numbers.{isDigit, areDigits, isNumber, digitsOf}
 use Rattle.numbers.proofs.Digits.{digits-are, digits-most}
-use Rattle.numbers.specs.declared.Msisdn.{Msisdn}
 use Rattle.packing.specs.Packing.{taken, takes, octetsFor}
 use Rattle.strings.specs.declared.Operation.{Operation}
 use Rattle.strings.specs.declared.Operation.the-variants.{Register, Erase, Interrogate}
@@ -88,10 +87,11 @@ takes-append [] b p q = q
 takes-append (c ∷ a) b p q = rw (and-left (taken c) (takes a) p) (takes-append a b (and-right (taken c) (takes a) p) q)
 
 -- only an erasure names an MSISDN, and it is a number
-pub forced-number : (o : Operation) (m : Msisdn) → erasingSound o (Forced m) ≡ true → isNumber (m .0) ≡ true
-forced-number Register m h = no-path h
-forced-number Erase m h = h
-forced-number Interrogate m h = no-path h
+pub sound-erasing : (o : Operation) (e : Erasing) → erasingSound o e ≡ true → erasingSound Erase e ≡ true
+sound-erasing o Empty h = refl
+sound-erasing Register (Forced m) h = no-path h
+sound-erasing Erase (Forced m) h = h
+sound-erasing Interrogate (Forced m) h = no-path h
 
 starred-taken : (w : ℕ) → isNumber w ≡ true → takes (starred w) ≡ true
 starred-taken w h = takes-append (digitsOf w) star (additional-taken (digitsOf w) (digits-additional (digitsOf w) (digits-are w h))) (unfold takes taken in refl)
@@ -109,7 +109,7 @@ text-taken f h =
 
     erasing : (e : Erasing) → erasingSound (f .operation) e ≡ true → takes (erasingText e) ≡ true
     erasing Empty k = refl
-    erasing (Forced m) k = starred-taken (m .0) (forced-number (f .operation) m k)
+    erasing (Forced m) k = starred-taken (m .0) (sound-erasing (f .operation) (Forced m) k)
 
 -- ---- its length
 
@@ -125,7 +125,7 @@ text-short f h =
 
     erasing : (e : Erasing) → erasingSound (f .operation) e ≡ true → length (supervisorText e) + length (msisdnText e) ≤ 17
     erasing Empty k = omega arith
-    erasing (Forced m) k = omega (arith, digits-most (m .0) (forced-number (f .operation) m k))
+    erasing (Forced m) k = omega (arith, digits-most (m .0) (sound-erasing (f .operation) (Forced m) k))
 
 pub octets-short : (f : Request) → requestSound f ≡ true → octetsFor (length (textOf f)) ≤ mostOctets
 unfolding octetsFor

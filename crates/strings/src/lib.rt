@@ -5,11 +5,13 @@ use numbers::Msisdn;
 use numbers::NumberRead;
 ghost use mathlib.Core.Path.{_≡_};
 ghost use mathlib.Core.List.{_++_};
-ghost use Prim.Native.Nat.{_<_, _≤_};
+ghost use Prim.Native.Nat.{_+_, _<_, _≤_};
 ghost use lib.ListN.{length};
+ghost use mathlib.Core.Bool.{true};
+ghost use Rattle.numbers.specs.Numbers.{mostDigits, isNumber, digitsOf};
 ghost use Rattle.answers.specs.Writing.{made, wrote};
 ghost use Rattle.answers.specs.declared.Written.the-variants.{Count};
-ghost use Rattle.strings.specs.Text.{isAdditional, operationText, serviceText, star, hash};
+ghost use Rattle.strings.specs.Text.{isAdditional, erasingSound, requestSound, operationText, serviceText, star, hash, supervisorText, msisdnText, textOf, mostCharacters};
 ghost use Rattle.strings.specs.Reader.{begins, forcedAt, erasingAt, leadingAdditional, fieldsOf};
 ghost use Rattle.strings.specs.Outcomes.{told, tell, madeRead, reading};
 ghost use Rattle.strings.specs.Found.{OperationIs, ServiceIs, NumberFieldIs, ErasingIs, AdditionalIs};
@@ -278,6 +280,33 @@ fn put_operation(operation: Operation, out: &mut [u8]) -> usize
     }
 }
 
+// Writes a number's digits and the star.
+fn put_number(word: u64, out: &mut [u8]) -> usize
+    requires { ⌜ isNumber word ≡ true ⌝ }
+    requires { ⌜ mostDigits < length (now out) ⌝ }
+    ensures { λ r. ⌜ made (Count r) (now (out .exit)) ≡ wrote (digitsOf word ++ star) (now (out .entry)) ⌝ }
+{
+    let Written::Count(at) = numbers::write_digits(word, out) else {
+        return 0;
+    };
+    at + put(b"*", &mut out[at..])
+}
+
+// Writes supervisor field and MSISDN to erase, each with its star.
+fn put_erasing(erasing: Erasing, out: &mut [u8]) -> usize
+    requires { ⌜ erasingSound Operation.Erase erasing ≡ true ⌝ }
+    requires { ⌜ 3 + mostDigits < length (now out) ⌝ }
+    ensures { λ r. ⌜ made (Count r) (now (out .exit)) ≡ wrote (supervisorText erasing ++ (star ++ (msisdnText erasing ++ star))) (now (out .entry)) ⌝ }
+{
+    match erasing {
+        Erasing::Empty => put(b"**", out),
+        Erasing::Forced(msisdn) => {
+            let at = put(b"88*", out);
+            at + put_number(msisdn.0, &mut out[at..])
+        }
+    }
+}
+
 // Writes the additional field and `#`.
 fn put_additional(additional: &[u8], out: &mut [u8]) -> usize
     requires { ⌜ length (now additional) < length (now out) ⌝ }
@@ -285,4 +314,16 @@ fn put_additional(additional: &[u8], out: &mut [u8]) -> usize
 {
     let at = put(additional, out);
     at + put(b"#", &mut out[at..])
+}
+
+// Writes the text of sound fields.
+fn write_text(operation: Operation, number: FunctionalNumber, erasing: Erasing, additional: &[u8], text: &mut [u8]) -> usize
+    requires { ⌜ requestSound (record { operation = operation; number = number; erasing = erasing; additional = now additional }) ≡ true ⌝ }
+    requires { ⌜ mostCharacters ≤ length (now text) ⌝ }
+    ensures { λ r. ⌜ made (Count r) (now (text .exit)) ≡ wrote (textOf (record { operation = operation; number = number; erasing = erasing; additional = now (additional .entry) })) (now (text .entry)) ⌝ }
+{
+    let at = put_operation(operation, text);
+    let at = at + put_number(number.0, &mut text[at..]);
+    let at = at + put_erasing(erasing, &mut text[at..]);
+    at + put_additional(additional, &mut text[at..])
 }
