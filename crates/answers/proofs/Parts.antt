@@ -7,6 +7,7 @@ use lib.ListN.{length, take, drop, length-append, length-drop, drop-of-length-le
 use lib.Seq.{take-all, take-at, drop-at, drop-drop}
 use borrow.Rule.Slice.PartMut.{putMid}
 use Rattle.answers.specs.Writing.{Outcome, made, wrote}
+use Rattle.answers.specs.Writing.Said.{count}
 use Rattle.answers.specs.declared.Written.the-variants.{Count}
 use Rattle.answers.proofs.Writing.{wrote-count}
 
@@ -21,6 +22,10 @@ pub count-wrote : (text out new : List ℕ) (n : ℕ) → made (Count n) new ≡
 count-wrote text out new n e =
     let c : n ≡ length text = cc (ap (λ (x : Outcome). x .answer) e) in
     (c, ap (λ (x : Outcome). x .buffer) e ∙ rw (← c))
+
+-- the count alone, where the buffer before need not be written out
+pub count-is : (n : ℕ) (text : List ℕ) {new : List ℕ} {o : Outcome} → made (Count n) new ≡ o → o .answer ≡ count (length text) → n ≡ length text
+count-is n text e a = cc (ap (λ (x : Outcome). x .answer) e)
 
 -- a text stands at the front: where it ends, and the room that is left behind it
 pub record Standing (a old mid : List ℕ) (n : ℕ) : Type 0 where

@@ -111,21 +111,45 @@ text-taken f h =
     erasing Empty k = refl
     erasing (Forced m) k = starred-taken (m .0) (sound-erasing (f .operation) (Forced m) k)
 
--- ---- its length
+-- ---- its length, as it grows
+
+-- what stands before the number, before the fields of an erasure, and before the additional field
+abbrev pub beforeNumber : Request → List ℕ
+beforeNumber f = operationText (f .operation) ++ (serviceText ++ star)
+
+abbrev pub beforeErasing : Request → List ℕ
+beforeErasing f = beforeNumber f ++ starred (f .number .0)
+
+abbrev pub beforeAdditional : Request → List ℕ
+beforeAdditional f = beforeErasing f ++ erasingText (f .erasing)
+
+pub text-grows : (f : Request) → textOf f ≡ beforeAdditional f ++ (f .additional ++ hash)
+unfolding textOf
+text-grows f = simp append-assoc
+
+pub before-number : (f : Request) → length (beforeNumber f) ≡ 6
+before-number f = go (f .operation)
+  where
+    go : (o : Operation) → length (operationText o ++ (serviceText ++ star)) ≡ 6
+    go Register = refl
+    go Erase = refl
+    go Interrogate = refl
+
+pub before-erasing : (f : Request) → requestSound f ≡ true → length (beforeErasing f) ≤ 22
+before-erasing f h =
+    simp (length-append (beforeNumber f), length-append (digitsOf (f .number .0))) (omega (arith, before-number f, digits-most (f .number .0) (sound-rules f h .number)))
+
+pub before-additional : (f : Request) → requestSound f ≡ true → length (beforeAdditional f) ≤ 41
+before-additional f h = simp (length-append (beforeErasing f)) (omega (arith, before-erasing f h, go (f .erasing) (sound-rules f h .erasing)))
+  where
+    go : (e : Erasing) → erasingSound (f .operation) e ≡ true → length (erasingText e) ≤ 19
+    go Empty k = omega arith
+    go (Forced m) k = simp length-append (omega (arith, digits-most (m .0) (sound-erasing (f .operation) (Forced m) k)))
 
 pub text-short : (f : Request) → requestSound f ≡ true → length (textOf f) ≤ mostCharacters
 text-short f h =
-    let r = sound-rules f h in
-    rw (text-fields f) (simp length-append (omega (arith, operation (f .operation), digits-most (f .number .0) (r .number), erasing (f .erasing) (r .erasing), leb-true (length (f .additional)) mostAdditional (r .few))))
-  where
-    operation : (o : Operation) → length (operationText o) ≡ 2
-    operation Register = refl
-    operation Erase = refl
-    operation Interrogate = refl
-
-    erasing : (e : Erasing) → erasingSound (f .operation) e ≡ true → length (supervisorText e) + length (msisdnText e) ≤ 17
-    erasing Empty k = omega arith
-    erasing (Forced m) k = omega (arith, digits-most (m .0) (sound-erasing (f .operation) (Forced m) k))
+    rw (text-grows f, length-append (beforeAdditional f) (f .additional ++ hash), length-append (f .additional) hash)
+    (omega (arith, before-additional f h, leb-true (length (f .additional)) mostAdditional (sound-rules f h .few)))
 
 pub octets-short : (f : Request) → requestSound f ≡ true → octetsFor (length (textOf f)) ≤ mostOctets
 unfolding octetsFor

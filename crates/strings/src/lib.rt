@@ -317,7 +317,13 @@ fn put_additional(additional: &[u8], out: &mut [u8]) -> usize
 }
 
 // Writes the text of sound fields.
-fn write_text(operation: Operation, number: FunctionalNumber, erasing: Erasing, additional: &[u8], text: &mut [u8]) -> usize
+fn write_text(
+    operation: Operation,
+    number: FunctionalNumber,
+    erasing: Erasing,
+    additional: &[u8],
+    text: &mut [u8],
+) -> usize
     requires { ⌜ requestSound (record { operation = operation; number = number; erasing = erasing; additional = now additional }) ≡ true ⌝ }
     requires { ⌜ mostCharacters ≤ length (now text) ⌝ }
     ensures { λ r. ⌜ made (Count r) (now (text .exit)) ≡ wrote (textOf (record { operation = operation; number = number; erasing = erasing; additional = now (additional .entry) })) (now (text .entry)) ⌝ }

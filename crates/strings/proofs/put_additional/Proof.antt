@@ -1,11 +1,9 @@
 -- `strings::put_additional` meets its contract. Assumes nothing.
-use mathlib.Core.Path.{_≡_}
-use mathlib.Core.List.{_++_}
-use lib.ListN.{length-append}
+use mathlib.Core.Path.{_≡_, refl}
 use native.Mathlib.Omega.{arith}
 use borrow.Author.Needs.{needs}
 use Rattle.strings.specs.Text.{hash}
-use Rattle.answers.proofs.Parts.{Standing, standing, count-wrote, wrote-behind}
+use Rattle.answers.proofs.Parts.{Standing, standing, count-is, wrote-behind}
 use Rattle.strings.proofs.put_additional.Statement.{statement}
 use Rattle.strings.proofs.put_additional.Tie as tie
 use Rattle.strings.proofs.put_additional.Reads as reads
@@ -45,8 +43,8 @@ returns c =
 
 add-result : tie.Need-add-result
 add-result c =
-    let a = c .before .before .before .before .before .before .before .before .before .before .before .args in
-    omega (arith, count-wrote (a .additional .now ++ hash) (a .out .now) _ _ (returns c) .0, length-append (a .additional .now) hash)
+    let p = c .before .before .before .before .before .before .before in
+    omega (arith, stood p .count, count-is (c .before .before .put2 .result) hash (c .before .before .put2 .ensures) refl)
 
 same-length : tie.Need-same-length
 same-length c = search needs

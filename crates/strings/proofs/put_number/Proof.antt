@@ -1,15 +1,14 @@
 -- `strings::put_number` meets its contract: a number and room leave the digit writer nothing to refuse. Assumes nothing.
-use mathlib.Core.Path.{_≡_, _∙_}
+use mathlib.Core.Path.{_≡_, refl, _∙_}
 use mathlib.Core.List.{List, [], _∷_, _++_}
 use Prim.Native.Nat.{ℕ}
 use native.Mathlib.Omega.{arith}
-use lib.ListN.{length, length-append, length-take, length-drop}
 use types.Run.{miss}
 use borrow.Author.Needs.{needs}
 use Rattle.answers.specs.Writing.{made, wrote}
 use Rattle.answers.specs.declared.Written.the-variants.{Count}
 use Rattle.answers.proofs.Writing.{all-good}
-use Rattle.answers.proofs.Parts.{Standing, standing, count-wrote, wrote-behind}
+use Rattle.answers.proofs.Parts.{Standing, standing, count-is, wrote-behind}
 use Rattle.numbers.specs.Numbers.{mostDigits, isNumber, digitsOf, writingDigits}
 use Rattle.numbers.proofs.Writing.{written-digits}
 use Rattle.numbers.proofs.Digits.{digits-most}
@@ -83,7 +82,7 @@ add-result : tie.Need-add-result
 add-result c =
     let a = c .before .before .before .before .before .before in
     let s = a .before .before .before .before .before .before .before in
-    omega (arith, count-wrote (digits a ++ star) (s .args .out .now) _ _ (returns-2 c) .0, length-append (digits a) star, digits-most (s .args .word) (s .pre .0))
+    omega (arith, stood a .count, count-is (c .before .before .put .result) star (c .before .before .put .ensures) refl, digits-most (s .args .word) (s .pre .0))
 
 same-length-2 : tie.Need-same-length-2
 same-length-2 c = search needs
