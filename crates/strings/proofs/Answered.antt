@@ -7,14 +7,16 @@ use Prim.Native.Nat.{ℕ, _+_, _-_, _≤_, _<_, min}
 use native.Mathlib.Omega.{arith}
 use lib.ListN.{length, take, drop, length-append, length-take, length-drop}
 use lib.Seq.{take-append-le, drop-append-le}
-use Rattle.answers.specs.Writing.{Outcome}
-use Rattle.packing.specs.Packing.{readable, unpacked}
+use Rattle.answers.specs.Writing.{made, wrote}
+use Rattle.answers.specs.declared.Written.the-variants.{TooShort, Unfit}
+use Rattle.answers.proofs.Writing.{no-room, not-fit, all-good}
+use Rattle.packing.specs.Packing.{packed, readable, unpacked}
 use Rattle.strings.specs.declared.Fields.{Fields}
 use Rattle.strings.specs.declared.Reading.{Reading}
 use Rattle.strings.specs.declared.Reading.the-variants.{Read, Unreadable}
-use Rattle.strings.specs.Text.{Request, textOf, hash}
+use Rattle.strings.specs.Text.{Request, requestSound, textOf}
 use Rattle.strings.specs.Reader.{fieldsOf}
-use Rattle.strings.specs.Outcomes.{Told, requestIn, requestOf, told, tell, madeRead, textBeside, reading}
+use Rattle.strings.specs.Outcomes.{Told, requestIn, requestOf, told, tell, madeRead, textBeside, reading, writerRoom, writingRequest}
 use Rattle.strings.specs.Outcomes.Told.{fields, error}
 use Rattle.strings.proofs.Text.{text-fields}
 use Rattle.strings.proofs.ReadBack.{read-only}
@@ -61,3 +63,18 @@ unfolding reading requestOf
 read os text more r e d t b =
     let a : told r text ≡ tell (unpacked os) (fieldsOf (unpacked os)) = ap (told r) t ∙ told-front (unpacked os) more r d ∙ d in
     rw (a, e, b)
+
+-- ---- the writer's answer
+
+module _ (f : Request) (out : List ℕ) where
+  pub short : length out < writerRoom → made TooShort out ≡ writingRequest f out
+  unfolding writingRequest
+  short h = sym (no-room writerRoom (requestSound f) (packed (textOf f)) out h)
+
+  pub unsound : writerRoom ≤ length out → requestSound f ≡ false → made Unfit out ≡ writingRequest f out
+  unfolding writingRequest
+  unsound h u = sym (not-fit writerRoom (requestSound f) (packed (textOf f)) out h u)
+
+  pub written : writerRoom ≤ length out → requestSound f ≡ true → wrote (packed (textOf f)) out ≡ writingRequest f out
+  unfolding writingRequest
+  written h s = sym (all-good writerRoom (requestSound f) (packed (textOf f)) out h s)

@@ -1,22 +1,28 @@
 -- Sound fields part by part, and their text: field behind field, its characters and its length. Assumes nothing.
 use mathlib.Core.Path.{_≡_, refl, sym, ap, _∙_}
 use mathlib.Core.Logic.{⊎-elim}
-use mathlib.Core.Bool.{Bool, true, false, _&&_, _||_}
+use mathlib.Core.Bool.{Bool, true, false, _&&_, _||_, and-true, and-false}
 use mathlib.Core.List.{List, [], _∷_, _++_, append-assoc}
 use Prim.Native.Nat.{ℕ, _+_, _≤_, _<_}
 use native.Mathlib.Omega.{arith}
 use lib.ListN.{length, length-append}
 use lib.Dec.{leb, eqb}
-use borrow.Author.Tests.{leb-true, eqb-true, lt-ltb, ne-eqb}
+use borrow.Author.Tests.{leb-true, le-leb, lt-leb, eqb-true, lt-ltb, ne-eqb}
+use Rattle.answers.specs.Ascii.{ascii}
 use Rattle.answers.proofs.Tests.{no-path, and-left, and-right, or-cases}
 use Rattle.numbers.specs.Numbers.{isDigit, areDigits, isNumber, digitsOf}
 use Rattle.numbers.proofs.Digits.{digits-are, digits-most}
-use Rattle.packing.specs.Packing.{taken, takes, octetsFor}
+use Rattle.numbers.specs.declared.FunctionalNumber.{FunctionalNumber}
+use Rattle.numbers.specs.declared.Msisdn.{Msisdn}
+use Rattle.packing.specs.Packing.{taken, takes, octetsFor, packed}
+use Rattle.packing.proofs.Laws.{length-packed}
 use Rattle.strings.specs.declared.Operation.{Operation}
 use Rattle.strings.specs.declared.Operation.the-variants.{Register, Erase, Interrogate}
 use Rattle.strings.specs.declared.Erasing.{Erasing}
 use Rattle.strings.specs.declared.Erasing.the-variants.{Empty, Forced}
-use Rattle.strings.specs.Text.{Request, isAdditional, areAdditional, mostAdditional, erasingSound, requestSound, operationText, serviceText, star, hash, supervisorText, msisdnText, textOf, mostCharacters, mostOctets}
+use Rattle.strings.specs.Text.{Request, isAdditional, areAdditional, mostAdditional, erasingSound, requestSound, operationText, serviceText, star, hash, supervisorText, msisdnText, textOf, noticeOf, mostCharacters, mostOctets}
+use Rattle.strings.specs.Reader.{leadingAdditional}
+use Rattle.strings.proofs.Additional.{are-leading}
 use Rattle.strings.proofs.Exact.{starred, erasingText}
 
 -- the rules that sound fields keep, one by one
@@ -45,6 +51,17 @@ sound-rules f h =
 pub rules-sound : (f : Request) → Rules f → requestSound f ≡ true
 unfolding requestSound
 rules-sound f r = rw (r .number, r .erasing, r .few) (r .additional)
+
+-- the tests as the writer makes them
+pub unsound-many : (f : Request) → mostAdditional < length (f .additional) → requestSound f ≡ false
+unfolding requestSound
+unsound-many f h = rw (lt-leb (length (f .additional)) mostAdditional h, and-false)
+
+pub sound-few :
+    (f : Request) → length (f .additional) ≤ mostAdditional
+    → requestSound f ≡ (isNumber (f .number .0) && erasingSound (f .operation) (f .erasing) && eqb (leadingAdditional (f .additional)) (length (f .additional)))
+unfolding requestSound
+sound-few f h = rw (le-leb (length (f .additional)) mostAdditional h, and-true, are-leading)
 
 -- the text, field behind field
 pub text-fields :
@@ -154,3 +171,22 @@ text-short f h =
 pub octets-short : (f : Request) → requestSound f ≡ true → octetsFor (length (textOf f)) ≤ mostOctets
 unfolding octetsFor
 octets-short f h = omega (arith, text-short f h)
+
+-- ---- the notice
+
+pub notice-sound : (n : FunctionalNumber) (s : Msisdn) → isNumber (n .0) ≡ true → isNumber (s .0) ≡ true → requestSound (noticeOf n s) ≡ true
+unfolding requestSound noticeOf areAdditional
+notice-sound n s p q = rw (p, q)
+
+-- `##214*` number `*88*` supervisor `*#`
+pub notice-text : (n : FunctionalNumber) (s : Msisdn) → textOf (noticeOf n s) ≡ ascii "##214*" ++ (digitsOf (n .0) ++ (ascii "*88*" ++ (digitsOf (s .0) ++ ascii "*#")))
+unfolding textOf noticeOf
+notice-text n s = refl
+
+-- at most 42 characters, 37 octets: it fits the 80 octets of a reply
+pub notice-short : (n : FunctionalNumber) (s : Msisdn) → isNumber (n .0) ≡ true → isNumber (s .0) ≡ true → length (textOf (noticeOf n s)) ≤ 42
+notice-short n s p q = rw (notice-text n s) (simp length-append (omega (arith, digits-most (n .0) p, digits-most (s .0) q)))
+
+pub notice-octets : (n : FunctionalNumber) (s : Msisdn) → isNumber (n .0) ≡ true → isNumber (s .0) ≡ true → length (packed (textOf (noticeOf n s))) ≤ 37
+unfolding octetsFor
+notice-octets n s p q = rw (length-packed (textOf (noticeOf n s))) (omega (arith, notice-short n s p q))
