@@ -6,4 +6,5 @@ pub mod Alone
 pub mod Local
 pub mod Holder
 pub mod Demand
+pub mod Finding
 pub mod Examples

@@ -6,3 +6,4 @@ pub mod Run
 pub mod Calls
 pub mod Visits
 pub mod Demand
+pub mod Finding
