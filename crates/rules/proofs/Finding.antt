@@ -1,7 +1,7 @@
 -- Finding returns the lowest due number, and none exactly if none is due. Assumes nothing.
 use mathlib.Core.Path.{_≡_, refl, sym, ap, _∙_}
 use mathlib.Core.Logic.{_↔_, ⊎-elim}
-use mathlib.Core.Bool.{Bool, true, false, cond, not}
+use mathlib.Core.Bool.{Bool, true, false, cond}
 use mathlib.Core.List.{List}
 use Prim.Native.Nat.{ℕ, zero, suc, _+_, _≤_, _<_}
 use native.Mathlib.Omega.{arith}
@@ -36,7 +36,8 @@ module _ (t : List ℕ) (delay clock : ℕ) where
   first zero i = nowhere (λ m l h. absurd (omega arith))
   first (suc n) i = go (due i) refl (first n (suc i))
     where
-      go : (b : Bool) → due i ≡ b → First (suc i) n (firstDue t delay clock n (suc i)) → First i (suc n) (cond b (found (numberAt t i)) (firstDue t delay clock n (suc i)))
+      go : (b : Bool) → due i ≡ b → First (suc i) n (firstDue t delay clock n (suc i))
+          → First i (suc n) (cond b (found (numberAt t i)) (firstDue t delay clock n (suc i)))
       go true e rest = at i (omega arith) (omega arith) e (λ m l h. absurd (omega arith))
       go false e rest = skip i n _ e rest
 
