@@ -16,7 +16,9 @@ use Rattle.rules.specs.Answers.{Answer, refusal, error, made, bufferRoom, Outco
 use Rattle.rules.specs.Requests.{codingScheme, mostStringOctets, refusalChecks, requestChecks, request}
 use Rattle.rules.specs.Notices.{sending, result, finding, firstDue}
 use Rattle.rules.specs.Calls.{anyHolds}
-use Rattle.records.specs.Steps.{delayAllowed}
+use Rattle.rules.specs.Visits.{storing, leaving, sentStep, visitSending, missedSending}
+use Rattle.records.specs.Rows.{recordAt}
+use Rattle.records.specs.Steps.{sent, delayAllowed}
 use Rattle.tables.specs.Tables.{rowsIn}
 
 module _ (table list reply : List ℕ) (requester : Msisdn) (scheme : ℕ) (string : List ℕ) where
@@ -84,6 +86,15 @@ module _ (table buffer : List ℕ) (number : FunctionalNumber) (delay clock : �
     pub sending-7 : tableSound table ≡ true → isNumber (number .0) ≡ false → sending table buffer number delay clock ≡ made (refusal 7) table buffer
     unfolding sending
     sending-7 sound malformed = rw (le-ltb _ _ room, sound, malformed)
+
+-- with room in the buffer, the row's record decides, or the number is missing
+pub passed-visit :
+    (t : List ℕ) (i : ℕ) (b : List ℕ) (number : FunctionalNumber) (delay clock : ℕ) → bufferRoom ≤ length b
+    → storing t i (visitSending delay clock number b (recordAt t i)) ≡ storing t i (sentStep number b (recordAt t i) (sent delay clock (recordAt t i)))
+passed-visit t i b number delay clock room = rw (le-ltb _ _ room)
+
+pub passed-miss : (t b : List ℕ) → bufferRoom ≤ length b → leaving t (missedSending b) ≡ made (refusal 7) t b
+passed-miss t b room = rw (le-ltb _ _ room)
 
 -- ---- results
 

@@ -1,13 +1,21 @@
 -- A step of a row's record, answered and stored; what the record decides, by the operation. Assumes nothing.
 use mathlib.Core.Path.{_≡_, refl, ap}
-use mathlib.Core.Bool.{Bool, true, false, cond}
-use mathlib.Core.List.{List, []}
+use mathlib.Core.Bool.{Bool, true, false, not, cond}
+use mathlib.Core.List.{List, [], _∷_}
 use Prim.Native.Nat.{ℕ}
 use native.Mathlib.Omega.{arith}
 use Rattle.numbers.specs.Numbers.{isNumber}
+use Rattle.numbers.specs.declared.FunctionalNumber.{FunctionalNumber}
 use Rattle.numbers.specs.declared.Msisdn.{Msisdn}
 use Rattle.strings.specs.declared.Operation.the-variants.{Register, Erase, Interrogate}
-use Rattle.strings.specs.Text.{Request}
+use Rattle.strings.specs.Text.{Request, textOf, noticeOf}
+use Rattle.answers.specs.Checks.{decide}
+use Rattle.answers.specs.Writing as writing
+use Rattle.answers.specs.declared.Written.the-variants.{Count}
+use Rattle.packing.specs.Packing.{packed}
+use Rattle.answers.proofs.Writing.{made-one}
+use Rattle.records.specs.declared.Notice.{Notice}
+use Rattle.records.specs.declared.Notice.the-variants.{Absent, Waiting, InFlight}
 use Rattle.records.specs.declared.Record.{Record}
 use Rattle.records.specs.declared.Step.{Step}
 use Rattle.records.specs.declared.Step.the-variants.{Stays, Becomes}
@@ -16,11 +24,11 @@ use Rattle.records.specs.declared.Holder.the-variants as holder
 use Rattle.records.specs.declared.Resulted.{Resulted}
 use Rattle.records.specs.declared.Resulted.the-variants.{Refused, Delivered, Dropped, Again}
 use Rattle.records.specs.Rows.{rowSound, recordSound, recordAt, stored}
-use Rattle.records.specs.Steps.{isNobody, registered, interrogated}
+use Rattle.records.specs.Steps.{isAbsent, isWaiting, isDue, isNobody, withNotice, launched, delayAllowed, registered, interrogated, sent}
 use Rattle.records.proofs.Rows.{words-stored}
-use Rattle.records.proofs.Kept.{holder-number}
-use Rattle.rules.specs.Answers.{Answer, outcome, refusal, delivered, dropped, again, made, over, octetCount, twoDigits}
-use Rattle.rules.specs.Visits.{Visited, visited, storing, stepped, told, erases, decided, resultStep}
+use Rattle.records.proofs.Kept.{holder-number, pending-words}
+use Rattle.rules.specs.Answers.{Answer, outcome, refusal, sent as sends, delivered, dropped, again, made, over, octetCount, twoDigits}
+use Rattle.rules.specs.Visits.{Visited, visited, storing, stepped, told, erases, decided, sentStep, resultStep}
 
 module _ (t : List ℕ) (i k : ℕ) (b after : List ℕ) (said : Answer) (step : Step) where
   pub stays-placed :
@@ -82,3 +90,30 @@ module _ (t : List ℕ) (i : ℕ) (step : Resulted) where
 
     pub result-again : step ≡ Again next → made again new [] ≡ storing t i (resultStep (recordAt t i) step)
     result-again e = rw (e, stores)
+
+-- a notice that is sent has a supervisor
+pub sent-supervisor : (delay clock : ℕ) (r next : Record) → recordSound r ≡ true → sent delay clock r ≡ Becomes next → isNumber (r .supervisor .0) ≡ true
+unfolding sent
+sent-supervisor delay clock r next sound e = pending-words r sound (go (delayAllowed delay) (r .notice) e) .supervised
+  where
+    go : (a : Bool) (n : Notice)
+        → decide ((not a, Stays 6) ∷ (not (isWaiting n), Stays 4) ∷ (not (isDue delay clock n), Stays 5) ∷ []) (Becomes (withNotice (launched n) r)) ≡ Becomes next
+        → isAbsent n ≡ false
+    go false n f = absurd (let z : _≡_ {A = ℕ} 0 1 = cc in omega arith)
+    go true Absent f = absurd (let z : _≡_ {A = ℕ} 0 1 = cc in omega arith)
+    go true (Waiting k s) f = refl
+    go true (InFlight k) f = refl
+
+-- a sending's step, returned and stored
+module _ (t : List ℕ) (i : ℕ) (b : List ℕ) (number : FunctionalNumber) (step : Step) where
+  pub sending-refused : (n : ℕ) → rowSound t i ≡ true → step ≡ Stays n → made (refusal n) t b ≡ storing t i (sentStep number b (recordAt t i) step)
+  sending-refused n sound e = rw (e, words-stored t i sound)
+
+  pub sending-placed :
+      (next r : Record) (new after : List ℕ) (octets : ℕ) → step ≡ Becomes next → r ≡ recordAt t i → new ≡ stored t i next
+      → writing.made (Count octets) after ≡ writing.wrote (packed (textOf (noticeOf number (r .supervisor)))) b
+      → made (sends (r .addressee .0) octets) new after ≡ storing t i (sentStep number b (recordAt t i) step)
+  sending-placed next r new after octets e same stores wrote =
+      let w = made-one (Count octets) (Count (octetCount (textOf (noticeOf number (r .supervisor))))) after (over (textOf (noticeOf number (r .supervisor))) b) wrote refl in
+      let n : octets ≡ octetCount (textOf (noticeOf number (r .supervisor))) = cc (w .0) in
+      rw (e, ← same, stores, w .1, n)

@@ -18,14 +18,14 @@ ghost use Prim.Native.Nat.{_≤_, _<_};
 ghost use lib.ListN.{length};
 ghost use Rattle.packing.specs.Packing.{takes, octetsFor};
 ghost use Rattle.numbers.specs.Numbers.{isNumber};
-ghost use Rattle.records.specs.Steps.{interrogated, isDue};
+ghost use Rattle.records.specs.Steps.{interrogated, sent, isDue};
 ghost use Rattle.records.specs.Rows.{recordAt, rowSound, recordSound};
 ghost use Rattle.tables.specs.Tables.{tableSound, listSound, rowsIn, rowOf, flagsOf};
 ghost use Rattle.rules.specs.Answers.{made, outcome, holder, bufferRoom, over, octetCount, twoDigits, holderText};
 ghost use Rattle.rules.specs.Requests.{isForced, isSupervisor};
 ghost use Rattle.rules.specs.Requests as requests;
 ghost use Rattle.rules.specs.Notices as notices;
-ghost use Rattle.rules.specs.Visits.{visited, storing, stepped, told, erases, decided, visitResult};
+ghost use Rattle.rules.specs.Visits.{visited, storing, stepped, told, erases, decided, sentStep, visitResult};
 ghost use Rattle.node.specs.Asked.{deciding, asked};
 ghost use Rattle.node.specs.Said.{saidRequest, saidSending, saidResult, saidFinding};
 
@@ -245,6 +245,59 @@ pub fn request(
         return RequestAnswer::Error(36);
     };
     ask(table, list, reply, requester, fields)
+}
+
+// A sending of the notice of the record of a row.
+fn send_at(
+    table: &mut [u64],
+    row: usize,
+    buffer: &mut [u8],
+    number: FunctionalNumber,
+    delay: u32,
+    clock: u32,
+) -> SendingAnswer
+    requires { ⌜ (row < rowsIn (now table)) × (rowSound (now table) row ≡ true) ⌝ }
+    requires { ⌜ (isNumber (number .0) ≡ true) × (bufferRoom ≤ length (now buffer)) ⌝ }
+    ensures { λ r. ⌜ made (saidSending r) (now (table .exit)) (now (buffer .exit)) ≡ storing (now (table .entry)) row (sentStep number (now (buffer .entry)) (recordAt (now (table .entry)) row) (sent delay clock (recordAt (now (table .entry)) row))) ⌝ }
+{
+    let held = records::load(table, row);
+    let step = held.send(delay, clock);
+    match step {
+        Step::Stays(n) => SendingAnswer::Refused(n),
+        Step::Becomes(next) => {
+            records::store(table, row, next);
+            let addressee = held.addressee;
+            let supervisor = held.supervisor;
+            let octets = strings::write_notice(number, supervisor, buffer);
+            SendingAnswer::Sent(addressee, octets)
+        }
+    }
+}
+
+// A sending names a number.
+pub fn sending(
+    table: &mut [u64],
+    buffer: &mut [u8],
+    number: FunctionalNumber,
+    delay: u32,
+    clock: u32,
+) -> SendingAnswer
+    ensures { λ r. ⌜ made (saidSending r) (now (table .exit)) (now (buffer .exit)) ≡ notices.sending (now (table .entry)) (now (buffer .entry)) number delay clock ⌝ }
+{
+    if buffer.len() < BUFFER_ROOM {
+        return SendingAnswer::Refused(1);
+    }
+    if !tables::table_sound(table) {
+        return SendingAnswer::Refused(2);
+    }
+    if !numbers::is_number(number.0) {
+        return SendingAnswer::Refused(7);
+    }
+    let found = tables::row_of(table, number);
+    let Found::At(row) = found else {
+        return SendingAnswer::Refused(7);
+    };
+    send_at(table, row, buffer, number, delay, clock)
 }
 
 // The result of a sending, for the notice of the record of a row.
