@@ -8,3 +8,8 @@ pub mod Holder
 pub mod Demand
 pub mod Finding
 pub mod Examples
+pub mod Along
+pub mod NoticeEnds
+pub mod Driver
+pub mod Controller
+pub mod Told
