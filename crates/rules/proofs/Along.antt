@@ -1,6 +1,6 @@
 -- A list of calls, seen from one number: its record before them, what each call got, its record after them; and what a call that visits a record may do to it. Assumes nothing.
 use mathlib.Core.Path.{_≡_, refl, sym, ap, _∙_}
-use mathlib.Core.Bool.{Bool, true, false, cond, not, _&&_, _||_}
+use mathlib.Core.Bool.{Bool, true, false, cond, not, _&&_}
 use mathlib.Core.Option.{Option, none, some}
 use mathlib.Core.List.{List, [], _∷_, map}
 use Prim.Native.Nat.{ℕ}
@@ -16,25 +16,24 @@ use Rattle.strings.specs.declared.Operation.{Operation}
 use Rattle.strings.specs.declared.Operation.the-variants.{Register, Erase, Interrogate}
 use Rattle.strings.specs.declared.Erasing.{Erasing}
 use Rattle.strings.specs.declared.Erasing.the-variants.{Empty, Forced}
-use Rattle.strings.specs.Text.{Request, textOf, noticeOf}
+use Rattle.strings.specs.Text.{Request}
 use Rattle.strings.specs.Outcomes.{requestOf}
 use Rattle.records.specs.declared.Record.{Record}
 use Rattle.records.specs.declared.Step.{Step}
 use Rattle.records.specs.declared.Step.the-variants as step
-use Rattle.records.specs.declared.Resulted.{Resulted}
 use Rattle.records.specs.declared.Holder.the-variants as holds
 use Rattle.records.specs.declared.Resulted.the-variants.{Refused, Delivered, Dropped, Again}
-use Rattle.records.specs.declared.Notice.the-variants.{Absent, Waiting, InFlight}
+use Rattle.records.specs.declared.Notice.the-variants.{Waiting}
 use Rattle.records.specs.Steps as steps
-use Rattle.records.specs.Steps.{nobody, isNobody, same, heldBy, forcedOff, isAbsent, isWaiting, isInFlight, sendingsDone, launched, withNotice, cleared, mostSendings, lastKind, isDue, delayAllowed}
+use Rattle.records.specs.Steps.{nobody, isNobody, same, heldBy, forcedOff, isAbsent, isWaiting, isInFlight, sendingsDone, launched, withNotice, cleared, mostSendings, lastKind}
 use Rattle.tables.specs.Tables.{tableSound, listSound, recordOf, flagsOf}
-use Rattle.rules.specs.Answers.{Answer, refusal, error, outcome, holder, sent, delivered, dropped, again, Outcome, made, refusing, bufferRoom, twoDigits, over, octetCount}
+use Rattle.rules.specs.Answers.{Answer, refusal, delivered, dropped, again, Outcome, made, refusing, bufferRoom}
 use Rattle.rules.specs.Requests as requests
 use Rattle.rules.specs.Notices as notices
 use Rattle.rules.specs.Requests.{hasFollowMe, isSupervisor, isForced, afterErasure}
 use Rattle.rules.specs.Run.{end, log}
 use Rattle.rules.specs.Calls.{Call, request, sending, result, Reply, replied, call, reading, nameOf, names}
-use Rattle.rules.specs.Visits.{Visited, visited, says, stepped, told, erases, decides, decided, sentStep, resultStep, visitRequest, visit, saying, missedRequest, missed}
+use Rattle.rules.specs.Visits.{Visited, visited, says, stepped, told, decides, decided, sentStep, resultStep, visitRequest, visit, saying, missedRequest, missed}
 use Rattle.rules.specs.Pending.{never}
 use Rattle.rules.specs.Demand.{isOutcome}
 use Rattle.rules.proofs.Visits.{AllPass, rightChecks, recordChecks, sentChecks}

@@ -2,7 +2,7 @@
 use mathlib.Core.Path.{_≡_, refl, sym, ap, _∙_}
 use mathlib.Core.Logic.{_⊎_, ⊎-elim}
 use mathlib.Core.Bool.{Bool, true, false, cond, not, _&&_}
-use mathlib.Core.Option.{Option, none, some}
+use mathlib.Core.Option.{some}
 use mathlib.Core.List.{List, [], _∷_}
 use Prim.Native.Nat.{ℕ}
 use native.Mathlib.Omega.{arith}
@@ -14,7 +14,6 @@ use Rattle.numbers.specs.declared.Msisdn.{Msisdn}
 use Rattle.strings.specs.declared.Operation.the-variants.{Register, Erase}
 use Rattle.strings.specs.declared.Erasing.the-variants.{Empty, Forced}
 use Rattle.strings.specs.Text.{Request}
-use Rattle.strings.specs.Outcomes.{requestOf}
 use Rattle.records.specs.declared.Record.{Record}
 use Rattle.records.specs.Steps as steps
 use Rattle.records.specs.Steps.{nobody, isNobody, same, isAbsent, heldBy, forcedOff}
@@ -26,13 +25,13 @@ use Rattle.tables.specs.Tables.{tableSound, rowOf, recordOf, flagsOf}
 use Rattle.tables.proofs.Stored.{record-found, record-missing}
 use Rattle.rules.specs.Answers.{bufferRoom}
 use Rattle.rules.specs.Requests.{hasFollowMe, holderIn, codingScheme, mostStringOctets, afterErasure}
-use Rattle.rules.specs.Calls.{Call, Reply, request, call, nameOf, names}
+use Rattle.rules.specs.Calls.{Call, request, call, nameOf, names}
 use Rattle.rules.specs.Visits.{Visited, says, saying, decided, visit}
 use Rattle.rules.specs.Demand.{isOutcome, holderOf}
 use Rattle.rules.specs.Users.{bothFlags, WellFormed}
 use Rattle.rules.proofs.Visits.{found-sound, call-visits}
 use Rattle.rules.proofs.Sound.{call-keeps, call-own}
-use Rattle.rules.proofs.Along.{Asked, negative, registration, erasure, own, forced, Does, asks, unsent, sends, untaken, clears, goes-on, delivers, drops, along, answered-02, one-same, not-same}
+use Rattle.rules.proofs.Along.{negative, registration, erasure, own, forced, Does, asks, unsent, sends, untaken, clears, goes-on, delivers, drops, along, answered-02, one-same, not-same}
 
 -- a well-formed request names the number in its string
 form-names : (list : List ℕ) (requester : Msisdn) (scheme : ℕ) (string reply : List ℕ) (f : Request) → WellFormed list requester scheme string reply f

@@ -1,28 +1,27 @@
 -- The driver: who holds a number ceases to hold it only by an erasure of her own or by a supervisor who names her, and nobody comes to hold it but by her own registration. Assumes nothing.
 use mathlib.Core.Path.{_≡_, refl, sym, ap, _∙_}
 use mathlib.Core.Logic.{_⊎_, inl, inr, ⊎-elim}
-use mathlib.Core.Bool.{Bool, true, false, not, _&&_, _||_}
-use mathlib.Core.Option.{Option, none, some}
+use mathlib.Core.Bool.{Bool, true, false}
+use mathlib.Core.Option.{Option}
 use mathlib.Core.List.{List, [], _∷_}
-use Prim.Native.Nat.{ℕ, _/_, _%_, _≤_}
+use Prim.Native.Nat.{ℕ}
 use native.Mathlib.Omega.{arith}
-use lib.ListN.{length}
-use lib.Dec.{eqb, ltb}
 use borrow.Author.Tests.{eqb-true, not-false}
 use Rattle.answers.proofs.Tests.{no-path, or-right}
 use Rattle.numbers.specs.declared.Msisdn.{Msisdn}
 use Rattle.records.specs.declared.Record.{Record}
 use Rattle.records.specs.Steps.{nobody, isNobody, same, isAbsent}
-use Rattle.tables.specs.Tables.{tableSound, listSound, recordOf, flagsOf}
-use Rattle.rules.specs.Answers.{bufferRoom}
+use Rattle.tables.specs.Tables.{listSound, recordOf, flagsOf}
 use Rattle.rules.specs.Run.{end, log}
-use Rattle.rules.specs.Requests.{hasFollowMe, isSupervisor, holderIn, noNotice}
-use Rattle.rules.specs.Calls.{Call, Reply, request, sending, result, call, names}
-use Rattle.rules.specs.Visits.{Visited, missed}
+use Rattle.rules.specs.Requests.{refusalChecks, hasFollowMe, isSupervisor, holderIn, noNotice}
+use Rattle.rules.specs.Calls.{Call, Reply, request, call, nameOf, names}
+use Rattle.rules.specs.Visits.{Visited}
 use Rattle.rules.specs.Pending.{never}
 use Rattle.rules.specs.Users.{isRequest, bothFlags, mayEndHold, endsHold, HoldEnded, registers, HoldBegun}
 use Rattle.rules.specs.Demand.{isOutcome, requesterOf, holderOf}
 use Rattle.tables.proofs.Stored.{flags-small}
+use Rattle.rules.proofs.Visits.{all-pass, naming}
+use Rattle.rules.proofs.Local.{named-some}
 use Rattle.rules.proofs.Along.{Asked, negative, registration, erasure, own, forced, Does, asks, unsent, sends, untaken, clears, goes-on, Along, ends, passes, visits, along, word, one-msisdn, same-one, one-same, never-first}
 
 -- ---- what the tests say
@@ -30,18 +29,14 @@ use Rattle.rules.proofs.Along.{Asked, negative, registration, erasure, 
 -- a request that names a number was given a sound list
 named-listed : (list : List ℕ) (k : ℕ) (requester : Msisdn) (scheme : ℕ) (string reply : List ℕ)
     → names list (request requester scheme string reply) k ≡ true → listSound list ≡ true
-named-listed list k requester scheme string reply n = go (listSound list) refl
-  where
-    go : (b : Bool) → listSound list ≡ b → listSound list ≡ true
-    go true e = e
-    go false e = no-path (rw (e, or-right (ltb (length reply) bufferRoom) true refl) at n)
+named-listed list k requester scheme string reply n =
+    let passed = naming list reply requester scheme string k (named-some (nameOf list (request requester scheme string reply)) k n) .passed in
+    not-false _ (all-pass (refusalChecks true list reply requester scheme string) passed .1 .0)
 
+-- "flags 0 to 3: 1 has Follow Me, 2 supervisor"
 both-flags : (list : List ℕ) (msisdn : ℕ) → listSound list ≡ true → hasFollowMe (flagsOf list msisdn) ≡ true → isSupervisor (flagsOf list msisdn) ≡ true
     → flagsOf list msisdn ≡ bothFlags
-both-flags list msisdn sound f s =
-    let h = eqb-true (flagsOf list msisdn % 2) 1 f in
-    let g = eqb-true (flagsOf list msisdn / 2 % 2) 1 s in
-    omega (arith, flags-small list sound msisdn)
+both-flags list msisdn sound f s = omega (arith, eqb-true, flags-small list sound msisdn)
 
 -- ---- one visit
 

@@ -1,12 +1,13 @@
--- "A notice thus ends after at most five sendings, each followed by a result": for one number, over any list of calls from a sound table. Assumes nothing.
-use mathlib.Core.Path.{_≡_, refl, sym, ap, _∙_}
-use mathlib.Core.Bool.{Bool, true, false, cond, not, _&&_}
-use mathlib.Core.Option.{Option, none, some}
+-- "A notice thus ends after at most five sendings, each followed by a result": for one number, over any list of calls. Assumes nothing.
+use mathlib.Core.Path.{_≡_, refl, sym, _∙_}
+use mathlib.Core.Bool.{Bool, true, false, cond}
+use mathlib.Core.Option.{Option, some}
 use mathlib.Core.List.{List, [], _∷_}
-use Prim.Native.Nat.{ℕ, zero, suc, _+_, _-_, _*_, _≤_, _<_}
+use Prim.Native.Nat.{ℕ, zero, suc, _+_, _-_, _≤_, _<_}
 use native.Mathlib.Omega.{arith}
 use lib.ListN.{length}
-use lib.Dec.{eqb, ltb, leb}
+use lib.Dec.{eqb, ltb}
+use Rattle.answers.proofs.Decide.{decide-each}
 use Rattle.answers.proofs.Tests.{no-path, and-right, and-no}
 use Rattle.numbers.specs.declared.Msisdn.{Msisdn}
 use Rattle.records.specs.declared.Notice.{Notice}
@@ -24,8 +25,8 @@ use Rattle.rules.specs.Answers.{refusal, bufferRoom}
 use Rattle.rules.specs.Run.{only, end, log}
 use Rattle.rules.specs.Notices.{noticeIn}
 use Rattle.rules.specs.Calls.{Call, Reply, request, sending, result, call, names}
-use Rattle.rules.specs.Visits.{Visited, missed}
-use Rattle.rules.specs.Pending.{noticeFor, never, at, isSent, isSendingOf, isResultOf, sendingDone, resultTaken, ResultBetween, noticeCleared}
+use Rattle.rules.specs.Visits.{Visited}
+use Rattle.rules.specs.Pending.{noticeFor, never, holdsAt, isSent, isSendingOf, isResultOf, sendingDone, resultTaken, ResultBetween, noticeCleared}
 use Rattle.rules.proofs.Visits.{found-sound}
 use Rattle.rules.proofs.Sound.{end-keeps}
 use Rattle.rules.proofs.Along.{Asked, negative, registration, erasure, own, forced, Does, asks, unsent, sends, untaken, clears, goes-on, delivers, drops, Passed, unnamed, missing, refused, Along, ends, passes, visits, along, never-first}
@@ -81,11 +82,9 @@ module _ (list : List ℕ) (k : ℕ) where
   passed-unsent (sending now number buffer) (unnamed n) = rw n
   passed-unsent (result now number kind) (unnamed n) = refl
   passed-unsent (request requester scheme string reply) missing = refl
-  passed-unsent (sending now number buffer) missing = and-no (eqb (number .0) k) _ (unsent-reply (ltb (length buffer) bufferRoom))
-    where
-      unsent-reply : (b : Bool) → isSent ((cond {A = Reply} b record { answer = refusal 1; buffer = buffer } record { answer = refusal 7; buffer = buffer }) .answer) ≡ false
-      unsent-reply true = refl
-      unsent-reply false = refl
+  passed-unsent (sending now number buffer) missing =
+      and-no (eqb (number .0) k) _ (decide-each (λ (a : Reply). isSent (a .answer) ≡ false)
+      ((ltb (length buffer) bufferRoom, record { answer = refusal 1; buffer = buffer }) ∷ []) (record { answer = refusal 7; buffer = buffer }) (refl, tt) refl)
   passed-unsent (result now number kind) missing = refl
 
   passed-untaken : (c : Call) {a : Reply} → Passed list k c a → resultTaken k (c, a) ≡ false
@@ -97,25 +96,17 @@ module _ (list : List ℕ) (k : ℕ) where
   passed-untaken (sending now number buffer) missing = refl
   passed-untaken (result now number kind) missing = and-no (eqb (number .0) k) false refl
 
-  -- a sending that succeeds leaves the notice in flight
-  sent-flies : {r : Record} {c : Call} {v : Visited} → Does list r c v → sendingDone k (c, v .reply) ≡ true → isInFlight (v .next .notice) ≡ true
+  -- a sending that succeeds finds the notice waiting and leaves it in flight
+  sent-flies : {r : Record} {c : Call} {v : Visited} → Does list r c v → sendingDone k (c, v .reply) ≡ true
+      → (isWaiting (r .notice) ≡ true) × (isInFlight (v .next .notice) ≡ true)
   sent-flies (asks d) s = no-path s
   sent-flies (unsent {number = number}) s = no-path (and-right (eqb (number .0) k) false s)
-  sent-flies {r} (sends w) s = launched-flies (r .notice) w
+  sent-flies {r} (sends w) s = (w, launched-flies (r .notice) w)
   sent-flies untaken s = no-path s
   sent-flies (clears e) s = no-path s
   sent-flies (goes-on p) s = no-path s
 
-  -- a notice in flight is not sent
-  flying-unsent : {r : Record} {c : Call} {v : Visited} → Does list r c v → isInFlight (r .notice) ≡ true → sendingDone k (c, v .reply) ≡ false
-  flying-unsent (asks d) f = refl
-  flying-unsent (unsent {number = number}) f = and-no (eqb (number .0) k) false refl
-  flying-unsent {r} (sends w) f = absurd (not-both (r .notice) w f)
-  flying-unsent untaken f = refl
-  flying-unsent (clears e) f = refl
-  flying-unsent (goes-on p) f = refl
-
-  -- it stays in flight, up to a result that is not refused
+  -- a notice in flight stays in flight, up to a result that is not refused
   flying-on : {r : Record} {c : Call} {v : Visited} → names list c k ≡ true → Does list r c v → isInFlight (r .notice) ≡ true
       → resultTaken k (c, v .reply) ≡ false → isInFlight (v .next .notice) ≡ true
   flying-on {r} n (asks d) f u = rw (asked-keeps d (flies-pending (r .notice) f)) f
@@ -156,11 +147,11 @@ module _ (list : List ℕ) (k : ℕ) where
 
   -- from a notice in flight, behind an entry x: before a sending that succeeds stands a result that is taken
   result-first : {r : Record} {l : List (Call × Reply)} {p : Option Record} → Along list k (some r) l p → isInFlight (r .notice) ≡ true
-      → (x : Call × Reply) (j : ℕ) → at (sendingDone k) l j ≡ true → ResultBetween k (x ∷ l) zero (suc j)
+      → (x : Call × Reply) (j : ℕ) → holdsAt (sendingDone k) l j ≡ true → ResultBetween k (x ∷ l) zero (suc j)
   result-first ends f x j s = no-path s
   result-first (passes {c = c} n rest) f x zero s = no-path (sym (passed-unsent c n) ∙ s)
   result-first (passes n rest) f x (suc j) s = farther (omega arith) (result-first rest f _ j s)
-  result-first (visits n d rest) f x zero s = no-path (sym (flying-unsent d f) ∙ s)
+  result-first {r} (visits n d rest) f x zero s = absurd (not-both (r .notice) (sent-flies d s .0) f)
   result-first (visits {c = c} {v = v} {l = l} n d rest) f x (suc j) s = go (resultTaken k (c, v .reply)) refl (λ f. result-first rest f (c, v .reply) j s)
     where
       go : (b : Bool) → resultTaken k (c, v .reply) ≡ b → (isInFlight (v .next .notice) ≡ true → ResultBetween k ((c, v .reply) ∷ l) zero (suc j))
@@ -169,11 +160,11 @@ module _ (list : List ℕ) (k : ℕ) where
       go false u ih = farther (omega arith) (ih (flying-on n d f u))
 
   result-between : {o p : Option Record} {l : List (Call × Reply)} → Along list k o l p → (i j : ℕ) → i < j
-      → at (sendingDone k) l i ≡ true → at (sendingDone k) l j ≡ true → ResultBetween k l i j
+      → holdsAt (sendingDone k) l i ≡ true → holdsAt (sendingDone k) l j ≡ true → ResultBetween k l i j
   result-between w i zero h s t = absurd (omega arith)
   result-between ends i (suc j) h s t = no-path s
   result-between (passes {c = c} n rest) zero (suc j) h s t = no-path (sym (passed-unsent c n) ∙ s)
-  result-between (visits n d rest) zero (suc j) h s t = result-first rest (sent-flies d s) _ j t
+  result-between (visits n d rest) zero (suc j) h s t = result-first rest (sent-flies d s .1) _ j t
   result-between (passes n rest) (suc i) (suc j) h s t = farther (omega arith) (result-between rest i j (omega arith) s t)
   result-between (visits n d rest) (suc i) (suc j) h s t = farther (omega arith) (result-between rest i j (omega arith) s t)
 
@@ -210,6 +201,11 @@ table-most table k sound = go (rowOf table k) refl
 
 -- ---- the notice ends
 
+-- a result naming k that is not refused, with five sendings done, of whatever kind, leaves k's phase 0
+pub fifth-result-ends : (list : List ℕ) (delay k : ℕ) (c : Call) (table : List ℕ) → sendingsDone (noticeFor table k) ≡ mostSendings
+    → resultTaken k (c, (call list delay c table) .0) ≡ true → noticeFor ((call list delay c table) .1) k ≡ Absent
+fifth-result-ends list delay k c table m u = fifth-ends list k (along list delay k (c ∷ []) table) m u
+
 module _ (list : List ℕ) (delay k : ℕ) (calls : List Call) (table : List ℕ) where
   abbrev got : List (Call × Reply)
   got = log (call list delay) calls table
@@ -218,20 +214,20 @@ module _ (list : List ℕ) (delay k : ℕ) (calls : List Call) (table : List ℕ
   after = end (call list delay) calls table
 
   -- between two sendings of k that succeed stands a result naming k that was not refused
-  pub between-two-sendings : (i j : ℕ) → i < j → at (sendingDone k) got i ≡ true → at (sendingDone k) got j ≡ true
-      → ResultBetween k got i j
+  pub between-two-sendings : (i j : ℕ) → i < j → holdsAt (sendingDone k) got i ≡ true → holdsAt (sendingDone k) got j ≡ true → ResultBetween k got i j
   between-two-sendings = result-between list k (along list delay k calls table)
 
+  -- while k's notice is pending, up to the result that clears it
   module _ (pending : isAbsent (noticeFor table k) ≡ false) (uncleared : never (noticeCleared k) got ≡ true) where
-    -- while k's notice is pending and no result clears it, its phase counts its sendings that succeed
+    -- its phase counts its sendings that succeed
     pub sendings-counted : sendingsDone (noticeFor after k) ≡ sendingsDone (noticeFor table k) + length (only (sendingDone k) got)
     sendings-counted = sendings-add list k (along list delay k calls table) pending uncleared
 
-    -- and of a sound table no more of them succeed than five less those done
+    -- in a sound table no more of them succeed than five less those done
     pub sendings-left : tableSound table ≡ true → length (only (sendingDone k) got) ≤ mostSendings - sendingsDone (noticeFor table k)
     sendings-left sound = omega (arith, sendings-counted, table-most after k (end-keeps list delay calls table sound .sound))
 
--- a result naming k that is not refused, after the fifth sending, of whatever kind, leaves k's phase 0
-pub fifth-result-ends : (list : List ℕ) (delay k : ℕ) (c : Call) (table : List ℕ) → sendingsDone (noticeFor table k) ≡ mostSendings
-    → resultTaken k (c, (call list delay c table) .0) ≡ true → noticeFor ((call list delay c table) .1) k ≡ Absent
-fifth-result-ends list delay k c table m u = fifth-ends list k (along list delay k (c ∷ []) table) m u
+    -- and a result that is taken after the fifth ends it
+    pub ends-after-five : sendingsDone (noticeFor table k) + length (only (sendingDone k) got) ≡ mostSendings
+        → (c : Call) → resultTaken k (c, (call list delay c after) .0) ≡ true → noticeFor ((call list delay c after) .1) k ≡ Absent
+    ends-after-five five c u = fifth-result-ends list delay k c after (sendings-counted ∙ five) u

@@ -1,28 +1,28 @@
 -- The told: who is forced off a number is the addressee of every sending that succeeds, up to the result that clears the notice, and reads the number and the supervisor in it. Assumes nothing.
 use mathlib.Core.Path.{_≡_, refl, sym, ap, _∙_}
-use mathlib.Core.Bool.{Bool, true, false, _&&_}
-use mathlib.Core.Option.{Option, none, some}
+use mathlib.Core.Bool.{true, false}
+use mathlib.Core.Option.{Option, some}
 use mathlib.Core.List.{List, [], _∷_}
 use Prim.Native.Nat.{ℕ, zero, suc}
 use native.Mathlib.Omega.{arith}
-use lib.ListN.{length, getElem?}
+use lib.ListN.{getElem?}
 use lib.Dec.{eqb}
 use Rattle.answers.proofs.Tests.{no-path, and-right}
 use Rattle.numbers.specs.declared.FunctionalNumber.{FunctionalNumber}
 use Rattle.numbers.specs.declared.Msisdn.{Msisdn}
-use Rattle.strings.specs.declared.Erasing.the-variants.{Empty, Forced}
+use Rattle.strings.specs.declared.Erasing.the-variants.{Forced}
 use Rattle.strings.specs.Text.{Request}
 use Rattle.strings.specs.Outcomes.{requestOf}
 use Rattle.records.specs.declared.Record.{Record}
-use Rattle.records.specs.Steps.{same, isAbsent, forcedOff}
+use Rattle.records.specs.Steps.{same, isAbsent}
 use Rattle.tables.specs.Tables.{recordOf}
-use Rattle.rules.specs.Run.{end, log}
+use Rattle.rules.specs.Run.{log}
 use Rattle.rules.specs.Calls.{Call, Reply, request, sending, result, call, names}
 use Rattle.rules.specs.Visits.{Visited}
-use Rattle.rules.specs.Pending.{never, passes as holdsOf, sendingDone, noticeCleared}
+use Rattle.rules.specs.Pending.{never, holdsOf, sendingDone, noticeCleared}
 use Rattle.rules.specs.Users.{telling}
 use Rattle.rules.specs.Demand.{isOutcome}
-use Rattle.rules.proofs.Along.{Asked, negative, registration, erasure, own, forced, Does, asks, unsent, sends, untaken, clears, goes-on, Passed, Along, ends, passes, visits, along, answered-02, same-one, never-first}
+use Rattle.rules.proofs.Along.{Asked, negative, registration, erasure, own, forced, Does, asks, unsent, sends, untaken, clears, goes-on, Along, ends, passes, visits, along, answered-02, same-one, not-same, never-first}
 use Rattle.rules.proofs.NoticeEnds.{passed-unsent, still-pending}
 
 -- a notice to h from s is pending
@@ -78,7 +78,7 @@ module _ (list : List ℕ) (k : ℕ) where
 -- s is not h, and asks for a forced erasure of k naming h, which is answered 02; then come any calls, none of them a result that clears k's notice
 module _ (list : List ℕ) (delay k : ℕ) (table : List ℕ) (h s : Msisdn) (scheme : ℕ) (string reply : List ℕ) (f : Request)
     (named : names list (request s scheme string reply) k ≡ true) (reads : requestOf string ≡ some f) (forces : f .erasing ≡ Forced h)
-    (other : same h s ≡ false) (answered : isOutcome 2 ((call list delay (request s scheme string reply) table) .0 .answer) ≡ true) where
+    (other : s ≡ h → ⊥) (answered : isOutcome 2 ((call list delay (request s scheme string reply) table) .0 .answer) ≡ true) where
   abbrev after : List ℕ
   after = (call list delay (request s scheme string reply) table) .1
 
@@ -88,7 +88,7 @@ module _ (list : List ℕ) (delay k : ℕ) (table : List ℕ) (h s : Msisdn) (sc
       (v .next, e, by-asking d u)
     where
       by-asking : {r : Record} {v : Visited} → Does list r (request s scheme string reply) v → isOutcome 2 (v .reply .answer) ≡ true → Telling h s (v .next)
-      by-asking (asks d) u = forced-tells list k d reads forces other u
+      by-asking (asks d) u = forced-tells list k d reads forces (not-same h s (λ e. other (sym e))) u
 
   -- every sending of k that succeeds tells h of s, whoever holds k meanwhile
   pub holder-is-told : (calls : List Call) → never (noticeCleared k) (log (call list delay) calls after) ≡ true

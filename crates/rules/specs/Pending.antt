@@ -24,13 +24,14 @@ module _ {X : Type 0} where
   never test [] = true
   never test (x ∷ xs) = not (test x) && never test xs
 
-  abbrev pub passes : (X → Bool) → Option X → Bool
-  passes test none = false
-  passes test (some x) = test x
+  -- there is an entry, and it passes the test
+  abbrev pub holdsOf : (X → Bool) → Option X → Bool
+  holdsOf test none = false
+  holdsOf test (some x) = test x
 
-  -- an entry stands at place i, and it passes the test
-  abbrev pub at : (X → Bool) → List X → ℕ → Bool
-  at test xs i = passes test (getElem? xs i)
+  -- such an entry stands at place i
+  abbrev pub holdsAt : (X → Bool) → List X → ℕ → Bool
+  holdsAt test xs i = holdsOf test (getElem? xs i)
 
 -- ---- what a sending or a result was answered
 
@@ -99,7 +100,7 @@ pub record ResultBetween (k : ℕ) (entries : List (Call × Reply)) (i j : ℕ) 
   pub place : ℕ
   pub behind : i < place
   pub before : place < j
-  pub taken : at (resultTaken k) entries place ≡ true
+  pub taken : holdsAt (resultTaken k) entries place ≡ true
 
 -- the result that clears k's notice: a result naming k, answered delivered or dropped
 abbrev pub noticeCleared : ℕ → Call × Reply → Bool
