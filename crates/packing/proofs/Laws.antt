@@ -55,14 +55,6 @@ length-unpacked os = ap length (unpacked-is os) ∙ length-digits 128 (kept os) 
 pub length-unpacked-le : (os : List ℕ) → length (unpacked os) ≤ charsIn (length os)
 length-unpacked-le os = rw length-unpacked (kept-le os)
 
--- every octet that is written is below 256, and every character below 128
-pub packed-below : (cs : List ℕ) → Below 256 (packed cs)
-unfolding packed
-packed-below cs = Below-digits 256 (omega arith) (octetsFor (length cs)) (number 128 (padded cs))
-
-pub unpacked-below : (os : List ℕ) → Below 128 (unpacked os)
-unpacked-below os = rw unpacked-is (Below-digits 128 (omega arith) (kept os) (number 256 os))
-
 -- ---- which characters the packer takes
 
 -- a turn of the test, and its end

@@ -59,7 +59,7 @@ const MOST_SENDINGS: u8 = 5;
 const LAST_KIND: u32 = 5;
 
 // "Even 2k (2 to 10): in flight, k done".
-const LAST_PHASE: u64 = 10;
+const LAST_PHASE: u64 = 2 * (MOST_SENDINGS as u64);
 
 // "The last word is below 2^32".
 const SECONDS: u64 = 4294967296;

@@ -112,7 +112,7 @@ number-exact = record { back = back; only = only }
 -- ---- supervisor field and MSISDN to erase, each with its star
 
 pub erasing-exact : (o : Operation) → Exact (erasingAt o) erasingText (erasingSound o)
-unfolding begins erasingAt
+unfolding begins forcedAt erasingAt
 erasing-exact o = record { back = back o; only = only }
   where
     back : (o : Operation) (e : Erasing) (s : List ℕ) → erasingSound o e ≡ true → erasingAt o (erasingText e ++ s) ≡ some (record { got = e; rest = s })

@@ -10,7 +10,7 @@ use Rattle.packing.specs.Packing.{number, digits, octetsFor, charsIn, padded, p
 use Rattle.strings.specs.declared.Operation.the-variants.{Register}
 use Rattle.strings.specs.declared.Erasing.the-variants.{Empty}
 use Rattle.strings.specs.Text.{Request, isAdditional, textOf}
-use Rattle.strings.specs.Reader.{begins, operationAt, serviceAt, numberFieldAt, erasingAt, leadingAdditional, additionalAt, fieldsOf}
+use Rattle.strings.specs.Reader.{begins, operationAt, serviceAt, numberFieldAt, forcedAt, erasingAt, leadingAdditional, additionalAt, fieldsOf}
 use Rattle.strings.specs.Outcomes.{requestOf, Told, reading, tell}
 use Rattle.strings.specs.Outcomes.Told.{error}
 
@@ -24,7 +24,7 @@ registering w = record { operation = Register; number = record { 0 = w }; erasin
 
 -- "P12 `**214*0492123401*88**#`: 36"
 pub P12 : said (ascii "**214*0492123401*88**#") ≡ error 36
-unfolding reading requestOf fieldsOf begins operationAt serviceAt numberFieldAt erasingAt leadingAdditional additionalAt isAdditional isDigit pushed stored leadingDigits numberAt number digits octetsFor charsIn padded packed characters readable filled kept unpacked
+unfolding reading requestOf fieldsOf begins operationAt serviceAt numberFieldAt forcedAt erasingAt leadingAdditional additionalAt isAdditional isDigit pushed stored leadingDigits numberAt number digits octetsFor charsIn padded packed characters readable filled kept unpacked
 P12 = refl
 
 -- "Registering a 13-digit number takes 23 characters, 21 octets ending in a carriage return; 14 digits take 24 and 21"

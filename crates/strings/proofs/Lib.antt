@@ -5,6 +5,9 @@ pub mod Exact
 pub mod Additional
 pub mod Text
 pub mod ReadBack
+pub mod Octets
+pub mod Answered
+pub mod Steps
 pub mod Cursor
 pub mod Copying
 pub mod Examples

@@ -96,7 +96,7 @@ forced-number Interrogate m h = no-path h
 starred-taken : (w : ℕ) → isNumber w ≡ true → takes (starred w) ≡ true
 starred-taken w h = takes-append (digitsOf w) star (additional-taken (digitsOf w) (digits-additional (digitsOf w) (digits-are w h))) (unfold takes taken in refl)
 
-text-taken : (f : Request) → requestSound f ≡ true → takes (textOf f) ≡ true
+pub text-taken : (f : Request) → requestSound f ≡ true → takes (textOf f) ≡ true
 unfolding takes taken
 text-taken f h =
     let r = sound-rules f h in

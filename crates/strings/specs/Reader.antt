@@ -59,7 +59,7 @@ unfoldable pub numberFieldAt : List ℕ → Option (Field ℕ)
 numberFieldAt s = starredNumber s (numberAt s)
 
 -- `88`, a star, the MSISDN to erase and its star: behind `##` only
-abbrev pub forcedAt : Operation → List ℕ → Option (Field Erasing)
+unfoldable pub forcedAt : Operation → List ℕ → Option (Field Erasing)
 forcedAt Register s = none
 forcedAt Erase s = do
   rest ← behind (ascii "88" ++ star) s

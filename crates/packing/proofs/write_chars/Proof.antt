@@ -13,8 +13,6 @@ use Rattle.packing.proofs.Moving.{Moved, nothing-moved, take-in, put-ou
 use Rattle.packing.proofs.Laws.{chars-count, kept-le, unpacked-is}
 use Rattle.packing.proofs.write_chars.Statement.{statement}
 use Rattle.packing.proofs.write_chars.Tie as tie
-use Rattle.packing.proofs.write_chars.Reads as reads
-use Rattle.packing.proofs.write_chars.Lts as lts
 
 -- what holds at the head of the loop, and what where a character is written
 record State (n low : ℕ) (os old new : List ℕ) (i j held bits : ℕ) : Type 0 where

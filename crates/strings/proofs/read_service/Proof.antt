@@ -16,7 +16,7 @@ returns : tie.Need-returns
 unfolding serviceAt
 returns c =
     let t = sym (c .before .begins-with .ensures) ∙ c .if1 .taken in
-    (begins-within _ _ t, rw t)
+    record { within = begins-within _ _ t; found = rw t }
 
 returns-2 : tie.Need-returns-2
 unfolding serviceAt

@@ -1,6 +1,5 @@
 use borrow.Author.Tests.{eq-eqb, ne-eqb}
 use Rattle.records.specs.Steps.{interrogated}
-use borrow.Author.Needs.{needs}
 use Rattle.records.proofs.Record.interrogate.Statement.{statement}
 use Rattle.records.proofs.Record.interrogate.Tie as tie
 
