@@ -264,8 +264,8 @@ fn send_at(
     let step = held.send(delay, clock);
     match step {
         Step::Stays(n) => SendingAnswer::Refused(n),
-        Step::Becomes(next) => {
-            records::store(table, row, next);
+        Step::Becomes(launched) => {
+            records::store(table, row, launched);
             let addressee = held.addressee;
             let supervisor = held.supervisor;
             let octets = strings::write_notice(number, supervisor, buffer);
