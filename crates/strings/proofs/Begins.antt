@@ -12,11 +12,6 @@ use borrow.Author.Tests.{eqb-true, eq-eqb, ne-eqb}
 use Rattle.answers.proofs.Tests.{no-path, and-left, and-right, and-no}
 use Rattle.strings.specs.Reader.{begins}
 
-pub begins-text : (p s : List ℕ) → begins p (p ++ s) ≡ true
-unfolding begins
-begins-text [] s = refl
-begins-text (c ∷ p) s = rw (eq-eqb c c refl) (begins-text p s)
-
 pub begins-only : (p s : List ℕ) → begins p s ≡ true → s ≡ p ++ drop (length p) s
 unfolding begins
 begins-only [] s e = refl

@@ -14,14 +14,14 @@ use Rattle.answers.proofs.Checks.{not-some, bind-some, onlyIf-some}
 use Rattle.numbers.specs.Numbers.{isDigit, isNumber, digitsOf, numberAt}
 use Rattle.numbers.specs.declared.NumberRead.{NumberRead}
 use Rattle.numbers.specs.declared.NumberRead.the-variants.{Number, Unreadable}
+use Rattle.numbers.proofs.Reading.{number-read-before, read-from}
 use Rattle.strings.specs.declared.Operation.{Operation}
 use Rattle.strings.specs.declared.Operation.the-variants.{Register, Erase, Interrogate}
 use Rattle.strings.specs.declared.Erasing.{Erasing}
 use Rattle.strings.specs.declared.Erasing.the-variants.{Empty, Forced}
-use Rattle.numbers.proofs.Reading.{number-read-before, read-from}
-use Rattle.strings.proofs.Begins.{begins-text, begins-only}
 use Rattle.strings.specs.Text.{operationText, serviceText, star, supervisorText, msisdnText, mayForce, erasingSound}
 use Rattle.strings.specs.Reader.{Field, begins, behind, fieldAt, orElse, operationAt, serviceAt, starredNumber, numberFieldAt, forcedAt, erasingAt}
+use Rattle.strings.proofs.Begins.{begins-only}
 
 -- a reader reads exactly the texts of what is sound, whatever stands behind them
 pub record Exact {X : Type 0} (reader : List ℕ → Option (Field X)) (text : X → List ℕ) (sound : X → Bool) : Type 0 where
@@ -36,9 +36,6 @@ behind-only p s e =
     begins-only p s (d .0) ∙ ap (λ (l : List ℕ). p ++ l) (d .1)
 
 module _ {X : Type 0} where
-  field-text : (x : X) (p s : List ℕ) → fieldAt x p (p ++ s) ≡ some (record { got = x; rest = s })
-  field-text x p s = rw (begins-text p s, drop-append-seam p s)
-
   field-only : (x : X) (p s : List ℕ) {f : Field X} → fieldAt x p s ≡ some f → (x ≡ f .got) × (s ≡ p ++ f .rest)
   field-only x p s e =
       let d = onlyIf-some (begins p s) e in
@@ -83,10 +80,6 @@ service-only s e = behind-only (serviceText ++ star) s e
 abbrev pub starred : ℕ → List ℕ
 starred w = digitsOf w ++ star
 
--- both fields of an erasure, each with its star
-abbrev pub erasingText : Erasing → List ℕ
-erasingText e = supervisorText e ++ (star ++ (msisdnText e ++ star))
-
 pub number-exact : Exact numberFieldAt starred isNumber
 unfolding begins numberFieldAt
 number-exact = record { back = back; only = only }
@@ -107,6 +100,9 @@ number-exact = record { back = back; only = only }
         go Unreadable r d = not-some d
 
 -- ---- supervisor field and MSISDN to erase, each with its star
+
+abbrev pub erasingText : Erasing → List ℕ
+erasingText e = supervisorText e ++ (star ++ (msisdnText e ++ star))
 
 pub erasing-exact : (o : Operation) → Exact (erasingAt o) erasingText (erasingSound o)
 unfolding begins forcedAt erasingAt
