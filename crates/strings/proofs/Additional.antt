@@ -10,7 +10,7 @@ use lib.ListN.{length, getD, take, drop, take-append-drop, length-append, length
 use lib.Seq.{drop-cons, length-take-le, drop-append-seam, take-append-seam}
 use lib.Dec.{leb, eqb, eqb·suc-suc, eqb·zero-suc}
 use borrow.Author.Tests.{eqb-true, eq-eqb, ne-eqb, le-leb, lt-leb}
-use Rattle.answers.proofs.Tests.{and-left, and-right, and-both}
+use Rattle.answers.proofs.Tests.{and-left, and-right}
 use Rattle.answers.proofs.Checks.{onlyIf-some}
 use Rattle.numbers.specs.Numbers.{isDigit}
 use Rattle.strings.specs.Text.{isAdditional, areAdditional, mostAdditional, hash}

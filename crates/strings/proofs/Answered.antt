@@ -3,9 +3,9 @@ use mathlib.Core.Path.{_≡_, refl, sym, ap, _∙_}
 use mathlib.Core.Bool.{true, false}
 use mathlib.Core.Option.{Option, none, some}
 use mathlib.Core.List.{List, _++_}
-use Prim.Native.Nat.{ℕ, _+_, _-_, _≤_, _<_, min}
+use Prim.Native.Nat.{ℕ, _+_, _-_, _≤_, _<_}
 use native.Mathlib.Omega.{arith}
-use lib.ListN.{length, take, drop, length-append, length-take, length-drop}
+use lib.ListN.{length, drop, length-append, length-take, length-drop}
 use lib.Seq.{take-append-le, drop-append-le}
 use Rattle.answers.specs.Writing.{made, wrote}
 use Rattle.answers.specs.declared.Written.the-variants.{TooShort, Unfit}
@@ -16,7 +16,7 @@ use Rattle.strings.specs.declared.Reading.{Reading}
 use Rattle.strings.specs.declared.Reading.the-variants.{Read, Unreadable}
 use Rattle.strings.specs.Text.{Request, requestSound, textOf}
 use Rattle.strings.specs.Reader.{fieldsOf}
-use Rattle.strings.specs.Outcomes.{Told, requestIn, requestOf, told, tell, madeRead, textBeside, reading, writerRoom, writingRequest}
+use Rattle.strings.specs.Outcomes.{requestIn, requestOf, told, tell, madeRead, textBeside, reading, writerRoom, writingRequest}
 use Rattle.strings.specs.Outcomes.Told.{fields, error}
 use Rattle.strings.proofs.Text.{text-fields}
 use Rattle.strings.proofs.ReadBack.{read-only}

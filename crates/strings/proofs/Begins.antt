@@ -2,7 +2,7 @@
 use mathlib.Core.Path.{_≡_, refl, sym, ap, _∙_}
 use mathlib.Core.Bool.{true, false, _&&_}
 use mathlib.Core.List.{List, [], _∷_, _++_}
-use Prim.Native.Nat.{ℕ, suc, _+_, _≤_, _<_}
+use Prim.Native.Nat.{ℕ, _+_, _≤_, _<_}
 use native.Mathlib.Numerals.{add-one}
 use native.Mathlib.Omega.{arith}
 use lib.ListN.{length, getD, drop, length-append, drop-of-length-le}
@@ -11,11 +11,6 @@ use lib.Dec.{eqb}
 use borrow.Author.Tests.{eqb-true, eq-eqb, ne-eqb}
 use Rattle.answers.proofs.Tests.{no-path, and-left, and-right, and-no}
 use Rattle.strings.specs.Reader.{begins}
-
-pub begins-text : (p s : List ℕ) → begins p (p ++ s) ≡ true
-unfolding begins
-begins-text [] s = refl
-begins-text (c ∷ p) s = rw (eq-eqb c c refl) (begins-text p s)
 
 pub begins-only : (p s : List ℕ) → begins p s ≡ true → s ≡ p ++ drop (length p) s
 unfolding begins

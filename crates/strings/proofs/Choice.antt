@@ -2,8 +2,8 @@
 use mathlib.Core.Path.{_≡_, refl, sym, ap, _∙_}
 use mathlib.Core.Logic.{⊎-elim}
 use mathlib.Core.Option.{Option, none, some}
-use mathlib.Core.List.{List, _++_}
-use Prim.Native.Nat.{ℕ, _+_, _≤_}
+use mathlib.Core.List.{List}
+use Prim.Native.Nat.{ℕ, _≤_}
 use native.Mathlib.Omega.{arith}
 use lib.ListN.{length, drop, replicate, length-append}
 use Rattle.answers.specs.Writing.{Outcome, made, wrote}
@@ -21,7 +21,7 @@ use Rattle.strings.specs.declared.Reading.{Reading}
 use Rattle.strings.specs.declared.Reading.the-variants.{Read, Unreadable}
 use Rattle.strings.specs.declared.ReadRequest.{ReadRequest}
 use Rattle.strings.specs.Text.{Request, textOf, noticeOf, mostCharacters}
-use Rattle.strings.specs.Outcomes.{requestOf, Told, requestIn, told, ReadOutcome, madeRead, tell, textBeside, reading, writingRequest}
+use Rattle.strings.specs.Outcomes.{requestOf, requestIn, told, ReadOutcome, madeRead, tell, textBeside, reading, writingRequest}
 use Rattle.strings.proofs.ReadBack.{read-only}
 use Rattle.strings.proofs.Octets.{request-reads, too-long}
 use Rattle.strings.proofs.Answered.{not-error, told-place}

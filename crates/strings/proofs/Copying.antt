@@ -1,11 +1,11 @@
 -- Characters copied into a buffer, one after the other. Assumes nothing.
-use mathlib.Core.Path.{_≡_, refl, sym, ap, _∙_}
-use mathlib.Core.List.{List, [], _∷_, _++_, append-assoc}
+use mathlib.Core.Path.{_≡_, sym, _∙_}
+use mathlib.Core.List.{List, _++_}
 use Prim.Native.Nat.{ℕ, suc, _+_, _≤_, _<_}
 use native.Mathlib.Numerals.{add-one}
 use native.Mathlib.Omega.{arith}
-use lib.ListN.{length, getD, take, drop, set, length-append}
-use lib.Seq.{length-take-le, take-suc, drop-cons, append-snoc, set-at, take-at, drop-at, take-all, drop-drop}
+use lib.ListN.{length, getD, take, drop, set}
+use lib.Seq.{length-take-le, take-suc, drop-cons, append-snoc, set-at, take-all}
 use Rattle.answers.specs.Writing.{made, wrote}
 use Rattle.answers.specs.declared.Written.the-variants.{Count}
 use Rattle.answers.proofs.Writing.{wrote-count}

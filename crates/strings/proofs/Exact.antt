@@ -1,30 +1,27 @@
 -- Each field's reader reads exactly the texts of its field, whatever stands behind them. Assumes nothing.
 use mathlib.Core.Path.{_≡_, refl, sym, ap, _∙_}
 use mathlib.Core.Logic.{_⊎_, inl, inr, ⊎-elim}
-use mathlib.Core.Bool.{Bool, true, false, _&&_}
+use mathlib.Core.Bool.{Bool, true}
 use mathlib.Core.Option.{Option, none, some, Option·some-injective}
-use mathlib.Core.List.{List, [], _∷_, _++_, append-assoc}
-use Prim.Native.Nat.{ℕ, suc, _+_, _≤_}
-use native.Mathlib.Omega.{arith}
-use lib.ListN.{length, take, drop}
+use mathlib.Core.List.{List, _∷_, _++_, append-assoc}
+use Prim.Native.Nat.{ℕ}
+use lib.ListN.{drop}
 use lib.Seq.{drop-append-seam}
-use lib.Dec.{eqb}
-use borrow.Author.Tests.{eqb-true, eq-eqb}
 use Rattle.answers.specs.Ascii.{ascii}
-use Rattle.answers.specs.Checks.{_>>=_, onlyIf}
-use Rattle.answers.proofs.Tests.{no-path, and-left, and-right}
+use Rattle.answers.specs.Checks.{onlyIf}
+use Rattle.answers.proofs.Tests.{and-left, and-right, and-both}
 use Rattle.answers.proofs.Checks.{not-some, bind-some, onlyIf-some}
 use Rattle.numbers.specs.Numbers.{isDigit, isNumber, digitsOf, numberAt}
 use Rattle.numbers.specs.declared.NumberRead.{NumberRead}
 use Rattle.numbers.specs.declared.NumberRead.the-variants.{Number, Unreadable}
+use Rattle.numbers.proofs.Reading.{number-read-before, read-from}
 use Rattle.strings.specs.declared.Operation.{Operation}
 use Rattle.strings.specs.declared.Operation.the-variants.{Register, Erase, Interrogate}
 use Rattle.strings.specs.declared.Erasing.{Erasing}
 use Rattle.strings.specs.declared.Erasing.the-variants.{Empty, Forced}
-use Rattle.numbers.proofs.Reading.{number-read-before, read-from}
-use Rattle.strings.proofs.Begins.{begins-text, begins-only}
-use Rattle.strings.specs.Text.{operationText, serviceText, star, hash, supervisorText, msisdnText, erasingSound}
+use Rattle.strings.specs.Text.{operationText, serviceText, star, supervisorText, msisdnText, mayForce, erasingSound}
 use Rattle.strings.specs.Reader.{Field, begins, behind, fieldAt, orElse, operationAt, serviceAt, starredNumber, numberFieldAt, forcedAt, erasingAt}
+use Rattle.strings.proofs.Begins.{begins-only}
 
 -- a reader reads exactly the texts of what is sound, whatever stands behind them
 pub record Exact {X : Type 0} (reader : List ℕ → Option (Field X)) (text : X → List ℕ) (sound : X → Bool) : Type 0 where
@@ -39,9 +36,6 @@ behind-only p s e =
     begins-only p s (d .0) ∙ ap (λ (l : List ℕ). p ++ l) (d .1)
 
 module _ {X : Type 0} where
-  field-text : (x : X) (p s : List ℕ) → fieldAt x p (p ++ s) ≡ some (record { got = x; rest = s })
-  field-text x p s = rw (begins-text p s, drop-append-seam p s)
-
   field-only : (x : X) (p s : List ℕ) {f : Field X} → fieldAt x p s ≡ some f → (x ≡ f .got) × (s ≡ p ++ f .rest)
   field-only x p s e =
       let d = onlyIf-some (begins p s) e in
@@ -86,10 +80,6 @@ service-only s e = behind-only (serviceText ++ star) s e
 abbrev pub starred : ℕ → List ℕ
 starred w = digitsOf w ++ star
 
--- both fields of an erasure, each with its star
-abbrev pub erasingText : Erasing → List ℕ
-erasingText e = supervisorText e ++ (star ++ (msisdnText e ++ star))
-
 pub number-exact : Exact numberFieldAt starred isNumber
 unfolding begins numberFieldAt
 number-exact = record { back = back; only = only }
@@ -111,27 +101,29 @@ number-exact = record { back = back; only = only }
 
 -- ---- supervisor field and MSISDN to erase, each with its star
 
+abbrev pub erasingText : Erasing → List ℕ
+erasingText e = supervisorText e ++ (star ++ (msisdnText e ++ star))
+
 pub erasing-exact : (o : Operation) → Exact (erasingAt o) erasingText (erasingSound o)
 unfolding begins forcedAt erasingAt
-erasing-exact o = record { back = back o; only = only }
+erasing-exact o = record { back = back; only = only }
   where
-    back : (o : Operation) (e : Erasing) (s : List ℕ) → erasingSound o e ≡ true → erasingAt o (erasingText e ++ s) ≡ some (record { got = e; rest = s })
-    back o Empty s h = refl
-    back Register (Forced m) s h = no-path h
-    back Erase (Forced m) s h = rw (number-exact .back (m .0) s h)
-    back Interrogate (Forced m) s h = no-path h
+    back : (e : Erasing) (s : List ℕ) → erasingSound o e ≡ true → erasingAt o (erasingText e ++ s) ≡ some (record { got = e; rest = s })
+    back Empty s h = refl
+    back (Forced m) s h = rw (and-left (mayForce o) (isNumber (m .0)) h, number-exact .back (m .0) s (and-right (mayForce o) (isNumber (m .0)) h))
 
-    forced : (o : Operation) (s : List ℕ) {f : Field Erasing} → forcedAt o s ≡ some f → (erasingSound o (f .got) ≡ true) × (s ≡ erasingText (f .got) ++ f .rest)
-    forced Register s h = not-some h
-    forced Erase s h =
-        bind-some (behind (ascii "88" ++ star) s) _ h λ rest p q.
+    forced : (s : List ℕ) {f : Field Erasing} → forcedAt o s ≡ some f → (erasingSound o (f .got) ≡ true) × (s ≡ erasingText (f .got) ++ f .rest)
+    forced s h =
+        bind-some (onlyIf (mayForce o) s) _ h λ part d g.
+        bind-some (behind (ascii "88" ++ star) part) _ g λ rest p q.
         bind-some (numberFieldAt rest) _ q λ n r e.
         let k = number-exact .only rest r in
-        rw (← (Option·some-injective _ _ e)) (k .0, behind-only (ascii "88" ++ star) s p ∙ ap (λ (l : List ℕ). (ascii "88" ++ star) ++ l) (k .1))
-    forced Interrogate s h = not-some h
+        let w = onlyIf-some (mayForce o) d in
+        rw (← (Option·some-injective _ _ e))
+        (and-both (mayForce o) (isNumber (n .got)) (w .0) (k .0), w .1 ∙ behind-only (ascii "88" ++ star) part p ∙ ap (λ (l : List ℕ). (ascii "88" ++ star) ++ l) (k .1))
 
     only : (s : List ℕ) {f : Field Erasing} → erasingAt o s ≡ some f → (erasingSound o (f .got) ≡ true) × (s ≡ erasingText (f .got) ++ f .rest)
-    only s {f} h = ⊎-elim empty (forced o s) (else-some _ _ h)
+    only s {f} h = ⊎-elim empty (forced s) (else-some _ _ h)
       where
         empty : fieldAt Empty (star ++ star) s ≡ some f → (erasingSound o (f .got) ≡ true) × (s ≡ erasingText (f .got) ++ f .rest)
         empty d = let k = field-only Empty (star ++ star) s d in rw (← (k .0)) (refl, k .1)

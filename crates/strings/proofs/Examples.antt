@@ -36,6 +36,11 @@ pub P12 : toldOf (ascii "**214*0492123401*88**#") ≡ error 36
 unfolding toldOf
 P12 = refl
 
+-- "with `##` only": a registration names no MSISDN
+pub not-by-force : toldOf (ascii "**214*0492123401*88*4915100001*#") ≡ error 36
+unfolding toldOf
+not-by-force = refl
+
 -- "Registering a 13-digit number takes 23 characters, 21 octets ending in a carriage return"
 pub thirteen-digits : (length (textFor 11234567890123) ≡ 23) × (length (octetsOf (textFor 11234567890123)) ≡ 21) × (getD (octetsOf (textFor 11234567890123)) 20 0 / 2 ≡ 13)
 unfolding textFor octetsOf

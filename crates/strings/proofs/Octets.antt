@@ -1,24 +1,24 @@
 -- The packed string: it reads exactly if it is the packed text of sound fields, and then it has at most 63 octets. Assumes nothing.
 use mathlib.Core.Path.{_≡_, refl, sym, ap, _∙_}
 use mathlib.Core.Logic.{⊎-elim}
-use mathlib.Core.Bool.{Bool, true, false, cond, _&&_}
+use mathlib.Core.Bool.{Bool, true, false, cond}
 use mathlib.Core.Option.{Option, none, some}
 use mathlib.Core.List.{List}
-use Prim.Native.Nat.{ℕ, _+_, _-_, _/_, _%_, _≤_, _<_}
+use Prim.Native.Nat.{ℕ, _-_, _%_, _≤_, _<_}
 use native.Mathlib.Omega.{arith}
 use lib.ListN.{length, getD}
 use lib.Dec.{eqb}
 use borrow.Author.Tests.{eqb-true}
 use Rattle.answers.proofs.Tests.{less-or-not, and-left}
 use Rattle.answers.proofs.Checks.{not-some}
-use Rattle.packing.specs.Packing.{charsIn, octetsFor, packed, readable, filled, kept, characters, unpacked}
+use Rattle.packing.specs.Packing.{charsIn, packed, readable, filled, characters, unpacked}
 use Rattle.packing.proofs.Digits.{Below}
-use Rattle.packing.proofs.Laws.{chars-count, length-packed, length-unpacked, kept-less, kept-all}
+use Rattle.packing.proofs.Laws.{chars-count, length-unpacked, kept-less, kept-all}
 use Rattle.packing.proofs.RoundTrip.{packed-reads, unpacked-packed, packed-unpacked}
 use Rattle.strings.specs.Text.{Request, requestSound, textOf, mostCharacters, mostOctets}
 use Rattle.strings.specs.Reader.{fieldsOf}
 use Rattle.strings.specs.Outcomes.{requestOf}
-use Rattle.strings.proofs.Text.{text-taken, text-short, octets-short}
+use Rattle.strings.proofs.Text.{text-taken, text-short}
 use Rattle.strings.proofs.ReadBack.{read-back, read-only}
 
 -- what reads has readable bits, and its characters read

@@ -1,8 +1,8 @@
 -- A string reads exactly if it is the text of sound fields, and then as those fields. Assumes nothing.
 use mathlib.Core.Path.{_≡_, refl, sym, ap, _∙_}
 use mathlib.Core.Logic.{_↔_}
-use mathlib.Core.Bool.{true, false}
-use mathlib.Core.Option.{Option, some, Option·some-injective}
+use mathlib.Core.Bool.{true}
+use mathlib.Core.Option.{some, Option·some-injective}
 use mathlib.Core.List.{List}
 use Prim.Native.Nat.{ℕ}
 use Rattle.answers.proofs.Checks.{bind-some}
@@ -10,7 +10,7 @@ use Rattle.strings.specs.Text.{Request, requestSound, textOf}
 use Rattle.strings.specs.Reader.{operationAt, serviceAt, numberFieldAt, erasingAt, additionalAt, fieldsOf}
 use Rattle.strings.proofs.Exact.{operation-exact, service-back, service-only, number-exact, erasing-exact}
 use Rattle.strings.proofs.Additional.{additional-back, additional-only}
-use Rattle.strings.proofs.Text.{Rules, sound-rules, rules-sound, text-fields}
+use Rattle.strings.proofs.Text.{sound-rules, rules-sound, text-fields}
 
 pub read-back : (f : Request) → requestSound f ≡ true → fieldsOf (textOf f) ≡ some f
 unfolding fieldsOf

@@ -1,15 +1,15 @@
 -- Sound fields part by part, and their text: field behind field, its characters and its length. Assumes nothing.
-use mathlib.Core.Path.{_≡_, refl, sym, ap, _∙_}
+use mathlib.Core.Path.{_≡_, refl}
 use mathlib.Core.Logic.{⊎-elim}
-use mathlib.Core.Bool.{Bool, true, false, _&&_, _||_, and-true, and-false}
+use mathlib.Core.Bool.{true, false, _&&_, _||_, and-true, and-false}
 use mathlib.Core.List.{List, [], _∷_, _++_, append-assoc}
-use Prim.Native.Nat.{ℕ, _+_, _≤_, _<_}
+use Prim.Native.Nat.{ℕ, _≤_, _<_}
 use native.Mathlib.Omega.{arith}
 use lib.ListN.{length, length-append}
 use lib.Dec.{leb, eqb}
 use borrow.Author.Tests.{leb-true, le-leb, lt-leb, eqb-true, lt-ltb, ne-eqb}
 use Rattle.answers.specs.Ascii.{ascii}
-use Rattle.answers.proofs.Tests.{no-path, and-left, and-right, or-cases}
+use Rattle.answers.proofs.Tests.{and-left, and-right, or-cases}
 use Rattle.numbers.specs.Numbers.{isDigit, areDigits, isNumber, digitsOf}
 use Rattle.numbers.proofs.Digits.{digits-are, digits-most}
 use Rattle.numbers.specs.declared.FunctionalNumber.{FunctionalNumber}
@@ -20,7 +20,7 @@ use Rattle.strings.specs.declared.Operation.{Operation}
 use Rattle.strings.specs.declared.Operation.the-variants.{Register, Erase, Interrogate}
 use Rattle.strings.specs.declared.Erasing.{Erasing}
 use Rattle.strings.specs.declared.Erasing.the-variants.{Empty, Forced}
-use Rattle.strings.specs.Text.{Request, isAdditional, areAdditional, mostAdditional, erasingSound, requestSound, operationText, serviceText, star, hash, supervisorText, msisdnText, textOf, noticeOf, mostCharacters, mostOctets}
+use Rattle.strings.specs.Text.{Request, isAdditional, areAdditional, mostAdditional, mayForce, erasingSound, requestSound, operationText, serviceText, star, hash, textOf, noticeOf, mostCharacters, mostOctets}
 use Rattle.strings.specs.Reader.{leadingAdditional}
 use Rattle.strings.proofs.Additional.{are-leading}
 use Rattle.strings.proofs.Exact.{starred, erasingText}
@@ -103,12 +103,10 @@ unfolding takes
 takes-append [] b p q = q
 takes-append (c ∷ a) b p q = rw (and-left (taken c) (takes a) p) (takes-append a b (and-right (taken c) (takes a) p) q)
 
--- only an erasure names an MSISDN, and it is a number
+-- an MSISDN that is named is a number
 pub sound-erasing : (o : Operation) (e : Erasing) → erasingSound o e ≡ true → erasingSound Erase e ≡ true
 sound-erasing o Empty h = refl
-sound-erasing Register (Forced m) h = no-path h
-sound-erasing Erase (Forced m) h = h
-sound-erasing Interrogate (Forced m) h = no-path h
+sound-erasing o (Forced m) h = and-right (mayForce o) (isNumber (m .0)) h
 
 starred-taken : (w : ℕ) → isNumber w ≡ true → takes (starred w) ≡ true
 starred-taken w h = takes-append (digitsOf w) star (additional-taken (digitsOf w) (digits-additional (digitsOf w) (digits-are w h))) (unfold takes taken in refl)

@@ -5,7 +5,6 @@ use mathlib.Core.List.{List}
 use Prim.Native.Nat.{ℕ, _+_, _≤_}
 use lib.ListN.{length, take, drop}
 use Rattle.strings.specs.declared.Operation.{Operation}
-use Rattle.strings.specs.declared.Erasing.{Erasing}
 use Rattle.strings.specs.declared.OperationRead.{OperationRead}
 use Rattle.strings.specs.declared.OperationRead.the-variants.{Read as OperationField, Unreadable as NoOperation}
 use Rattle.strings.specs.declared.ServiceRead.{ServiceRead}
@@ -16,7 +15,7 @@ use Rattle.strings.specs.declared.ErasingRead.{ErasingRead}
 use Rattle.strings.specs.declared.ErasingRead.the-variants.{Read as ErasingField, Unreadable as NoErasing}
 use Rattle.strings.specs.declared.AdditionalRead.{AdditionalRead}
 use Rattle.strings.specs.declared.AdditionalRead.the-variants.{Read as AdditionalField, Unreadable as NoAdditional}
-use Rattle.strings.specs.Reader.{Field, operationAt, serviceAt, numberFieldAt, additionalAt}
+use Rattle.strings.specs.Reader.{Field, operationAt, serviceAt, numberFieldAt, erasingAt, additionalAt}
 
 -- the reader finds x in s from one place up to another
 pub record Found {X : Type 0} (reader : List ℕ → Option (Field X)) (s : List ℕ) (at : ℕ) (x : X) (end : ℕ) : Type 0 where
@@ -40,9 +39,9 @@ abbrev pub NumberFieldIs : NumberFieldRead → List ℕ → Type 0
 NumberFieldIs (NumberField w n) s = Found numberFieldAt s 0 w n
 NumberFieldIs NoNumber s = numberFieldAt s ≡ none
 
-abbrev pub ErasingIs : (List ℕ → Option (Field Erasing)) → ErasingRead → List ℕ → Type 0
-ErasingIs reader (ErasingField e n) s = Found reader s 0 e n
-ErasingIs reader NoErasing s = reader s ≡ none
+abbrev pub ErasingIs : Operation → ErasingRead → List ℕ → Type 0
+ErasingIs o (ErasingField e n) s = Found (erasingAt o) s 0 e n
+ErasingIs o NoErasing s = erasingAt o s ≡ none
 
 abbrev pub AdditionalIs : AdditionalRead → List ℕ → Type 0
 AdditionalIs (AdditionalField n) s = (length s ≡ n + 1) × (additionalAt s ≡ some (take n s))

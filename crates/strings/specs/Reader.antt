@@ -14,7 +14,7 @@ use Rattle.strings.specs.declared.Operation.{Operation}
 use Rattle.strings.specs.declared.Operation.the-variants.{Register, Erase, Interrogate}
 use Rattle.strings.specs.declared.Erasing.{Erasing}
 use Rattle.strings.specs.declared.Erasing.the-variants.{Empty, Forced}
-use Rattle.strings.specs.Text.{Request, isAdditional, mostAdditional, operationText, serviceText, star, hash}
+use Rattle.strings.specs.Text.{Request, mayForce, isAdditional, mostAdditional, operationText, serviceText, star, hash}
 
 -- a field that was read, and what is left of the string
 pub record Field (X : Type 0) : Type 0 where
@@ -60,12 +60,11 @@ numberFieldAt s = starredNumber s (numberAt s)
 
 -- `88`, a star, the MSISDN to erase and its star: behind `##` only
 unfoldable pub forcedAt : Operation → List ℕ → Option (Field Erasing)
-forcedAt Register s = none
-forcedAt Erase s = do
-  rest ← behind (ascii "88" ++ star) s
+forcedAt o s = do
+  part ← onlyIf (mayForce o) s
+  rest ← behind (ascii "88" ++ star) part
   msisdn ← numberFieldAt rest
   some (record { got = Forced (record { 0 = msisdn .got }); rest = msisdn .rest })
-forcedAt Interrogate s = none
 
 -- supervisor field and MSISDN to erase, each with its star: both empty, or of a forced erasure
 unfoldable pub erasingAt : Operation → List ℕ → Option (Field Erasing)

@@ -32,12 +32,20 @@ areAdditional (c ∷ cs) = isAdditional c && areAdditional cs
 abbrev pub mostAdditional : ℕ
 mostAdditional = 30
 
+-- "with `##` only"
+abbrev pub mayForce : Operation → Bool
+mayForce Register = false
+mayForce Erase = true
+mayForce Interrogate = false
+
 -- "Supervisor field and MSISDN are both empty, or, with `##` only, `88` and a number"
 abbrev pub erasingSound : Operation → Erasing → Bool
 erasingSound o Empty = true
-erasingSound Register (Forced m) = false
-erasingSound Erase (Forced m) = isNumber (m .0)
-erasingSound Interrogate (Forced m) = false
+erasingSound o (Forced m) = mayForce o && isNumber (m .0)
+
+-- the fields that a writer is given
+abbrev pub requestFrom : Operation → FunctionalNumber → Erasing → List ℕ → Request
+requestFrom o number erasing additional = record { operation = o; number = number; erasing = erasing; additional = additional }
 
 -- fields that keep the string's rules
 unfoldable pub requestSound : Request → Bool

@@ -4,18 +4,21 @@ use numbers::FunctionalNumber;
 use numbers::Msisdn;
 use numbers::NumberRead;
 ghost use mathlib.Core.Path.{_≡_};
+ghost use mathlib.Core.Bool.{true};
 ghost use mathlib.Core.List.{_++_};
 ghost use Prim.Native.Nat.{_+_, _<_, _≤_};
 ghost use lib.ListN.{length};
-ghost use mathlib.Core.Bool.{true};
-ghost use Rattle.numbers.specs.Numbers.{mostDigits, isNumber, digitsOf};
 ghost use Rattle.answers.specs.Writing.{made, wrote};
 ghost use Rattle.answers.specs.declared.Written.the-variants.{Count};
-ghost use Rattle.strings.specs.Text.{isAdditional, erasingSound, requestSound, operationText, serviceText, star, hash, supervisorText, msisdnText, textOf, noticeOf, mostCharacters, mostOctets};
-ghost use Rattle.strings.specs.Reader.{begins, forcedAt, erasingAt, leadingAdditional, fieldsOf};
-ghost use Rattle.strings.specs.Outcomes.{told, tell, madeRead, reading, writingRequest};
 ghost use Rattle.packing.specs.Packing.{packed};
+ghost use Rattle.numbers.specs.Numbers.{mostDigits, isNumber, digitsOf};
+ghost use Rattle.strings.specs.Text.{isAdditional, mayForce, erasingSound, requestFrom, requestSound, operationText, serviceText, star, hash, supervisorText, msisdnText, textOf, noticeOf, mostCharacters, mostOctets};
+ghost use Rattle.strings.specs.Reader.{begins, leadingAdditional, fieldsOf};
 ghost use Rattle.strings.specs.Found.{OperationIs, ServiceIs, NumberFieldIs, ErasingIs, AdditionalIs};
+ghost use Rattle.strings.specs.Outcomes.{told, tell, madeRead, reading, writingRequest};
+
+// An additional field has at most so many characters.
+const MOST_ADDITIONAL: usize = 30;
 
 // The text of sound fields has at most so many characters.
 const MOST_CHARACTERS: usize = 72;
@@ -83,9 +86,6 @@ enum AdditionalRead {
     Unreadable,
 }
 
-// An additional field has at most so many characters.
-const MOST_ADDITIONAL: usize = 30;
-
 // Whether a part begins with these characters.
 fn begins_with(part: &[u8], characters: &[u8]) -> bool
     ensures { λ r. ⌜ r ≡ begins (now (characters .entry)) (now (part .entry)) ⌝ }
@@ -142,10 +142,27 @@ fn read_number_field(part: &[u8]) -> NumberFieldRead
     NumberFieldRead::Read(word, n + 1)
 }
 
-// `88`, the MSISDN to erase and their stars.
-fn read_forced(part: &[u8]) -> ErasingRead
-    ensures { λ r. ⌜ ErasingIs (forcedAt Operation.Erase) r (now (part .entry)) ⌝ }
+// Whether the operation may be a forced one: with `##` only.
+fn may_force(operation: Operation) -> bool
+    ensures { λ r. ⌜ r ≡ mayForce operation ⌝ }
 {
+    match operation {
+        Operation::Register => false,
+        Operation::Erase => true,
+        Operation::Interrogate => false,
+    }
+}
+
+// Supervisor field and MSISDN to erase, each with its star: both empty, or `88` and a number.
+fn read_erasing(operation: Operation, part: &[u8]) -> ErasingRead
+    ensures { λ r. ⌜ ErasingIs operation r (now (part .entry)) ⌝ }
+{
+    if begins_with(part, b"**") {
+        return ErasingRead::Read(Erasing::Empty, 2);
+    }
+    if !may_force(operation) {
+        return ErasingRead::Unreadable;
+    }
     if !begins_with(part, b"88*") {
         return ErasingRead::Unreadable;
     }
@@ -155,20 +172,7 @@ fn read_forced(part: &[u8]) -> ErasingRead
     ErasingRead::Read(Erasing::Forced(Msisdn(word)), 3 + n)
 }
 
-// Supervisor field and MSISDN to erase, each with its star: both empty, or, with `##` only, of a forced erasure.
-fn read_erasing(operation: Operation, part: &[u8]) -> ErasingRead
-    ensures { λ r. ⌜ ErasingIs (erasingAt operation) r (now (part .entry)) ⌝ }
-{
-    if begins_with(part, b"**") {
-        return ErasingRead::Read(Erasing::Empty, 2);
-    }
-    match operation {
-        Operation::Register => ErasingRead::Unreadable,
-        Operation::Erase => read_forced(part),
-        Operation::Interrogate => ErasingRead::Unreadable,
-    }
-}
-
+// Whether a character may stand in an additional field: a digit, a letter A–Z or a space.
 fn is_additional(c: u8) -> bool
     ensures { λ r. ⌜ r ≡ isAdditional c ⌝ }
 {
@@ -290,6 +294,7 @@ fn put_number(word: u64, out: &mut [u8]) -> usize
     requires { ⌜ mostDigits < length (now out) ⌝ }
     ensures { λ r. ⌜ made (Count r) (now (out .exit)) ≡ wrote (digitsOf word ++ star) (now (out .entry)) ⌝ }
 {
+    // A number, and room: nothing is refused.
     let Written::Count(at) = numbers::write_digits(word, out) else {
         return 0;
     };
@@ -328,9 +333,9 @@ fn write_text(
     additional: &[u8],
     text: &mut [u8],
 ) -> usize
-    requires { ⌜ requestSound (record { operation = operation; number = number; erasing = erasing; additional = now additional }) ≡ true ⌝ }
+    requires { ⌜ requestSound (requestFrom operation number erasing (now additional)) ≡ true ⌝ }
     requires { ⌜ mostCharacters ≤ length (now text) ⌝ }
-    ensures { λ r. ⌜ made (Count r) (now (text .exit)) ≡ wrote (textOf (record { operation = operation; number = number; erasing = erasing; additional = now (additional .entry) })) (now (text .entry)) ⌝ }
+    ensures { λ r. ⌜ made (Count r) (now (text .exit)) ≡ wrote (textOf (requestFrom operation number erasing (now (additional .entry)))) (now (text .entry)) ⌝ }
 {
     let at = put_operation(operation, text);
     let at = at + put_number(number.0, &mut text[at..]);
@@ -346,12 +351,13 @@ fn write_packed(
     additional: &[u8],
     out: &mut [u8],
 ) -> usize
-    requires { ⌜ requestSound (record { operation = operation; number = number; erasing = erasing; additional = now additional }) ≡ true ⌝ }
+    requires { ⌜ requestSound (requestFrom operation number erasing (now additional)) ≡ true ⌝ }
     requires { ⌜ mostOctets ≤ length (now out) ⌝ }
-    ensures { λ r. ⌜ made (Count r) (now (out .exit)) ≡ wrote (packed (textOf (record { operation = operation; number = number; erasing = erasing; additional = now (additional .entry) }))) (now (out .entry)) ⌝ }
+    ensures { λ r. ⌜ made (Count r) (now (out .exit)) ≡ wrote (packed (textOf (requestFrom operation number erasing (now (additional .entry))))) (now (out .entry)) ⌝ }
 {
     let mut text = [0u8; MOST_CHARACTERS];
     let n = write_text(operation, number, erasing, additional, &mut text);
+    // Characters that the packer takes, and room: nothing is refused.
     let Written::Count(count) = packing::pack(&text[..n], out) else {
         return 0;
     };
@@ -364,11 +370,7 @@ fn erasing_sound(operation: Operation, erasing: Erasing) -> bool
 {
     match erasing {
         Erasing::Empty => true,
-        Erasing::Forced(msisdn) => match operation {
-            Operation::Register => false,
-            Operation::Erase => numbers::is_number(msisdn.0),
-            Operation::Interrogate => false,
-        },
+        Erasing::Forced(msisdn) => may_force(operation) & numbers::is_number(msisdn.0),
     }
 }
 
@@ -379,7 +381,7 @@ fn request_sound(
     erasing: Erasing,
     additional: &[u8],
 ) -> bool
-    ensures { λ r. ⌜ r ≡ requestSound (record { operation = operation; number = number; erasing = erasing; additional = now (additional .entry) }) ⌝ }
+    ensures { λ r. ⌜ r ≡ requestSound (requestFrom operation number erasing (now (additional .entry))) ⌝ }
 {
     let count = additional.len();
     if MOST_ADDITIONAL < count {
@@ -397,7 +399,7 @@ pub fn write_request(
     additional: &[u8],
     out: &mut [u8],
 ) -> Written
-    ensures { λ r. ⌜ made r (now (out .exit)) ≡ writingRequest (record { operation = operation; number = number; erasing = erasing; additional = now (additional .entry) }) (now (out .entry)) ⌝ }
+    ensures { λ r. ⌜ made r (now (out .exit)) ≡ writingRequest (requestFrom operation number erasing (now (additional .entry))) (now (out .entry)) ⌝ }
 {
     if out.len() < WRITER_ROOM {
         return Written::TooShort;

@@ -3,8 +3,6 @@ use Rattle.numbers.specs.Numbers.{isDigit}
 use Rattle.strings.specs.Text.{isAdditional}
 use Rattle.strings.proofs.is_additional.Statement.{statement}
 use Rattle.strings.proofs.is_additional.Tie as tie
-use Rattle.strings.proofs.is_additional.Reads as reads
-use Rattle.strings.proofs.is_additional.Lts as lts
 
 -- src/lib.rt:105:1
 returns : tie.Need-returns

@@ -9,9 +9,6 @@ use Rattle.strings.specs.Reader.{leadingAdditional}
 use Rattle.strings.proofs.Additional.{leading-end, leading-stop, leading-step}
 use Rattle.strings.proofs.leading_additional.Statement.{statement}
 use Rattle.strings.proofs.leading_additional.Tie as tie
-use Rattle.strings.proofs.leading_additional.Reads as reads
-use Rattle.strings.proofs.leading_additional.Lts as lts
-use Rattle.strings.proofs.is_additional.Reads as is-additional-reads
 
 abbrev Inv-loop : tie.InvT-loop
 Inv-loop part n₀ n = (n ≤ length part) × (leadingAdditional part ≡ n + leadingAdditional (drop n part))

@@ -1,14 +1,11 @@
 -- `strings::put_additional` meets its contract. Assumes nothing.
-use mathlib.Core.Path.{_≡_, refl}
+use mathlib.Core.Path.{refl}
 use native.Mathlib.Omega.{arith}
 use borrow.Author.Needs.{needs}
 use Rattle.strings.specs.Text.{hash}
 use Rattle.answers.proofs.Parts.{Standing, standing, count-is, wrote-behind}
 use Rattle.strings.proofs.put_additional.Statement.{statement}
 use Rattle.strings.proofs.put_additional.Tie as tie
-use Rattle.strings.proofs.put_additional.Reads as reads
-use Rattle.strings.proofs.put_additional.Lts as lts
-use Rattle.strings.proofs.put.Reads as put-reads
 
 put-requires : tie.Need-put-requires
 put-requires c κs = search needs

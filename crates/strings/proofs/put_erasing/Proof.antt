@@ -12,10 +12,6 @@ use Rattle.numbers.proofs.Digits.{digits-most}
 use Rattle.strings.specs.Text.{star}
 use Rattle.strings.proofs.put_erasing.Statement.{statement}
 use Rattle.strings.proofs.put_erasing.Tie as tie
-use Rattle.strings.proofs.put_erasing.Reads as reads
-use Rattle.strings.proofs.put_erasing.Lts as lts
-use Rattle.strings.proofs.put.Reads as put-reads
-use Rattle.strings.proofs.put_number.Reads as put-number-reads
 
 enum-told : tie.Need-enum-told
 enum-told c = search needs

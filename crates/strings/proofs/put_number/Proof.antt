@@ -1,6 +1,6 @@
 -- `strings::put_number` meets its contract: a number and room leave the digit writer nothing to refuse. Assumes nothing.
 use mathlib.Core.Path.{_≡_, refl, _∙_}
-use mathlib.Core.List.{List, [], _∷_, _++_}
+use mathlib.Core.List.{List, [], _∷_}
 use Prim.Native.Nat.{ℕ}
 use native.Mathlib.Omega.{arith}
 use types.Run.{miss}
@@ -15,10 +15,6 @@ use Rattle.numbers.proofs.Digits.{digits-most}
 use Rattle.strings.specs.Text.{star}
 use Rattle.strings.proofs.put_number.Statement.{statement}
 use Rattle.strings.proofs.put_number.Tie as tie
-use Rattle.strings.proofs.put_number.Reads as reads
-use Rattle.strings.proofs.put_number.Lts as lts
-use Rattle.numbers.proofs.write_digits.Reads as write-digits-reads
-use Rattle.strings.proofs.put.Reads as put-reads
 
 write-digits-requires : tie.Need-write-digits-requires
 write-digits-requires c κs = search needs

@@ -1,9 +1,6 @@
 use borrow.Author.Needs.{needs}
 use Rattle.strings.proofs.put_operation.Statement.{statement}
 use Rattle.strings.proofs.put_operation.Tie as tie
-use Rattle.strings.proofs.put_operation.Reads as reads
-use Rattle.strings.proofs.put_operation.Lts as lts
-use Rattle.strings.proofs.put.Reads as put-reads
 
 enum-told : tie.Need-enum-told
 enum-told c = search needs

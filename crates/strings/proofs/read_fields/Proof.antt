@@ -1,23 +1,15 @@
 -- `strings::read_fields` meets its contract: each field is found in the rest behind the one before, and the first that is not ends the reading. Assumes nothing.
-use mathlib.Core.Path.{_≡_, sym, _∙_}
 use mathlib.Core.List.{List}
 use Prim.Native.Nat.{ℕ, _+_}
 use native.Mathlib.Omega.{arith}
 use lib.ListN.{length-drop}
 use borrow.Author.Needs.{needs}
 use Rattle.answers.proofs.Parts.{rest-of}
-use Rattle.strings.specs.Reader.{operationAt, numberFieldAt, erasingAt, additionalAt}
+use Rattle.strings.specs.Reader.{operationAt, numberFieldAt, erasingAt}
 use Rattle.strings.specs.Found.{Found, Served}
 use Rattle.strings.proofs.Cursor.{found-at, served-at, ended, no-operation, no-service, no-number, no-erasing, no-additional, all-read, told-read}
 use Rattle.strings.proofs.read_fields.Statement.{statement}
 use Rattle.strings.proofs.read_fields.Tie as tie
-use Rattle.strings.proofs.read_fields.Reads as reads
-use Rattle.strings.proofs.read_fields.Lts as lts
-use Rattle.strings.proofs.read_additional.Reads as read-additional-reads
-use Rattle.strings.proofs.read_erasing.Reads as read-erasing-reads
-use Rattle.strings.proofs.read_number_field.Reads as read-number-field-reads
-use Rattle.strings.proofs.read_operation.Reads as read-operation-reads
-use Rattle.strings.proofs.read_service.Reads as read-service-reads
 
 read-operation-requires : tie.Need-read-operation-requires
 read-operation-requires c κs = search needs

@@ -10,10 +10,6 @@ use Rattle.numbers.proofs.Reading.{read-from}
 use Rattle.strings.proofs.Steps.{number-none, number-open, number-found}
 use Rattle.strings.proofs.read_number_field.Statement.{statement}
 use Rattle.strings.proofs.read_number_field.Tie as tie
-use Rattle.strings.proofs.read_number_field.Reads as reads
-use Rattle.strings.proofs.read_number_field.Lts as lts
-use Rattle.numbers.proofs.read_number.Reads as read-number-reads
-use Rattle.strings.proofs.begins_with.Reads as begins-with-reads
 
 read-number-requires : tie.Need-read-number-requires
 read-number-requires c κs = search needs

@@ -1,5 +1,5 @@
 -- `strings::read_operation` meets its contract: its tests are the definition's, in the same order. Assumes nothing.
-use mathlib.Core.Path.{_≡_, sym, _∙_}
+use mathlib.Core.Path.{sym, _∙_}
 use borrow.Author.Needs.{needs}
 use Rattle.strings.specs.Reader.{operationAt}
 use Rattle.strings.proofs.Begins.{begins-within}

@@ -15,10 +15,6 @@ use Rattle.strings.proofs.Octets.{too-long}
 use Rattle.strings.proofs.Answered.{unread, unreadable, read}
 use Rattle.strings.proofs.read_request.Statement.{statement}
 use Rattle.strings.proofs.read_request.Tie as tie
-use Rattle.strings.proofs.read_request.Reads as reads
-use Rattle.strings.proofs.read_request.Lts as lts
-use Rattle.packing.proofs.unpack.Reads as unpack-reads
-use Rattle.strings.proofs.read_fields.Reads as read-fields-reads
 
 slice-aggregate-unpack : tie.Need-slice-aggregate-unpack
 slice-aggregate-unpack c = search needs

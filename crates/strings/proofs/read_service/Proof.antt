@@ -1,5 +1,5 @@
 -- `strings::read_service` meets its contract. Assumes nothing.
-use mathlib.Core.Path.{_≡_, sym, _∙_}
+use mathlib.Core.Path.{sym, _∙_}
 use borrow.Author.Needs.{needs}
 use Rattle.strings.specs.Reader.{serviceAt}
 use Rattle.strings.proofs.Begins.{begins-within}

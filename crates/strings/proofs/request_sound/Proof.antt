@@ -1,14 +1,9 @@
 -- `strings::request_sound` meets its contract. Assumes nothing.
-use mathlib.Core.Path.{_≡_, sym}
+use mathlib.Core.Path.{sym}
 use borrow.Author.Needs.{needs}
 use Rattle.strings.proofs.Text.{unsound-many, sound-few}
 use Rattle.strings.proofs.request_sound.Statement.{statement}
 use Rattle.strings.proofs.request_sound.Tie as tie
-use Rattle.strings.proofs.request_sound.Reads as reads
-use Rattle.strings.proofs.request_sound.Lts as lts
-use Rattle.numbers.proofs.is_number.Reads as is-number-reads
-use Rattle.strings.proofs.erasing_sound.Reads as erasing-sound-reads
-use Rattle.strings.proofs.leading_additional.Reads as leading-additional-reads
 
 returns : tie.Need-returns
 returns c = sym (unsound-many _ (c .if1 .taken))

@@ -1,14 +1,10 @@
 -- `strings::write_notice` meets its contract. Assumes nothing.
-use mathlib.Core.Path.{_≡_}
 use native.Mathlib.Omega.{arith}
 use borrow.Author.Needs.{needs}
 use Rattle.strings.specs.Text.{noticeOf}
 use Rattle.strings.proofs.Text.{notice-sound}
 use Rattle.strings.proofs.write_notice.Statement.{statement}
 use Rattle.strings.proofs.write_notice.Tie as tie
-use Rattle.strings.proofs.write_notice.Reads as reads
-use Rattle.strings.proofs.write_notice.Lts as lts
-use Rattle.strings.proofs.write_packed.Reads as write-packed-reads
 
 slice-aggregate-write-packed : tie.Need-slice-aggregate-write-packed
 slice-aggregate-write-packed c = search needs

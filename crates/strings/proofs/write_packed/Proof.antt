@@ -1,27 +1,23 @@
 -- `strings::write_packed` meets its contract: sound fields and room leave the packer nothing to refuse. Assumes nothing.
 use mathlib.Core.Path.{_≡_, refl, sym, ap, _∙_}
-use mathlib.Core.List.{List, [], _∷_, _++_}
+use mathlib.Core.List.{List, [], _∷_}
 use Prim.Native.Nat.{ℕ}
 use native.Mathlib.Omega.{arith}
 use lib.ListN.{length, take, drop, replicate}
 use lib.Seq.{take-at, length-take-le}
 use types.Run.{miss}
 use borrow.Author.Needs.{needs}
-use Rattle.answers.specs.Writing.{Outcome, made, wrote}
+use Rattle.answers.specs.Writing.{wrote}
 use Rattle.answers.specs.declared.Written.the-variants.{Count}
 use Rattle.answers.proofs.Writing.{made-one}
 use Rattle.answers.proofs.Parts.{Standing, standing, count-wrote}
-use Rattle.packing.specs.Packing.{octetsFor, packed}
+use Rattle.packing.specs.Packing.{packed}
 use Rattle.packing.specs.Outcomes.{packing}
-use Rattle.packing.proofs.Outcomes.{packing-good, pack-good}
+use Rattle.packing.proofs.Outcomes.{packing-good}
 use Rattle.strings.specs.Text.{Request, textOf, mostCharacters}
 use Rattle.strings.proofs.Text.{text-taken, text-short, octets-short}
 use Rattle.strings.proofs.write_packed.Statement.{statement}
 use Rattle.strings.proofs.write_packed.Tie as tie
-use Rattle.strings.proofs.write_packed.Reads as reads
-use Rattle.strings.proofs.write_packed.Lts as lts
-use Rattle.packing.proofs.pack.Reads as pack-reads
-use Rattle.strings.proofs.write_text.Reads as write-text-reads
 
 slice-aggregate-write-text : tie.Need-slice-aggregate-write-text
 slice-aggregate-write-text c = search needs

@@ -1,15 +1,11 @@
 -- `strings::write_request` meets its contract: the room is tested first, and then the fields. Assumes nothing.
-use mathlib.Core.Path.{_≡_, sym, _∙_}
+use mathlib.Core.Path.{sym, _∙_}
 use native.Mathlib.Omega.{arith}
 use borrow.Author.Needs.{needs}
 use borrow.Author.Tests.{not-true, not-false}
 use Rattle.strings.proofs.Answered.{short, unsound, written}
 use Rattle.strings.proofs.write_request.Statement.{statement}
 use Rattle.strings.proofs.write_request.Tie as tie
-use Rattle.strings.proofs.write_request.Reads as reads
-use Rattle.strings.proofs.write_request.Lts as lts
-use Rattle.strings.proofs.request_sound.Reads as request-sound-reads
-use Rattle.strings.proofs.write_packed.Reads as write-packed-reads
 
 returns : tie.Need-returns
 returns c = short _ _ (c .if1 .taken)

@@ -1,6 +1,5 @@
 -- `strings::write_text` meets its contract: field behind field, each in the room that is left. Assumes nothing.
 use mathlib.Core.Path.{_≡_, refl}
-use mathlib.Core.Bool.{true}
 use mathlib.Core.List.{List, _++_}
 use Prim.Native.Nat.{ℕ, _+_, _-_}
 use native.Mathlib.Omega.{arith}
@@ -16,12 +15,6 @@ use Rattle.strings.proofs.Exact.{starred, erasingText}
 use Rattle.strings.proofs.Text.{sound-rules, sound-erasing, beforeNumber, beforeErasing, beforeAdditional, text-grows, before-number, before-erasing, before-additional}
 use Rattle.strings.proofs.write_text.Statement.{statement}
 use Rattle.strings.proofs.write_text.Tie as tie
-use Rattle.strings.proofs.write_text.Reads as reads
-use Rattle.strings.proofs.write_text.Lts as lts
-use Rattle.strings.proofs.put_additional.Reads as put-additional-reads
-use Rattle.strings.proofs.put_erasing.Reads as put-erasing-reads
-use Rattle.strings.proofs.put_number.Reads as put-number-reads
-use Rattle.strings.proofs.put_operation.Reads as put-operation-reads
 
 put-operation-requires : tie.Need-put-operation-requires
 put-operation-requires c κs = search needs
