@@ -185,11 +185,13 @@ impl Record {
     pub fn register(self, number: FunctionalNumber, requester: Msisdn) -> Step
         ensures { λ r. ⌜ r ≡ registered number requester self ⌝ }
     {
-        let holder = self.holder.0;
-        if number.0 == requester.0 {
+        let holder_word = self.holder.0;
+        let number_word = number.0;
+        let requester_word = requester.0;
+        if number_word == requester_word {
             return Step::Stays(67);
         }
-        if (holder != 0) & (holder != requester.0) {
+        if (holder_word != 0) & (holder_word != requester_word) {
             return Step::Stays(61);
         }
         Step::Becomes(self.held_by(requester))
@@ -198,11 +200,12 @@ impl Record {
     pub fn erase(self, requester: Msisdn) -> Step
         ensures { λ r. ⌜ r ≡ erased requester self ⌝ }
     {
-        let holder = self.holder.0;
-        if holder == 0 {
+        let holder_word = self.holder.0;
+        let requester_word = requester.0;
+        if holder_word == 0 {
             return Step::Stays(62);
         }
-        if holder != requester.0 {
+        if holder_word != requester_word {
             return Step::Stays(63);
         }
         Step::Becomes(self.held_by(Msisdn(0)))
@@ -212,14 +215,16 @@ impl Record {
     pub fn force(self, supervisor: Msisdn, named: Msisdn) -> Step
         ensures { λ r. ⌜ r ≡ forced supervisor named self ⌝ }
     {
-        let holder = self.holder.0;
-        if holder == 0 {
+        let holder_word = self.holder.0;
+        let supervisor_word = supervisor.0;
+        let named_word = named.0;
+        if holder_word == 0 {
             return Step::Stays(62);
         }
-        if holder != named.0 {
+        if holder_word != named_word {
             return Step::Stays(63);
         }
-        if holder == supervisor.0 {
+        if holder_word == supervisor_word {
             return Step::Becomes(self.held_by(Msisdn(0)));
         }
         let notice = self.notice;
@@ -232,10 +237,11 @@ impl Record {
     pub fn interrogate(self) -> Holder
         ensures { λ r. ⌜ r ≡ interrogated self ⌝ }
     {
-        let holder = self.holder;
-        if holder.0 == 0 {
+        let holder_word = self.holder.0;
+        if holder_word == 0 {
             return Holder::Stays(62);
         }
+        let holder = self.holder;
         Holder::Held(holder)
     }
 
