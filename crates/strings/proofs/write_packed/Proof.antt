@@ -14,7 +14,7 @@ use Rattle.answers.proofs.Parts.{Standing, standing, count-wrote}
 use Rattle.packing.specs.Packing.{packed}
 use Rattle.packing.specs.Outcomes.{packing}
 use Rattle.packing.proofs.Outcomes.{packing-good}
-use Rattle.strings.specs.Text.{Request, textOf, mostCharacters}
+use Rattle.strings.specs.Text.{Request, requestFrom, textOf, mostCharacters}
 use Rattle.strings.proofs.Text.{text-taken, text-short, octets-short}
 use Rattle.strings.proofs.write_packed.Statement.{statement}
 use Rattle.strings.proofs.write_packed.Tie as tie
@@ -26,7 +26,7 @@ write-text-requires : tie.Need-write-text-requires
 write-text-requires c κs = search needs
 
 abbrev fields : tie.Start → Request
-fields s = record { operation = s .args .operation; number = s .args .number; erasing = s .args .erasing; additional = s .args .additional .now }
+fields s = requestFrom (s .args .operation) (s .args .number) (s .args .erasing) (s .args .additional .now)
 
 abbrev zeros : List ℕ
 zeros = replicate mostCharacters 0

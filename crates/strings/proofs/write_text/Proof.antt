@@ -10,7 +10,7 @@ use borrow.Rule.Slice.PartMut.{putMid}
 use Rattle.answers.specs.Writing.{made, wrote}
 use Rattle.answers.specs.declared.Written.the-variants.{Count}
 use Rattle.answers.proofs.Parts.{Standing, standing, count-is, wrote-behind}
-use Rattle.strings.specs.Text.{Request, mostAdditional, hash}
+use Rattle.strings.specs.Text.{Request, requestFrom, mostAdditional, hash}
 use Rattle.strings.proofs.Exact.{starred, erasingText}
 use Rattle.strings.proofs.Text.{sound-rules, sound-erasing, beforeNumber, beforeErasing, beforeAdditional, text-grows, before-number, before-erasing, before-additional}
 use Rattle.strings.proofs.write_text.Statement.{statement}
@@ -22,7 +22,7 @@ put-operation-requires c κs = search needs
 -- ---- the fields, the text before, and the way back from each writer to the one before
 
 abbrev fields : tie.Start → Request
-fields s = record { operation = s .args .operation; number = s .args .number; erasing = s .args .erasing; additional = s .args .additional .now }
+fields s = requestFrom (s .args .operation) (s .args .number) (s .args .erasing) (s .args .additional .now)
 
 abbrev start : tie.After-put-operation → tie.Start
 start c = c .before .before .before .before
