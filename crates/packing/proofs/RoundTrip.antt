@@ -12,10 +12,10 @@ use lib.Dec.{ltb, eqb}
 use borrow.Author.Tests.{eq-eqb, ne-eqb, eqb-true, eqb-false, not-true}
 use Rattle.answers.proofs.Tests.{and-left, and-right}
 use Rattle.answers.specs.Writing.{wrote}
-use Rattle.packing.specs.Packing.{number, digits, octetsFor, charsIn, taken, takes, return-if, padded, packed, characters, readable, filled, kept-if, kept, unpacked}
+use Rattle.packing.specs.Packing.{number, octetsFor, charsIn, taken, takes, return-if, padded, packed, characters, readable, filled, kept-if, kept, unpacked}
 use Rattle.packing.specs.Outcomes.{packing, unpacking}
 use Rattle.packing.proofs.Digits.{Below, pow-mul, number-lt, digits-number, number-digits, Below-digits}
-use Rattle.packing.proofs.Laws.{length-packed, length-characters, length-unpacked, unpacked-is, padded-below, filled-some}
+use Rattle.packing.proofs.Laws.{length-packed, length-characters, unpacked-is, padded-below, filled-some}
 use Rattle.packing.proofs.Outcomes.{packing-good, unpacking-good}
 
 -- every octet that is written is below 256, and every character below 128
@@ -28,13 +28,15 @@ unpacked-below os = rw unpacked-is (Below-digits 128 (omega arith) (kept os) (nu
 
 -- ---- what was packed, read
 
+-- with a carriage return, the octets are whole sevens
+sevens : (n : ℕ) → eqb (n % 8) 7 ≡ true → octetsFor n ≡ 7 * (n / 8 + 1)
+unfolding octetsFor
+sevens n e = let seven : n % 8 ≡ 7 = eqb-true (n % 8) 7 e in omega arith
+
 -- the octets have room for the padded characters, and for no other
 padded-room : (n : ℕ) (t : Bool) → eqb (n % 8) 7 ≡ t → charsIn (octetsFor n) ≡ n + length (return-if t)
 unfolding octetsFor charsIn
-padded-room n true e =
-    let seven : n % 8 ≡ 7 = eqb-true (n % 8) 7 e in
-    let octets : (7 * n + 7) / 8 ≡ 7 * (n / 8 + 1) = omega arith in
-    rw octets (omega arith)
+padded-room n true e = let seven : n % 8 ≡ 7 = eqb-true (n % 8) 7 e in rw (sevens n e) (omega arith)
 padded-room n false e =
     let other : n % 8 ≡ 7 → ⊥ = eqb-false (n % 8) 7 e in
     let few : n % 8 < 7 = omega arith in
@@ -57,11 +59,7 @@ no-return (c ∷ cs) e (suc i) = no-return cs (and-right (taken c) (takes cs) e)
 only-return :
     (cs : List ℕ) → takes cs ≡ true → (t : Bool) → eqb (length cs % 8) 7 ≡ t
     → (eqb (octetsFor (length cs) % 7) 0 && eqb (getD (cs ++ return-if t) (length (cs ++ return-if t) - 1) 0) 13) ≡ t
-unfolding octetsFor
-only-return cs e true s =
-    let seven : length cs % 8 ≡ 7 = eqb-true (length cs % 8) 7 s in
-    let octets : (7 * length cs + 7) / 8 ≡ 7 * (length cs / 8 + 1) = omega arith in
-    rw (octets, mul-mod-right, length-append, getD-at cs 13 [] 0 (length cs + 1 - 1) (omega arith))
+only-return cs e true s = rw (sevens (length cs) s, mul-mod-right, length-append, getD-at cs 13 [] 0 (length cs + 1 - 1) (omega arith))
 only-return cs e false s = rw (append-nil, no-return cs e (length cs - 1), and-false)
 
 drop-return : (cs : List ℕ) (t : Bool) → take (kept-if t (length (cs ++ return-if t))) (cs ++ return-if t) ≡ cs
@@ -114,6 +112,7 @@ module _ (os : List ℕ) (b : Below 256 os) (r : readable os ≡ true) where
   unfolding packed
   packed-again cs e n = rw (e, n, number-characters) (digits-number 256 (omega arith) os b)
 
+  -- nothing was dropped
   again-plain : filled os ≡ false → packed (unpacked os) ≡ os
   unfolding unpacked kept padded octetsFor charsIn
   again-plain f =
@@ -133,6 +132,7 @@ module _ (os : List ℕ) (b : Below 256 os) (r : readable os ≡ true) where
       let y = eqb (getD (characters os) (charsIn (length os) - 1) 0) 13 in
       (eqb-true (length os % 7) 0 (and-left x y f), eqb-true (getD (characters os) (charsIn (length os) - 1) 0) 13 (and-right x y f))
 
+  -- a carriage return was dropped
   again-return : filled os ≡ true → packed (unpacked os) ≡ os
   unfolding unpacked kept padded octetsFor charsIn
   again-return f =
@@ -152,7 +152,7 @@ module _ (os : List ℕ) (b : Below 256 os) (r : readable os ≡ true) where
       ap (λ (x : ℕ). take (k - 1) ch ++ x ∷ []) (sym (rest .1)) ∙ sym (take-suc ch (k - 1) 0 (omega arith)) ∙ take-all (suc (k - 1)) ch (omega arith) in
       rw f (packed-again (take (k - 1) ch) (rw (short, eq-eqb ((k - 1) % 8) 7 seven) pads) (rw (short, less) (omega arith)))
 
--- For every readable string of octets. Where the packer takes what was read, it therefore writes these octets again; a string with a 13 among its characters reads, and only the writer refuses it.
+-- For every readable string of octets; so also where the packer takes the characters, which is what is asked. A string with a 13 among those that stay is covered too: it is the packer's test alone that refuses it.
 pub packed-unpacked : (os : List ℕ) → Below 256 os → readable os ≡ true → packed (unpacked os) ≡ os
 packed-unpacked os b r = go (filled os) refl
   where
@@ -160,6 +160,7 @@ packed-unpacked os b r = go (filled os) refl
     go true f = again-return os b r f
     go false f = again-plain os b r f
 
+-- the outcome of it, where the packer takes the characters and there is room
 pub packing-unpacked :
     (os : List ℕ) → Below 256 os → readable os ≡ true → takes (unpacked os) ≡ true → (out : List ℕ) → length os ≤ length out
     → packing (unpacked os) out ≡ wrote os out

@@ -7,7 +7,7 @@ ghost use mathlib.Core.List.{_++_};
 ghost use Prim.Native.Nat.{_-_, _≤_};
 ghost use lib.ListN.{length, getD, drop};
 ghost use Rattle.answers.specs.Writing.{made};
-ghost use Rattle.packing.specs.Packing.{octetsFor, charsIn, takes, packed, readable, kept, unpacked};
+ghost use Rattle.packing.specs.Packing.{octetsFor, takes, packed, readable, kept, unpacked};
 ghost use Rattle.packing.specs.Outcomes.{packing, unpacking};
 
 const CARRIAGE_RETURN: u8 = 13;

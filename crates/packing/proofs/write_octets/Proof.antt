@@ -117,7 +117,7 @@ loop-again c =
     record {
       within = omega arith;
       few = omega arith;
-      moved = put-out m (c .if1 .taken) (octet-room (h .loop .inv) (h .before .pre .1) (omega arith));
+      moved = put-out m (omega arith) (octet-room (h .loop .inv) (h .before .pre .1) (omega arith));
     }
 
 loop-less-2 : tie.Need-loop-less-2 Inv-loop μ-loop
