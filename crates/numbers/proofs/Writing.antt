@@ -8,7 +8,7 @@ use native.Mathlib.Nat.{pow-suc, one-le-pow}
 use native.Mathlib.Omega.{arith}
 use lib.ListN.{length, drop, set, length-append}
 use lib.Seq.{append-snoc, drop-cons, getD-set-same, drop-set-lt, lt-length-set}
-use lib.Dec.{ltb, lit<}
+use lib.Dec.{lit<}
 use borrow.Author.Tests.{lt-ltb, le-ltb}
 use Rattle.answers.specs.Writing.{made}
 use Rattle.answers.specs.declared.Written.{Written}
@@ -63,12 +63,11 @@ left-more left k w e h =
 
 pub digits-short : (w : ℕ) (out : List ℕ) → length out < mostDigits → made TooShort out ≡ writingDigits w out
 unfolding writingDigits
-digits-short w out h = sym (writing-short (ltb (length out) mostDigits) (not (isNumber w)) (digitsOf w) out (lt-ltb (length out) mostDigits h))
+digits-short w out h = sym (writing-short _ _ _ out (lt-ltb (length out) mostDigits h))
 
 pub digits-unfit : (w : ℕ) (out : List ℕ) → mostDigits ≤ length out → isNumber w ≡ false → made Unfit out ≡ writingDigits w out
 unfolding writingDigits
-digits-unfit w out h u =
-    sym (writing-unfit (ltb (length out) mostDigits) (not (isNumber w)) (digitsOf w) out (le-ltb (length out) mostDigits h) (ap not u))
+digits-unfit w out h u = sym (writing-unfit _ _ _ out (le-ltb (length out) mostDigits h) (ap not u))
 
 pub digits-good :
     (w n : ℕ) (out new : List ℕ) → mostDigits ≤ length out → isNumber w ≡ true → n ≡ length (digitsOf w) → new ≡ digitsUpTo n w ++ drop n out
@@ -77,12 +76,11 @@ unfolding writingDigits
 digits-good w n out new h g e f =
     let all : digitsUpTo n w ≡ digitsOf w = rw e (digits-fit w g) in
     wrote-count (digitsOf w) out new n (sym e) (f ∙ rw all)
-    ∙ sym (writing-good (ltb (length out) mostDigits) (not (isNumber w)) (digitsOf w) out (le-ltb (length out) mostDigits h) (ap not g))
+    ∙ sym (writing-good _ _ _ out (le-ltb (length out) mostDigits h) (ap not g))
 
 -- what a caller knows of a number's digits written where there is room
 pub written-digits :
     (w : ℕ) (out : List ℕ) (r : Written) (new : List ℕ) → isNumber w ≡ true → mostDigits ≤ length out → made r new ≡ writingDigits w out
     → (r ≡ Count (length (digitsOf w))) × (new ≡ digitsOf w ++ drop (length (digitsOf w)) out)
 unfolding writingDigits
-written-digits w out r new g h done =
-    done-good (ltb (length out) mostDigits) (not (isNumber w)) (digitsOf w) out r new done (le-ltb (length out) mostDigits h) (ap not g)
+written-digits w out r new g h done = done-good _ _ _ out r new done (le-ltb (length out) mostDigits h) (ap not g)
