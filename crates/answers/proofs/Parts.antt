@@ -7,12 +7,20 @@ use lib.ListN.{length, take, drop, length-append, length-drop, drop-of-length-le
 use lib.Seq.{take-all, take-at, drop-at, drop-drop}
 use borrow.Rule.Slice.PartMut.{putMid}
 use Rattle.answers.specs.Writing.{Stands}
+use Rattle.answers.specs.declared.Written.{Written}
+use Rattle.answers.specs.declared.Written.the-variants.{Count}
 
 pub rest-of : (n : ℕ) (s : List ℕ) → take (length s - n) (drop n s) ≡ drop n s
 rest-of n s = take-all (length s - n) (drop n s) (omega (arith, length-drop n s))
 
 rest-back : (n : ℕ) (s part : List ℕ) → putMid n (length s - n) s part ≡ take n s ++ part
 rest-back n s part = rw (drop-of-length-le (drop n s) {i = length s - n} (omega (arith, length-drop n s)), append-nil)
+
+-- what a writer that refused nothing leaves, in the arm of its count
+pub counted-stands :
+    (text out : List ℕ) {r : Written} {new : List ℕ} {n : ℕ} → (r ≡ Count (length text)) × (new ≡ text ++ drop (length text) out) → r ≡ Count n
+    → Stands text out n new
+counted-stands text out {n = n} done e = let c : n ≡ length text = cc (done .0) in record { count = c; buffer = rw c (done .1) }
 
 -- a text stands at the front of a buffer
 module _ {a old mid : List ℕ} {n : ℕ} (s : Stands a old n mid) where

@@ -7,9 +7,9 @@ use Prim.Native.Nat.{ℕ, _+_, _-_, _≤_, _<_}
 use native.Mathlib.Omega.{arith}
 use lib.ListN.{length, drop, length-append, length-take, length-drop}
 use lib.Seq.{take-append-le, drop-append-le}
-use Rattle.answers.specs.Writing.{made, wrote}
-use Rattle.answers.specs.declared.Written.the-variants.{TooShort, Unfit}
-use Rattle.answers.proofs.Writing.{no-room, not-fit, all-good}
+use Rattle.answers.specs.Writing.{made, Stands}
+use Rattle.answers.specs.declared.Written.the-variants.{Count, TooShort, Unfit}
+use Rattle.answers.proofs.Writing.{wrote-count, no-room, not-fit, all-good}
 use Rattle.packing.specs.Packing.{packed, readable, unpacked}
 use Rattle.strings.specs.declared.Fields.{Fields}
 use Rattle.strings.specs.declared.Reading.{Reading}
@@ -78,6 +78,7 @@ module _ (f : Request) (out : List ℕ) where
   unfolding writingRequest
   unsound h u = sym (not-fit writerRoom (requestSound f) (packed (textOf f)) out h u)
 
-  pub written : writerRoom ≤ length out → requestSound f ≡ true → wrote (packed (textOf f)) out ≡ writingRequest f out
+  pub written : {n : ℕ} {new : List ℕ} → writerRoom ≤ length out → requestSound f ≡ true → Stands (packed (textOf f)) out n new → made (Count n) new ≡ writingRequest f out
   unfolding writingRequest
-  written h s = sym (all-good writerRoom (requestSound f) (packed (textOf f)) out h s)
+  written {n} {new} h s w =
+      wrote-count (packed (textOf f)) out new n (sym (w .count)) (w .buffer) ∙ sym (all-good writerRoom (requestSound f) (packed (textOf f)) out h s)

@@ -40,7 +40,7 @@ returns-3 : tie.Need-returns-3
 returns-3 c =
     let p = c .before .before in
     let s = p .before .before .before .before .before .before .before in
-    rw (← (written (fields s) (s .args .out .now) (omega arith) (sound (p .before .before)))) (p .write-packed .ensures)
+    written (fields s) (s .args .out .now) (omega arith) (sound (p .before .before)) (p .write-packed .ensures)
 
 pub write-request-spec : {M : Type 1} → statement M
 write-request-spec =
