@@ -38,7 +38,9 @@ module _ {a old mid : List ℕ} {n : ℕ} (s : Stands a old n mid) where
   stands-room = rw (rest-of n mid, stands-rest) (length-drop n old)
 
   -- another text, written into that room
-  pub stands-behind : {b part : List ℕ} {m : ℕ} → Stands b (take (length mid - n) (drop n mid)) m part → Stands (a ++ b) old (n + m) (putMid n (length mid - n) mid part)
+  pub stands-behind :
+      {b part : List ℕ} {m : ℕ} → Stands b (take (length mid - n) (drop n mid)) m part
+      → Stands (a ++ b) old (n + m) (putMid n (length mid - n) mid part)
   stands-behind {b} {part} {m} q =
       let r : Stands b (drop n old) m part = rw (rest-of n mid, stands-rest) at q in
       record {

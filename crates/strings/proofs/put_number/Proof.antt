@@ -31,11 +31,16 @@ written :
     × (c .write-digits .last .1 .0 ≡ digitsOf (start c .args .word) ++ drop (length (digitsOf (start c .args .word))) (start c .args .out .now))
 written c =
     let s = start c in
-    written-digits (s .args .word) (s .args .out .now) (c .write-digits .result) (c .write-digits .last .1 .0) (s .pre .0) (omega arith) (c .write-digits .ensures)
+    let w = c .write-digits in
+    written-digits (s .args .word) (s .args .out .now) (w .result) (w .last .1 .0) (s .pre .0) (omega arith) (w .ensures)
 
 -- and stand
-stand : (c : tie.After-at) → let w = c .before .before .before .before in Stands (digitsOf (start w .args .word)) (start w .args .out .now) (c .at .given .0 .0) (w .write-digits .last .1 .0)
-stand c = let w = c .before .before .before .before in counted-stands (digitsOf (start w .args .word)) (start w .args .out .now) (written w) (c .at .given .1)
+stand :
+    (c : tie.After-at) → let w = c .before .before .before .before in
+    Stands (digitsOf (start w .args .word)) (start w .args .out .now) (c .at .given .0 .0) (w .write-digits .last .1 .0)
+stand c =
+    let w = c .before .before .before .before in
+    counted-stands (digitsOf (start w .args .word)) (start w .args .out .now) (written w) (c .at .given .1)
 
 most : (s : tie.Start) → length (digitsOf (s .args .word)) ≤ mostDigits
 most s = digits-most (s .args .word) (s .pre .0)

@@ -23,7 +23,9 @@ returns c = additional-many _ _ (c .before .leading-additional .ensures) (omega 
 within : (c : tie.Else1) → c .before .leading-additional .result ≤ length (c .before .before .before .args .part .now)
 within c = rw (c .before .leading-additional .ensures) (leading-within (c .before .before .before .args .part .now))
 
-hashed : (c : tie.Else2) → begins hash (drop (c .before .before .before .before .before .leading-additional .result) (c .before .before .before .before .before .before .before .args .part .now)) ≡ true
+hashed :
+    (c : tie.Else2) → let l = c .before .before .before .before .before in
+    begins hash (drop (l .leading-additional .result) (l .before .before .args .part .now)) ≡ true
 hashed c = sym (rw rest-of at (c .before .begins-with .ensures)) ∙ not-false _ (c .if2 .left)
 
 sub-begins-with : tie.Need-sub-begins-with
@@ -51,11 +53,13 @@ add-if3 c = search needs
 
 returns-3 : tie.Need-returns-3
 returns-3 c =
-    additional-more _ _ (c .before .before .before .before .before .before .leading-additional .ensures) (omega arith) (hashed (c .before)) (omega arith)
+    let l = c .before .before .before .before .before .before in
+    additional-more _ _ (l .leading-additional .ensures) (omega arith) (hashed (c .before)) (omega arith)
 
 returns-4 : tie.Need-returns-4
 returns-4 c =
-    (omega arith, additional-read _ _ (c .before .before .before .before .before .before .leading-additional .ensures) (omega arith) (hashed (c .before)) (omega arith))
+    let l = c .before .before .before .before .before .before in
+    (omega arith, additional-read _ _ (l .leading-additional .ensures) (omega arith) (hashed (c .before)) (omega arith))
 
 pub read-additional-spec : {M : Type 1} → statement M
 read-additional-spec =

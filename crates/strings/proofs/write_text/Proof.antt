@@ -125,7 +125,7 @@ add-result c =
     let e = a .before .before .before .before in
     let s = start3 e in
     omega
-    (arith, three e .count, before-additional (fields s) (s .pre .0), a .put-additional .ensures .count, length-append (s .args .additional .now) hash, few s)
+    (arith, three e .count, before-additional (fields s) (s .pre .0), a .put-additional .ensures .count, few s, length-append (s .args .additional .now) hash)
 
 same-length : tie.Need-same-length
 same-length c = search needs
