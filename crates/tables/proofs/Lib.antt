@@ -1,6 +1,7 @@
 -- `Keys`: rows that ascend by a key. `Sound`: what a sound table and list say. `Stored`: what is found, and what storing a record leaves.
--- `Alone`: one row by itself.
+-- `Alone`: one row by itself. `Ends`: how a scan of ascending words knows a number.
 pub mod Keys
 pub mod Sound
+pub mod Ends
 pub mod Stored
 pub mod Alone

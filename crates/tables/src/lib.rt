@@ -1,19 +1,18 @@
 // The lent table and the lent list: whether they are sound, and where a number or a subscriber stands in them.
 use numbers::FunctionalNumber;
 use numbers::Msisdn;
-use numbers::is_number_by;
+use numbers::is_number;
 use numbers::least_numbers;
 use records::ROW_WORDS;
 use records::row_sound;
 ghost use mathlib.Core.Path.{_≡_};
-ghost use mathlib.Core.Bool.{true, _&&_};
-ghost use Prim.Native.Nat.{_/_, _<_};
+ghost use mathlib.Core.Bool.{true};
+ghost use Prim.Native.Nat.{_*_, _/_, _^_, _<_};
 ghost use lib.ListN.{length};
-ghost use lib.Dec.{ltb, leb};
-ghost use Rattle.numbers.specs.Least.{leastNumbers};
-ghost use Rattle.numbers.specs.Numbers.{isNumber};
+ghost use Rattle.numbers.specs.Numbers.{isNumber, digitsOf};
 ghost use Rattle.tables.specs.Keys.{key, every, ascends, placeOf};
-ghost use Rattle.tables.specs.Tables.{tableSound, rowOf, mostFlags, listSound, flagsOf};
+ghost use Rattle.tables.specs.Tables.{tableSound, rowOf, listSound, flagsOf};
+ghost use Rattle.tables.specs.Ends.{endFrom};
 
 // Where a number stands among the rows.
 pub enum Found {
@@ -29,6 +28,9 @@ const MOST_SUBSCRIBERS: usize = 4096;
 
 // "flags 0 to 3".
 const MOST_FLAGS: u64 = 3;
+
+// The end of the shortest numbers, which have 5 digits.
+const FIRST_END: u64 = 200000;
 
 // "two words each (MSISDN; flags 0 to 3 ..)".
 const SUBSCRIBER_WORDS: usize = 2;
@@ -60,12 +62,29 @@ pub fn table_sound(table: &[u64]) -> bool
     true
 }
 
-// Whether a subscriber's row is sound and stands above the MSISDN before it.
-fn subscriber_stands(before: u64, msisdn: u64, flags: u64, least: &[u64; 65]) -> bool
-    requires { ⌜ now least ≡ leastNumbers ⌝ }
-    ensures { λ r. ⌜ r ≡ (ltb before msisdn && (isNumber msisdn && leb flags mostFlags)) ⌝ }
+// The end of the numbers that have as many digits as this one.
+fn end_of_length(number: u64) -> u64
+    requires { ⌜ isNumber number ≡ true ⌝ }
+    ensures { λ r. ⌜ r ≡ 2 * 10 ^ length (digitsOf number) ⌝ }
 {
-    (before < msisdn) & (is_number_by(msisdn, least) & (flags <= MOST_FLAGS))
+    let mut end = FIRST_END;
+    while end <= number {
+        end = 10 * end;
+    }
+    end
+}
+
+// The end known so far, while the word lies below it; else that of the word's own length, 0 where it is no number.
+fn end_from(end: u64, word: u64) -> u64
+    ensures { λ r. ⌜ r ≡ endFrom end word ⌝ }
+{
+    if word < end {
+        return end;
+    }
+    if !is_number(word) {
+        return 0;
+    }
+    end_of_length(word)
 }
 
 // Whether the list is sound: whole rows, few enough, each sound and above the one before it.
@@ -79,12 +98,14 @@ pub fn list_sound(list: &[u64]) -> bool
     if MOST_SUBSCRIBERS < rows {
         return false;
     }
-    let least = least_numbers();
     let mut before = 0;
+    let mut end = 0;
     let mut row = 0;
     while row < rows {
         let msisdn = list[SUBSCRIBER_WORDS * row];
-        if !subscriber_stands(before, msisdn, list[SUBSCRIBER_WORDS * row + FLAGS], &least) {
+        let flags = list[SUBSCRIBER_WORDS * row + FLAGS];
+        end = end_from(end, msisdn);
+        if !((before < msisdn) & ((msisdn < end) & (flags <= MOST_FLAGS))) {
             return false;
         }
         before = msisdn;

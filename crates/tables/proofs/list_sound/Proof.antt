@@ -1,18 +1,23 @@
--- The invariant: the rows passed stand, and `before` is the MSISDN of the last. Assumes nothing.
-use mathlib.Core.Path.{refl, sym, _∙_}
+-- The invariant: the rows passed stand, `before` is the MSISDN of the last, and the words above it up to `end` are numbers. Assumes nothing.
+use mathlib.Core.Path.{refl, _∙_}
+use mathlib.Core.Bool.{_&&_}
 use Prim.Native.Nat.{_-_}
+use native.Mathlib.Omega.{arith}
 use borrow.Author.Needs.{needs}
-use borrow.Author.Tests.{not-true, not-false}
-use Rattle.tables.specs.Tables.{subscriberWords, mostSubscribers, subscribersIn, msisdnKey, subscriberStands, listSound}
+use lib.Dec.{ltb, leb}
+use borrow.Author.Tests.{not-true, not-false, ltb-true}
+use Rattle.answers.proofs.Tests.{and-left}
+use Rattle.tables.specs.Tables.{subscriberWords, mostSubscribers, subscribersIn, msisdnKey, mostFlags, flagsAt, subscriberStands, listSound}
+use Rattle.tables.proofs.Ends.{Reaches, reaches-none, end-test, end-reaches}
 use Rattle.tables.proofs.Sound.{subscriberSound, ragged, too-many, not-every, all-stand, Scanned, scan-start, scan-test, scan-next, scan-end}
 use Rattle.tables.proofs.list_sound.Statement.{statement}
 use Rattle.tables.proofs.list_sound.Tie as tie
 
 abbrev Inv-loop : tie.InvT-loop
-Inv-loop list rows least before₀ row₀ before row = Scanned (msisdnKey list) (subscriberSound list) (subscribersIn list) row before
+Inv-loop list rows before₀ end₀ row₀ before end row = Scanned (msisdnKey list) (subscriberSound list) (subscribersIn list) row before × Reaches before end
 
 abbrev μ-loop : tie.MeasureT-loop
-μ-loop list rows least before₀ row₀ before row = rows - row
+μ-loop list rows before₀ end₀ row₀ before end row = rows - row
 
 returns : tie.Need-returns Inv-loop μ-loop
 unfolding listSound
@@ -24,13 +29,10 @@ returns-2 : tie.Need-returns-2 Inv-loop μ-loop
 unfolding listSound
 returns-2 c =
     let t = c .before .before .before .args .list .now in
-    too-many subscriberWords mostSubscribers (subscriberStands t) t (c .if2 .taken)
-
-least-numbers-requires : tie.Need-least-numbers-requires Inv-loop μ-loop
-least-numbers-requires c κs = search needs
+    too-many subscriberWords mostSubscribers (subscriberStands t) t (omega arith)
 
 loop-holds : tie.Need-loop-holds Inv-loop μ-loop
-loop-holds c = scan-start _ _ _
+loop-holds c = (scan-start _ _ _, reaches-none _)
 
 mul-msisdn : tie.Need-mul-msisdn Inv-loop μ-loop
 mul-msisdn c = search needs
@@ -41,28 +43,28 @@ mul-msisdn-2 c = search needs
 shared-slice-read-msisdn : tie.Need-shared-slice-read-msisdn Inv-loop μ-loop
 shared-slice-read-msisdn c = search needs
 
-mul-subscriber-stands : tie.Need-mul-subscriber-stands Inv-loop μ-loop
-mul-subscriber-stands c = search needs
+mul-flags : tie.Need-mul-flags Inv-loop μ-loop
+mul-flags c = search needs
 
-add-subscriber-stands : tie.Need-add-subscriber-stands Inv-loop μ-loop
-add-subscriber-stands c = search needs
+add-flags : tie.Need-add-flags Inv-loop μ-loop
+add-flags c = search needs
 
-mul-subscriber-stands-2 : tie.Need-mul-subscriber-stands-2 Inv-loop μ-loop
-mul-subscriber-stands-2 c = search needs
+mul-flags-2 : tie.Need-mul-flags-2 Inv-loop μ-loop
+mul-flags-2 c = search needs
 
-shared-slice-read-subscriber-stands : tie.Need-shared-slice-read-subscriber-stands Inv-loop μ-loop
-shared-slice-read-subscriber-stands c = search needs
+shared-slice-read-flags : tie.Need-shared-slice-read-flags Inv-loop μ-loop
+shared-slice-read-flags c = search needs
 
-subscriber-stands-requires : tie.Need-subscriber-stands-requires Inv-loop μ-loop
-subscriber-stands-requires c κs = search needs
+end-from-requires : tie.Need-end-from-requires Inv-loop μ-loop
+end-from-requires c κs = search needs
 
 returns-3 : tie.Need-returns-3 Inv-loop μ-loop
 unfolding listSound
 returns-3 c =
-    let at = c .before .before .before .before .before .before in
-    let t = at .before .before .before .before .before .args .list .now in
+    let at = c .before .before .before .before .before in
+    let t = at .before .before .before .before .args .list .now in
     not-every subscriberWords mostSubscribers (subscriberStands t) t (at .loop .row) (search needs)
-    (scan-test _ _ _ _ _ (at .loop .inv) _ refl ∙ sym (c .before .subscriber-stands .ensures) ∙ not-true _ (c .if3 .taken))
+    (scan-test _ _ _ _ _ (at .loop .inv .0) _ refl ∙ end-test _ _ _ (at .loop .inv .1) _ (c .before .end-from .ensures) _ ∙ not-true _ (c .if3 .taken))
 
 add-row : tie.Need-add-row Inv-loop μ-loop
 add-row c = search needs
@@ -72,15 +74,22 @@ loop-less c = search needs
 
 loop-again : tie.Need-loop-again Inv-loop μ-loop
 loop-again c =
-    let at = c .before .before .before .before .before .before in
-    scan-next _ _ _ _ _ (at .loop .inv) (search needs)
-    (scan-test _ _ _ _ _ (at .loop .inv) _ refl ∙ sym (c .before .subscriber-stands .ensures) ∙ not-false _ (c .if3 .left))
+    let at = c .before .before .before .before .before in
+    let t = at .before .before .before .before .args .list .now in
+    let w = msisdnKey t (at .loop .row) in
+    let new = c .before .end-from .result in
+    let seen = not-false _ (c .if3 .left) in (
+      scan-next _ _ _ _ _ (at .loop .inv .0) (search needs)
+          (scan-test _ _ _ _ _ (at .loop .inv .0) _ refl ∙ end-test _ _ _ (at .loop .inv .1) _ (c .before .end-from .ensures) _ ∙ seen),
+      end-reaches _ _ w (at .loop .inv .1) new (c .before .end-from .ensures)
+          (ltb-true (at .loop .before) w (and-left (ltb (at .loop .before) w) (ltb w new && leb (flagsAt t (at .loop .row)) mostFlags) seen)),
+    )
 
 returns-4 : tie.Need-returns-4 Inv-loop μ-loop
 unfolding listSound
 returns-4 c =
-    let t = c .before .before .before .before .before .before .args .list .now in
-    all-stand subscriberWords mostSubscribers (subscriberStands t) t (search needs) (search needs) (scan-end _ _ _ _ _ (c .before .loop .inv) (c .loop-test .left))
+    let t = c .before .before .before .before .before .args .list .now in
+    all-stand subscriberWords mostSubscribers (subscriberStands t) t (search needs) (search needs) (scan-end _ _ _ _ _ (c .before .loop .inv .0) (c .loop-test .left))
 
 pub list-sound-spec : {M : Type 1} → statement M
 list-sound-spec =
@@ -90,16 +99,15 @@ list-sound-spec =
     μ-loop
     returns
     returns-2
-    least-numbers-requires
     loop-holds
     mul-msisdn
     mul-msisdn-2
     shared-slice-read-msisdn
-    mul-subscriber-stands
-    add-subscriber-stands
-    mul-subscriber-stands-2
-    shared-slice-read-subscriber-stands
-    subscriber-stands-requires
+    mul-flags
+    add-flags
+    mul-flags-2
+    shared-slice-read-flags
+    end-from-requires
     returns-3
     add-row
     loop-less

@@ -1,6 +1,7 @@
 -- The invariant: the rows passed stand, and `before` is the number of the last. Assumes nothing.
 use mathlib.Core.Path.{_∙_}
 use Prim.Native.Nat.{_-_}
+use native.Mathlib.Omega.{arith}
 use borrow.Author.Needs.{needs}
 use borrow.Author.Tests.{not-true, not-false}
 use Rattle.records.specs.Rows.{rowWords, rowSound}
@@ -25,7 +26,7 @@ returns-2 : tie.Need-returns-2 Inv-loop μ-loop
 unfolding tableSound
 returns-2 c =
     let t = c .before .before .before .args .table .now in
-    too-many rowWords mostNumbers (rowStands t) t (c .if2 .taken)
+    too-many rowWords mostNumbers (rowStands t) t (omega arith)
 
 least-numbers-requires : tie.Need-least-numbers-requires Inv-loop μ-loop
 least-numbers-requires c κs = search needs
