@@ -24,21 +24,22 @@ pub record Rising (w end : ℕ) : Type 0 where
   pub some : 0 < end
 
 module _ (w : ℕ) (h : isNumber w ≡ true) where
-  pub below-end : w < 2 * 10 ^ length (digitsOf w)
+  below-end : w < 2 * 10 ^ length (digitsOf w)
   below-end = rw (stored-digits w h) at (stored-length (digitsOf w) (digits-are w h) .1)
 
   -- up to it, every word is a number
-  pub number-on : (x : ℕ) → w ≤ x → x < 2 * 10 ^ length (digitsOf w) → isNumber x ≡ true
+  number-on : (x : ℕ) → w ≤ x → x < 2 * 10 ^ length (digitsOf w) → isNumber x ≡ true
   number-on x l b =
       is-number (length (digitsOf w)) x (record { fewest = digits-fewest w h; most = digits-most w h; least = omega (arith, digits-least w h); below = b })
 
+  -- w is not below the end of a shorter length
   digits-apart : (d : ℕ) → d < length (digitsOf w) → 2 * 10 ^ d ≤ w
   digits-apart d l = omega (arith, digits-least w h, pow-suc 10 d, pow-le-pow-right {n = 10} (lit< tt) l)
 
   pub rising-first : Rising w (2 * 10 ^ fewestDigits)
   rising-first = record { digits = fewestDigits; few = digits-fewest w h; power = refl; some = omega arith }
 
-  -- not above w, it rises to the next length's, which is not the last one's end yet
+  -- while it is not above w it can rise to the next length's, which fits a word
   pub rising-next : (end : ℕ) → Rising w end → end ≤ w → Rising w (10 * end) × (10 * end ≤ 2 * 10 ^ mostDigits)
   rising-next end r l =
       let d = r .digits in
@@ -49,7 +50,7 @@ module _ (w : ℕ) (h : isNumber w ≡ true) where
       (λ f. let same : d ≡ length (digitsOf w) = omega (arith, r .few) in absurd (omega (arith, below-end, ap (λ (k : ℕ). 10 ^ k) same)))
       (less-or-not d (length (digitsOf w)))
 
-  -- above w, it is the end of w's own
+  -- once it is above w, it is the end of w's own length
   pub rising-end : (end : ℕ) → Rising w end → w < end → end ≡ 2 * 10 ^ length (digitsOf w)
   rising-end end r l =
       let e = r .power in
