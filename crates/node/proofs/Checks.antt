@@ -1,7 +1,7 @@
 -- What a call comes to at each check with a refusal or an error, the checks before it passed. Assumes nothing.
 use mathlib.Core.Path.{_≡_}
 use mathlib.Core.Bool.{true, false}
-use mathlib.Core.Option.{Option, none, some}
+use mathlib.Core.Option.{none, some}
 use mathlib.Core.List.{List, []}
 use Prim.Native.Nat.{ℕ, _≤_, _<_}
 use lib.ListN.{length}
@@ -12,7 +12,7 @@ use Rattle.numbers.specs.declared.Msisdn.{Msisdn}
 use Rattle.strings.specs.Text.{Request}
 use Rattle.strings.specs.Outcomes.{requestOf}
 use Rattle.tables.specs.Tables.{tableSound, listSound}
-use Rattle.rules.specs.Answers.{Answer, refusal, error, made, bufferRoom, Outcome}
+use Rattle.rules.specs.Answers.{refusal, error, made, bufferRoom, Outcome}
 use Rattle.rules.specs.Requests.{codingScheme, mostStringOctets, refusalChecks, requestChecks, request}
 use Rattle.rules.specs.Notices.{sending, result, finding, firstDue}
 use Rattle.rules.specs.Calls.{anyHolds}

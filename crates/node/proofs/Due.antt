@@ -1,5 +1,5 @@
 -- The search for the first due number, row by row. Assumes nothing.
-use mathlib.Core.Path.{_≡_, refl}
+use mathlib.Core.Path.{_≡_}
 use mathlib.Core.Bool.{true, false}
 use mathlib.Core.List.{List}
 use Prim.Native.Nat.{ℕ, suc, _+_, _-_, _≤_, _<_}
@@ -7,7 +7,7 @@ use native.Mathlib.Numerals.{add-one}
 use native.Mathlib.Omega.{arith}
 use Rattle.records.specs.Rows.{numberAt, recordAt}
 use Rattle.records.specs.Steps.{isDue}
-use Rattle.rules.specs.Answers.{Answer, found, noneDue}
+use Rattle.rules.specs.Answers.{found, noneDue}
 use Rattle.rules.specs.Notices.{firstDue}
 
 module _ (t : List ℕ) (delay clock n i : ℕ) where

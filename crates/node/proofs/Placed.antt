@@ -10,10 +10,8 @@ use Rattle.numbers.specs.declared.Msisdn.{Msisdn}
 use Rattle.strings.specs.declared.Operation.the-variants.{Register, Erase, Interrogate}
 use Rattle.strings.specs.Text.{Request, textOf, noticeOf}
 use Rattle.answers.specs.Checks.{decide}
-use Rattle.answers.specs.Writing as writing
-use Rattle.answers.specs.declared.Written.the-variants.{Count}
+use Rattle.answers.specs.Writing.{Stands}
 use Rattle.packing.specs.Packing.{packed}
-use Rattle.answers.proofs.Writing.{made-one}
 use Rattle.records.specs.declared.Notice.{Notice}
 use Rattle.records.specs.declared.Notice.the-variants.{Absent, Waiting, InFlight}
 use Rattle.records.specs.declared.Record.{Record}
@@ -111,9 +109,6 @@ module _ (t : List ℕ) (i : ℕ) (b : List ℕ) (number : FunctionalNumber) (st
 
   pub sending-placed :
       (next r : Record) (new after : List ℕ) (octets : ℕ) → step ≡ Becomes next → r ≡ recordAt t i → new ≡ stored t i next
-      → writing.made (Count octets) after ≡ writing.wrote (packed (textOf (noticeOf number (r .supervisor)))) b
+      → Stands (packed (textOf (noticeOf number (r .supervisor)))) b octets after
       → made (sends (r .addressee .0) octets) new after ≡ storing t i (sentStep number b (recordAt t i) step)
-  sending-placed next r new after octets e same stores wrote =
-      let w = made-one (Count octets) (Count (octetCount (textOf (noticeOf number (r .supervisor))))) after (over (textOf (noticeOf number (r .supervisor))) b) wrote refl in
-      let n : octets ≡ octetCount (textOf (noticeOf number (r .supervisor))) = cc (w .0) in
-      rw (e, ← same, stores, w .1, n)
+  sending-placed next r new after octets e same stores w = rw (e, ← same, stores, w .buffer, w .count)

@@ -1,6 +1,6 @@
 -- Document 01, "Notices": what a sending, a result and a finding come to. Assumes nothing.
 use Prim.Native.Nat.{ℕ, zero, suc}
-use mathlib.Core.Bool.{Bool, true, false, cond, not, _&&_, _||_}
+use mathlib.Core.Bool.{Bool, cond, not, _||_}
 use mathlib.Core.Option.{Option, none, some}
 use mathlib.Core.List.{List, [], _∷_}
 use lib.ListN.{length}
@@ -10,7 +10,7 @@ use Rattle.numbers.specs.Numbers.{isNumber}
 use Rattle.numbers.specs.declared.FunctionalNumber.{FunctionalNumber}
 use Rattle.strings.specs.Text.{textOf, noticeOf}
 use Rattle.records.specs.declared.Notice.{Notice}
-use Rattle.records.specs.declared.Notice.the-variants.{Absent, Waiting, InFlight}
+use Rattle.records.specs.declared.Notice.the-variants.{Absent, Waiting}
 use Rattle.records.specs.declared.Record.{Record}
 use Rattle.records.specs.Steps.{mostSendings, lastKind, isWaiting, isInFlight, isDue, sendingsDone, launched, withNotice, cleared, delayAllowed}
 use Rattle.records.specs.Rows.{numberAt, recordAt, stored}

@@ -20,14 +20,17 @@ use Rattle.strings.proofs.Begins.{begins-only}
 leading-text : (a : List ℕ) (c : ℕ) (s : List ℕ) → areAdditional a ≡ true → isAdditional c ≡ false → leadingAdditional (a ++ c ∷ s) ≡ length a
 unfolding leadingAdditional areAdditional
 leading-text [] c s h k = rw k
-leading-text (x ∷ a) c s h k = rw (and-left (isAdditional x) (areAdditional a) h) (ap suc (leading-text a c s (and-right (isAdditional x) (areAdditional a) h) k))
+leading-text (x ∷ a) c s h k =
+    rw (and-left (isAdditional x) (areAdditional a) h) (ap suc (leading-text a c s (and-right (isAdditional x) (areAdditional a) h) k))
 
 leading-are : (s : List ℕ) → areAdditional (take (leadingAdditional s) s) ≡ true
 unfolding leadingAdditional areAdditional
 leading-are [] = refl
 leading-are (c ∷ s) = go (isAdditional c) refl (leading-are s)
   where
-    go : (b : Bool) → isAdditional c ≡ b → areAdditional (take (leadingAdditional s) s) ≡ true → areAdditional (take (leadingAdditional (c ∷ s)) (c ∷ s)) ≡ true
+    go :
+        (b : Bool) → isAdditional c ≡ b → areAdditional (take (leadingAdditional s) s) ≡ true
+        → areAdditional (take (leadingAdditional (c ∷ s)) (c ∷ s)) ≡ true
     go true e ih = rw e (rw e ih)
     go false e ih = rw e
 
@@ -37,7 +40,9 @@ unfolding leadingAdditional areAdditional
 are-leading [] = refl
 are-leading (c ∷ cs) = go (isAdditional c) (are-leading cs)
   where
-    go : (b : Bool) → areAdditional cs ≡ eqb (leadingAdditional cs) (length cs) → (b && areAdditional cs) ≡ eqb (cond b (suc (leadingAdditional cs)) 0) (suc (length cs))
+    go :
+        (b : Bool) → areAdditional cs ≡ eqb (leadingAdditional cs) (length cs)
+        → (b && areAdditional cs) ≡ eqb (cond b (suc (leadingAdditional cs)) 0) (suc (length cs))
     go true ih = ih ∙ sym (eqb·suc-suc (leadingAdditional cs) (length cs))
     go false ih = sym (eqb·zero-suc (length cs))
 
@@ -89,13 +94,16 @@ module _ (s : List ℕ) (n : ℕ) (count : n ≡ leadingAdditional s) where
 pub additional-back : (a : List ℕ) → leb (length a) mostAdditional ≡ true → areAdditional a ≡ true → additionalAt (a ++ hash) ≡ some a
 unfolding begins additionalAt
 additional-back a most are =
-    rw (leading-text a 35 [] are (unfold isAdditional isDigit in refl), drop-append-seam a hash, most, eq-eqb (length (a ++ hash)) (length a + 1) (length-append a hash), take-append-seam a hash)
+    let l = eq-eqb (length (a ++ hash)) (length a + 1) (length-append a hash) in
+    rw (leading-text a 35 [] are (unfold isAdditional isDigit in refl), drop-append-seam a hash, most, l, take-append-seam a hash)
 
 -- `#`, and nothing behind it
 hash-only : (s : List ℕ) → begins hash s ≡ true → length s ≤ 1 → s ≡ hash
 hash-only s b h = begins-only hash s b ∙ ap (λ (l : List ℕ). hash ++ l) (drop-of-length-le s h)
 
-pub additional-only : (s : List ℕ) {a : List ℕ} → additionalAt s ≡ some a → (leb (length a) mostAdditional ≡ true) × (areAdditional a ≡ true) × (s ≡ a ++ hash)
+pub additional-only :
+    (s : List ℕ) {a : List ℕ} → additionalAt s ≡ some a
+    → (leb (length a) mostAdditional ≡ true) × (areAdditional a ≡ true) × (s ≡ a ++ hash)
 unfolding additionalAt
 additional-only s e = go (leadingAdditional s) (leading-are s) (onlyIf-some _ e)
   where
@@ -104,10 +112,14 @@ additional-only s e = go (leadingAdditional s) (leading-are s) (onlyIf-some _ e)
         → ((leb n mostAdditional && begins hash (drop n s) && eqb (length s) (n + 1)) ≡ true) × (take n s ≡ a)
         → (leb (length a) mostAdditional ≡ true) × (areAdditional a ≡ true) × (s ≡ a ++ hash)
     go n are t =
-        let front = and-left (leb n mostAdditional && begins hash (drop n s)) (eqb (length s) (n + 1)) (t .0) in
-        let l = eqb-true (length s) (n + 1) (and-right (leb n mostAdditional && begins hash (drop n s)) (eqb (length s) (n + 1)) (t .0)) in
+        let few = leb n mostAdditional in
+        let hashed = begins hash (drop n s) in
+        let last = eqb (length s) (n + 1) in
+        let both = and-left (few && hashed) last (t .0) in
+        let l = eqb-true (length s) (n + 1) (and-right (few && hashed) last (t .0)) in
+        let rest = hash-only (drop n s) (and-right few hashed both) (omega (arith, length-drop n s)) in
         rw (← (t .1)) (
-          rw (length-take-le n s (omega arith)) (and-left (leb n mostAdditional) (begins hash (drop n s)) front),
+          rw (length-take-le n s (omega arith)) (and-left few hashed both),
           are,
-          sym (take-append-drop n s) ∙ ap (λ (r : List ℕ). take n s ++ r) (hash-only (drop n s) (and-right (leb n mostAdditional) (begins hash (drop n s)) front) (omega (arith, length-drop n s))),
+          sym (take-append-drop n s) ∙ ap (λ (r : List ℕ). take n s ++ r) rest,
         )

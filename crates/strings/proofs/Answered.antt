@@ -7,9 +7,9 @@ use Prim.Native.Nat.{ℕ, _+_, _-_, _≤_, _<_}
 use native.Mathlib.Omega.{arith}
 use lib.ListN.{length, drop, length-append, length-take, length-drop}
 use lib.Seq.{take-append-le, drop-append-le}
-use Rattle.answers.specs.Writing.{made, wrote}
-use Rattle.answers.specs.declared.Written.the-variants.{TooShort, Unfit}
-use Rattle.answers.proofs.Writing.{no-room, not-fit, all-good}
+use Rattle.answers.specs.Writing.{made, Stands}
+use Rattle.answers.specs.declared.Written.the-variants.{Count, TooShort, Unfit}
+use Rattle.answers.proofs.Writing.{wrote-count, no-room, not-fit, all-good}
 use Rattle.packing.specs.Packing.{packed, readable, unpacked}
 use Rattle.strings.specs.declared.Fields.{Fields}
 use Rattle.strings.specs.declared.Reading.{Reading}
@@ -30,7 +30,8 @@ not-error f n m e = absurd (let z : _≡_ {A = ℕ} 0 1 = cc in omega arith)
 
 -- what is told of a text s, at the front of another: where its additional field ends, before the last character
 pub told-place :
-    (text s : List ℕ) (f : Fields) (g : Request) → s ≡ textOf g → length s ≤ length text → told (Read f) text ≡ tell s (some g) → length s ≡ f .start + f .count + 1
+    (text s : List ℕ) (f : Fields) (g : Request) → s ≡ textOf g → length s ≤ length text → told (Read f) text ≡ tell s (some g)
+    → length s ≡ f .start + f .count + 1
 told-place text s f g t h e =
     let same : requestIn text f ≡ g = cc in
     let start : f .start ≡ length s - 1 - length (g .additional) = cc in
@@ -48,7 +49,8 @@ told-end s f e = go (fieldsOf s) refl e
 pub told-front : (s more : List ℕ) (r : Reading) → told r s ≡ tell s (fieldsOf s) → told r (s ++ more) ≡ told r s
 told-front s more (Read f) e =
     let end = told-end s f e in
-    rw (drop-append-le (f .start) s more (omega arith), take-append-le (f .count) (drop (f .start) s) more (omega (arith, length-drop (f .start) s)))
+    let l = length-drop (f .start) s in
+    rw (drop-append-le (f .start) s more (omega arith), take-append-le (f .count) (drop (f .start) s) more (omega arith))
 told-front s more Unreadable e = refl
 
 -- ---- the answer on packed octets
@@ -61,7 +63,9 @@ pub unreadable : (os : List ℕ) → readable os ≡ false → requestOf os ≡ 
 unfolding requestOf
 unreadable os e = rw e
 
-pub read : (os text more : List ℕ) (r : Reading) → readable os ≡ true → told r (unpacked os) ≡ tell (unpacked os) (fieldsOf (unpacked os)) → text ≡ unpacked os ++ more → text ≡ textBeside os → madeRead (record { reading = r; text = text }) ≡ reading os
+pub read :
+    (os text more : List ℕ) (r : Reading) → readable os ≡ true → told r (unpacked os) ≡ tell (unpacked os) (fieldsOf (unpacked os))
+    → text ≡ unpacked os ++ more → text ≡ textBeside os → madeRead (record { reading = r; text = text }) ≡ reading os
 unfolding reading requestOf
 read os text more r e d t b =
     let a : told r text ≡ tell (unpacked os) (fieldsOf (unpacked os)) = ap (told r) t ∙ told-front (unpacked os) more r d ∙ d in
@@ -78,6 +82,9 @@ module _ (f : Request) (out : List ℕ) where
   unfolding writingRequest
   unsound h u = sym (not-fit writerRoom (requestSound f) (packed (textOf f)) out h u)
 
-  pub written : writerRoom ≤ length out → requestSound f ≡ true → wrote (packed (textOf f)) out ≡ writingRequest f out
+  pub written :
+      {n : ℕ} {new : List ℕ} → writerRoom ≤ length out → requestSound f ≡ true → Stands (packed (textOf f)) out n new
+      → made (Count n) new ≡ writingRequest f out
   unfolding writingRequest
-  written h s = sym (all-good writerRoom (requestSound f) (packed (textOf f)) out h s)
+  written {n} {new} h s w =
+      wrote-count (packed (textOf f)) out new n (sym (w .count)) (w .buffer) ∙ sym (all-good writerRoom (requestSound f) (packed (textOf f)) out h s)

@@ -6,9 +6,8 @@ use mathlib.Core.List.{List}
 use Prim.Native.Nat.{ℕ, _≤_}
 use native.Mathlib.Omega.{arith}
 use lib.ListN.{length, drop, replicate, length-append}
-use Rattle.answers.specs.Writing.{Outcome, made, wrote}
+use Rattle.answers.specs.Writing.{Outcome, made, Stands}
 use Rattle.answers.specs.declared.Written.{Written}
-use Rattle.answers.specs.declared.Written.the-variants.{Count}
 use Rattle.answers.proofs.Tests.{less-or-not}
 use Rattle.answers.proofs.Checks.{not-some}
 use Rattle.answers.proofs.Writing.{made-one}
@@ -83,6 +82,8 @@ write-request-one f out a b new other p q = made-one a b new other p q
 
 pub write-notice-one :
     (number : FunctionalNumber) (supervisor : Msisdn) (out : List ℕ) (a b : ℕ) (new other : List ℕ)
-    → made (Count a) new ≡ wrote (packed (textOf (noticeOf number supervisor))) out → made (Count b) other ≡ wrote (packed (textOf (noticeOf number supervisor))) out
+    → Stands (packed (textOf (noticeOf number supervisor))) out a new → Stands (packed (textOf (noticeOf number supervisor))) out b other
     → (a ≡ b) × (new ≡ other)
-write-notice-one number supervisor out a b new other p q = let m = made-one (Count a) (Count b) new other p q in (cc (m .0), m .1)
+write-notice-one number supervisor out a b new other p q =
+    let e : a ≡ b = p .count ∙ sym (q .count) in
+    (e, p .buffer ∙ rw e (sym (q .buffer)))

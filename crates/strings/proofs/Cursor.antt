@@ -68,7 +68,10 @@ module _ (s : List ℕ) where
           all-read additional e = rw (operation .found, service .found, number .found, erasing .found, e)
 
 -- the additional field stands before the last character
-pub told-read : (text : List ℕ) (f : Fields) → fieldsOf text ≡ some (requestIn text f) → length text ≡ f .start + f .count + 1 → told (Read f) text ≡ tell text (fieldsOf text)
+pub told-read :
+    (text : List ℕ) (f : Fields) → fieldsOf text ≡ some (requestIn text f) → length text ≡ f .start + f .count + 1
+    → told (Read f) text ≡ tell text (fieldsOf text)
 told-read text f e l =
-    let c : length (take (f .count) (drop (f .start) text)) ≡ f .count = length-take-le (f .count) (drop (f .start) text) (omega (arith, length-drop (f .start) text)) in
+    let rest = drop (f .start) text in
+    let c = length-take-le (f .count) rest (omega (arith, length-drop (f .start) text)) in
     rw e (ap (λ (n : ℕ). fields (requestIn text f) n) (omega arith))

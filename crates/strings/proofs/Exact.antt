@@ -119,8 +119,10 @@ erasing-exact o = record { back = back; only = only }
         bind-some (numberFieldAt rest) _ q λ n r e.
         let k = number-exact .only rest r in
         let w = onlyIf-some (mayForce o) d in
-        rw (← (Option·some-injective _ _ e))
-        (and-both (mayForce o) (isNumber (n .got)) (w .0) (k .0), w .1 ∙ behind-only (ascii "88" ++ star) part p ∙ ap (λ (l : List ℕ). (ascii "88" ++ star) ++ l) (k .1))
+        rw (← (Option·some-injective _ _ e)) (
+          and-both (mayForce o) (isNumber (n .got)) (w .0) (k .0),
+          w .1 ∙ behind-only (ascii "88" ++ star) part p ∙ ap (λ (l : List ℕ). (ascii "88" ++ star) ++ l) (k .1),
+        )
 
     only : (s : List ℕ) {f : Field Erasing} → erasingAt o s ≡ some f → (erasingSound o (f .got) ≡ true) × (s ≡ erasingText (f .got) ++ f .rest)
     only s {f} h = ⊎-elim empty (forced s) (else-some _ _ h)

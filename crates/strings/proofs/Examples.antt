@@ -42,7 +42,10 @@ unfolding toldOf
 not-by-force = refl
 
 -- "Registering a 13-digit number takes 23 characters, 21 octets ending in a carriage return"
-pub thirteen-digits : (length (textFor 11234567890123) ≡ 23) × (length (octetsOf (textFor 11234567890123)) ≡ 21) × (getD (octetsOf (textFor 11234567890123)) 20 0 / 2 ≡ 13)
+pub thirteen-digits :
+    (length (textFor 11234567890123) ≡ 23)
+    × (length (octetsOf (textFor 11234567890123)) ≡ 21)
+    × (getD (octetsOf (textFor 11234567890123)) 20 0 / 2 ≡ 13)
 unfolding textFor octetsOf
 thirteen-digits = (refl, refl, refl)
 

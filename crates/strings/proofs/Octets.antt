@@ -66,4 +66,6 @@ too-long os h = go (requestOf os) refl
         absurd (omega (arith, unpacked-least os h, ap length (t .1), text-short f (t .0)))
 
 pub octets-most : (os : List ℕ) {f : Request} → requestOf os ≡ some f → length os ≤ mostOctets
-octets-most os e = ⊎-elim (λ h. not-some (sym (too-long os h) ∙ e)) (λ h. omega (arith, chars-count (length os))) (less-or-not mostCharacters (charsIn (length os)))
+octets-most os e =
+    ⊎-elim (λ h. not-some (sym (too-long os h) ∙ e)) (λ h. omega (arith, chars-count (length os)))
+    (less-or-not mostCharacters (charsIn (length os)))

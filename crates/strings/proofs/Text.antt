@@ -79,7 +79,9 @@ additional-range : (c : ℕ) → isAdditional c ≡ true → (32 ≤ c) × (c �
 unfolding isAdditional isDigit
 additional-range c h =
     ⊎-elim
-    (λ d. ⊎-elim (between 48 57 (omega arith) (omega arith)) (between 65 90 (omega arith) (omega arith)) (or-cases (leb 48 c && leb c 57) (leb 65 c && leb c 90) d))
+    (λ d.
+    ⊎-elim (between 48 57 (omega arith) (omega arith)) (between 65 90 (omega arith) (omega arith))
+    (or-cases (leb 48 c && leb c 57) (leb 65 c && leb c 90) d))
     (λ e. omega (arith, eqb-true c 32 e))
     (or-cases (leb 48 c && leb c 57 || (leb 65 c && leb c 90)) (eqb c 32) h)
   where
@@ -109,13 +111,18 @@ sound-erasing o Empty h = refl
 sound-erasing o (Forced m) h = and-right (mayForce o) (isNumber (m .0)) h
 
 starred-taken : (w : ℕ) → isNumber w ≡ true → takes (starred w) ≡ true
-starred-taken w h = takes-append (digitsOf w) star (additional-taken (digitsOf w) (digits-additional (digitsOf w) (digits-are w h))) (unfold takes taken in refl)
+starred-taken w h =
+    takes-append (digitsOf w) star (additional-taken (digitsOf w) (digits-additional (digitsOf w) (digits-are w h))) (unfold takes taken in refl)
 
 pub text-taken : (f : Request) → requestSound f ≡ true → takes (textOf f) ≡ true
 unfolding takes taken
 text-taken f h =
     let r = sound-rules f h in
-    rw (text-fields f) (takes-append (operationText (f .operation)) _ (operation (f .operation)) (takes-append (starred (f .number .0)) _ (starred-taken (f .number .0) (r .number)) (takes-append (erasingText (f .erasing)) _ (erasing (f .erasing) (r .erasing)) (takes-append (f .additional) hash (additional-taken (f .additional) (r .additional)) refl))))
+    rw (text-fields f)
+    (takes-append (operationText (f .operation)) _ (operation (f .operation))
+    (takes-append (starred (f .number .0)) _ (starred-taken (f .number .0) (r .number))
+    (takes-append (erasingText (f .erasing)) _ (erasing (f .erasing) (r .erasing))
+    (takes-append (f .additional) hash (additional-taken (f .additional) (r .additional)) refl))))
   where
     operation : (o : Operation) → takes (operationText o) ≡ true
     operation Register = refl
@@ -152,7 +159,8 @@ before-number f = go (f .operation)
 
 pub before-erasing : (f : Request) → requestSound f ≡ true → length (beforeErasing f) ≤ 22
 before-erasing f h =
-    simp (length-append (beforeNumber f), length-append (digitsOf (f .number .0))) (omega (arith, before-number f, digits-most (f .number .0) (sound-rules f h .number)))
+    simp (length-append (beforeNumber f), length-append (digitsOf (f .number .0)))
+    (omega (arith, before-number f, digits-most (f .number .0) (sound-rules f h .number)))
 
 pub before-additional : (f : Request) → requestSound f ≡ true → length (beforeAdditional f) ≤ 41
 before-additional f h = simp (length-append (beforeErasing f)) (omega (arith, before-erasing f h, go (f .erasing) (sound-rules f h .erasing)))
@@ -172,19 +180,22 @@ octets-short f h = omega (arith, text-short f h)
 
 -- ---- the notice
 
-pub notice-sound : (n : FunctionalNumber) (s : Msisdn) → isNumber (n .0) ≡ true → isNumber (s .0) ≡ true → requestSound (noticeOf n s) ≡ true
-unfolding requestSound noticeOf areAdditional
-notice-sound n s p q = rw (p, q)
-
 -- `##214*` number `*88*` supervisor `*#`
-pub notice-text : (n : FunctionalNumber) (s : Msisdn) → textOf (noticeOf n s) ≡ ascii "##214*" ++ (digitsOf (n .0) ++ (ascii "*88*" ++ (digitsOf (s .0) ++ ascii "*#")))
+pub notice-text :
+    (n : FunctionalNumber) (s : Msisdn)
+    → textOf (noticeOf n s) ≡ ascii "##214*" ++ (digitsOf (n .0) ++ (ascii "*88*" ++ (digitsOf (s .0) ++ ascii "*#")))
 unfolding textOf noticeOf
 notice-text n s = refl
 
--- at most 42 characters, 37 octets: it fits the 80 octets of a reply
-pub notice-short : (n : FunctionalNumber) (s : Msisdn) → isNumber (n .0) ≡ true → isNumber (s .0) ≡ true → length (textOf (noticeOf n s)) ≤ 42
-notice-short n s p q = rw (notice-text n s) (simp length-append (omega (arith, digits-most (n .0) p, digits-most (s .0) q)))
+module _ (n : FunctionalNumber) (s : Msisdn) (number : isNumber (n .0) ≡ true) (supervisor : isNumber (s .0) ≡ true) where
+  pub notice-sound : requestSound (noticeOf n s) ≡ true
+  unfolding requestSound noticeOf areAdditional
+  notice-sound = rw (number, supervisor)
 
-pub notice-octets : (n : FunctionalNumber) (s : Msisdn) → isNumber (n .0) ≡ true → isNumber (s .0) ≡ true → length (packed (textOf (noticeOf n s))) ≤ 37
-unfolding octetsFor
-notice-octets n s p q = rw (length-packed (textOf (noticeOf n s))) (omega (arith, notice-short n s p q))
+  -- at most 42 characters, 37 octets: a notice fits the 80 octets of its buffer
+  pub notice-short : length (textOf (noticeOf n s)) ≤ 42
+  notice-short = rw (notice-text n s) (simp length-append (omega (arith, digits-most (n .0) number, digits-most (s .0) supervisor)))
+
+  pub notice-octets : length (packed (textOf (noticeOf n s))) ≤ 37
+  unfolding octetsFor
+  notice-octets = rw (length-packed (textOf (noticeOf n s))) (omega (arith, notice-short))

@@ -8,8 +8,7 @@ ghost use mathlib.Core.Bool.{true};
 ghost use mathlib.Core.List.{_++_};
 ghost use Prim.Native.Nat.{_+_, _<_, _≤_};
 ghost use lib.ListN.{length};
-ghost use Rattle.answers.specs.Writing.{made, wrote};
-ghost use Rattle.answers.specs.declared.Written.the-variants.{Count};
+ghost use Rattle.answers.specs.Writing.{made, Stands};
 ghost use Rattle.packing.specs.Packing.{packed};
 ghost use Rattle.numbers.specs.Numbers.{mostDigits, isNumber, digitsOf};
 ghost use Rattle.strings.specs.Text.{isAdditional, mayForce, erasingSound, requestFrom, requestSound, operationText, serviceText, star, hash, supervisorText, msisdnText, textOf, noticeOf, mostCharacters, mostOctets};
@@ -266,7 +265,7 @@ pub fn read_request(octets: &[u8]) -> ReadRequest
 // Writes characters over the front of a part.
 fn put(characters: &[u8], out: &mut [u8]) -> usize
     requires { ⌜ length (now characters) ≤ length (now out) ⌝ }
-    ensures { λ r. ⌜ made (Count r) (now (out .exit)) ≡ wrote (now (characters .entry)) (now (out .entry)) ⌝ }
+    ensures { λ r. ⌜ Stands (now (characters .entry)) (now (out .entry)) r (now (out .exit)) ⌝ }
 {
     let mut i = 0;
     while i < characters.len() {
@@ -279,7 +278,7 @@ fn put(characters: &[u8], out: &mut [u8]) -> usize
 // Writes the operation, `214` and the star.
 fn put_operation(operation: Operation, out: &mut [u8]) -> usize
     requires { ⌜ 6 ≤ length (now out) ⌝ }
-    ensures { λ r. ⌜ made (Count r) (now (out .exit)) ≡ wrote (operationText operation ++ (serviceText ++ star)) (now (out .entry)) ⌝ }
+    ensures { λ r. ⌜ Stands (operationText operation ++ (serviceText ++ star)) (now (out .entry)) r (now (out .exit)) ⌝ }
 {
     match operation {
         Operation::Register => put(b"**214*", out),
@@ -292,7 +291,7 @@ fn put_operation(operation: Operation, out: &mut [u8]) -> usize
 fn put_number(word: u64, out: &mut [u8]) -> usize
     requires { ⌜ isNumber word ≡ true ⌝ }
     requires { ⌜ mostDigits < length (now out) ⌝ }
-    ensures { λ r. ⌜ made (Count r) (now (out .exit)) ≡ wrote (digitsOf word ++ star) (now (out .entry)) ⌝ }
+    ensures { λ r. ⌜ Stands (digitsOf word ++ star) (now (out .entry)) r (now (out .exit)) ⌝ }
 {
     // A number, and room: nothing is refused.
     let Written::Count(at) = numbers::write_digits(word, out) else {
@@ -305,7 +304,7 @@ fn put_number(word: u64, out: &mut [u8]) -> usize
 fn put_erasing(erasing: Erasing, out: &mut [u8]) -> usize
     requires { ⌜ erasingSound Operation.Erase erasing ≡ true ⌝ }
     requires { ⌜ 3 + mostDigits < length (now out) ⌝ }
-    ensures { λ r. ⌜ made (Count r) (now (out .exit)) ≡ wrote (supervisorText erasing ++ (star ++ (msisdnText erasing ++ star))) (now (out .entry)) ⌝ }
+    ensures { λ r. ⌜ Stands (supervisorText erasing ++ (star ++ (msisdnText erasing ++ star))) (now (out .entry)) r (now (out .exit)) ⌝ }
 {
     match erasing {
         Erasing::Empty => put(b"**", out),
@@ -319,7 +318,7 @@ fn put_erasing(erasing: Erasing, out: &mut [u8]) -> usize
 // Writes the additional field and `#`.
 fn put_additional(additional: &[u8], out: &mut [u8]) -> usize
     requires { ⌜ length (now additional) < length (now out) ⌝ }
-    ensures { λ r. ⌜ made (Count r) (now (out .exit)) ≡ wrote (now (additional .entry) ++ hash) (now (out .entry)) ⌝ }
+    ensures { λ r. ⌜ Stands (now (additional .entry) ++ hash) (now (out .entry)) r (now (out .exit)) ⌝ }
 {
     let at = put(additional, out);
     at + put(b"#", &mut out[at..])
@@ -335,7 +334,7 @@ fn write_text(
 ) -> usize
     requires { ⌜ requestSound (requestFrom operation number erasing (now additional)) ≡ true ⌝ }
     requires { ⌜ mostCharacters ≤ length (now text) ⌝ }
-    ensures { λ r. ⌜ made (Count r) (now (text .exit)) ≡ wrote (textOf (requestFrom operation number erasing (now (additional .entry)))) (now (text .entry)) ⌝ }
+    ensures { λ r. ⌜ Stands (textOf (requestFrom operation number erasing (now (additional .entry)))) (now (text .entry)) r (now (text .exit)) ⌝ }
 {
     let at = put_operation(operation, text);
     let at = at + put_number(number.0, &mut text[at..]);
@@ -353,7 +352,7 @@ fn write_packed(
 ) -> usize
     requires { ⌜ requestSound (requestFrom operation number erasing (now additional)) ≡ true ⌝ }
     requires { ⌜ mostOctets ≤ length (now out) ⌝ }
-    ensures { λ r. ⌜ made (Count r) (now (out .exit)) ≡ wrote (packed (textOf (requestFrom operation number erasing (now (additional .entry))))) (now (out .entry)) ⌝ }
+    ensures { λ r. ⌜ Stands (packed (textOf (requestFrom operation number erasing (now (additional .entry))))) (now (out .entry)) r (now (out .exit)) ⌝ }
 {
     let mut text = [0u8; MOST_CHARACTERS];
     let n = write_text(operation, number, erasing, additional, &mut text);
@@ -414,7 +413,7 @@ pub fn write_request(
 pub fn write_notice(number: FunctionalNumber, supervisor: Msisdn, out: &mut [u8]) -> usize
     requires { ⌜ (isNumber (number .0) ≡ true) × (isNumber (supervisor .0) ≡ true) ⌝ }
     requires { ⌜ mostOctets ≤ length (now out) ⌝ }
-    ensures { λ r. ⌜ made (Count r) (now (out .exit)) ≡ wrote (packed (textOf (noticeOf number supervisor))) (now (out .entry)) ⌝ }
+    ensures { λ r. ⌜ Stands (packed (textOf (noticeOf number supervisor))) (now (out .entry)) r (now (out .exit)) ⌝ }
 {
     write_packed(
         Operation::Erase,

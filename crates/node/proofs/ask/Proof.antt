@@ -1,13 +1,11 @@
-use mathlib.Core.Path.{_≡_, sym, ap, _∙_}
+use mathlib.Core.Path.{_≡_, sym, _∙_}
 use mathlib.Core.Bool.{Bool, true, false, not, _&&_}
 use mathlib.Core.List.{List}
-use Prim.Native.Nat.{ℕ, _%_}
-use lib.Dec.{eqb}
+use Prim.Native.Nat.{ℕ}
 use denote.Ref.{now}
 use borrow.Author.Tests.{eq-eqb, ne-eqb}
 use Rattle.records.specs.Rows.{rowSound}
-use Rattle.tables.specs.Tables.{rowOf, flagsOf, rowsIn}
-use Rattle.tables.specs.declared.Found.{Found}
+use Rattle.tables.specs.Tables.{rowOf, flagsOf}
 use Rattle.tables.specs.declared.Found.the-variants.{At}
 use Rattle.tables.proofs.Sound.{table-row}
 use Rattle.tables.proofs.Stored.{row-found}

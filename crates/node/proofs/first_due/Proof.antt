@@ -6,7 +6,6 @@ use Rattle.tables.specs.Tables.{rowsIn}
 use Rattle.tables.proofs.Sound.{table-row}
 use Rattle.rules.specs.Notices.{firstDue}
 use Rattle.node.proofs.Due.{due-here, due-later, none-due}
-use borrow.Author.Needs.{needs}
 use Rattle.node.proofs.first_due.Statement.{statement}
 use Rattle.node.proofs.first_due.Tie as tie
 

@@ -1,4 +1,4 @@
-use mathlib.Core.Path.{_≡_, ap, _∙_}
+use mathlib.Core.Path.{ap, _∙_}
 use Rattle.records.specs.declared.Record.{Record}
 use Rattle.records.specs.Steps.{isDue}
 use borrow.Author.Needs.{needs}

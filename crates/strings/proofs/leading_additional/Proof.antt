@@ -26,7 +26,9 @@ is-additional-requires : tie.Need-is-additional-requires Inv-loop μ-loop
 is-additional-requires c κs = search needs
 
 returns : tie.Need-returns Inv-loop μ-loop
-returns c = leading-stop _ _ (c .before .before .before .before .loop .inv .1) (omega arith) (sym (c .before .is-additional .ensures) ∙ not-true _ (c .if1 .taken))
+returns c =
+    leading-stop _ _ (c .before .before .before .before .loop .inv .1) (omega arith)
+    (sym (c .before .is-additional .ensures) ∙ not-true _ (c .if1 .taken))
 
 add-n : tie.Need-add-n Inv-loop μ-loop
 add-n c = omega arith
@@ -36,7 +38,8 @@ loop-less c = omega arith
 
 loop-again : tie.Need-loop-again Inv-loop μ-loop
 loop-again c =
-    (omega arith, leading-step _ _ (c .before .before .before .before .loop .inv .1) (omega arith) (sym (c .before .is-additional .ensures) ∙ not-false _ (c .if1 .left)))
+    let l = c .before .before .before .before .loop in
+    (omega arith, leading-step _ _ (l .inv .1) (omega arith) (sym (c .before .is-additional .ensures) ∙ not-false _ (c .if1 .left)))
 
 returns-2 : tie.Need-returns-2 Inv-loop μ-loop
 returns-2 c = leading-end _ _ (c .before .loop .inv .1) (omega arith)

@@ -33,7 +33,8 @@ loop-again : tie.Need-loop-again Inv-loop μ-loop
 loop-again c =
     let l = c .before .before in
     let a = l .before .args in
-    (omega arith, simp length-set (omega arith), copy-more (a .characters .now) (a .out .now) (l .loop .out) (l .loop .i) (omega arith) (omega arith) (l .loop .inv .2))
+    let more = copy-more (a .characters .now) (a .out .now) (l .loop .out) (l .loop .i) (omega arith) (omega arith) (l .loop .inv .2) in
+    (omega arith, simp length-set (omega arith), more)
 
 same-length : tie.Need-same-length Inv-loop μ-loop
 same-length c = omega arith

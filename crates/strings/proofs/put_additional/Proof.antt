@@ -1,9 +1,7 @@
--- `strings::put_additional` meets its contract. Assumes nothing.
-use mathlib.Core.Path.{refl}
+-- `strings::put_additional` meets its contract: `#` stands behind the additional field. Assumes nothing.
 use native.Mathlib.Omega.{arith}
 use borrow.Author.Needs.{needs}
-use Rattle.strings.specs.Text.{hash}
-use Rattle.answers.proofs.Parts.{Standing, standing, count-is, wrote-behind}
+use Rattle.answers.proofs.Parts.{stands-within, stands-room, stands-behind}
 use Rattle.strings.proofs.put_additional.Statement.{statement}
 use Rattle.strings.proofs.put_additional.Tie as tie
 
@@ -13,38 +11,32 @@ put-requires c κs = search needs
 slice-aggregate-put : tie.Need-slice-aggregate-put
 slice-aggregate-put c = search needs
 
--- the additional field stands
-stood : (c : tie.After-put) → Standing (c .before .before .before .before .args .additional .now) (c .before .before .before .before .args .out .now) (c .put .last .1 .0) (c .put .result)
-stood c =
-    let a = c .before .before .before .before .args in
-    standing (a .additional .now) (a .out .now) (c .put .last .1 .0) (c .put .result) (c .put .ensures) (omega arith)
-
 sub-put : tie.Need-sub-put
-sub-put c = stood (c .before .before .before) .within
+sub-put c = stands-within (c .before .before .before .put .ensures)
 
 part-put-start : tie.Need-part-put-start
-part-put-start c = stood (c .before .before .before) .within
+part-put-start c = stands-within (c .before .before .before .put .ensures)
 
 part-put-end : tie.Need-part-put-end
 part-put-end c = search needs
 
 put-requires-2 : tie.Need-put-requires-2
-put-requires-2 c κs = omega (arith, stood (c .before .before .before .before) .room)
+put-requires-2 c κs = let p = c .before .before .before .before in omega (arith, stands-room (p .put .ensures), p .put .ensures .count)
+
+add-result : tie.Need-add-result
+add-result c =
+    let q = c .before .before in
+    let p = q .before .before .before .before .before in
+    omega (arith, p .put .ensures .count, q .put2 .ensures .count)
+
+same-length : tie.Need-same-length
+same-length c = search needs
 
 returns : tie.Need-returns
 returns c =
     let q = c .before .before in
     let p = q .before .before .before .before .before in
-    let a = p .before .before .before .before .args in
-    wrote-behind (a .additional .now) hash (a .out .now) (p .put .last .1 .0) (q .put2 .last .1 .0) (p .put .result) (q .put2 .result) (p .put .ensures) (q .put2 .ensures)
-
-add-result : tie.Need-add-result
-add-result c =
-    let p = c .before .before .before .before .before .before .before in
-    omega (arith, stood p .count, count-is (c .before .before .put2 .result) hash (c .before .before .put2 .ensures) refl)
-
-same-length : tie.Need-same-length
-same-length c = search needs
+    stands-behind (p .put .ensures) (q .put2 .ensures)
 
 pub put-additional-spec : {M : Type 1} → statement M
 put-additional-spec =

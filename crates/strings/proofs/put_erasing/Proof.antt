@@ -1,12 +1,10 @@
--- `strings::put_erasing` meets its contract. Assumes nothing.
-use mathlib.Core.Path.{_≡_, refl}
+-- `strings::put_erasing` meets its contract: both fields empty, or the MSISDN behind `88*`. Assumes nothing.
+use mathlib.Core.Path.{_≡_}
 use mathlib.Core.Bool.{true}
-use mathlib.Core.List.{_++_}
 use native.Mathlib.Omega.{arith}
 use lib.ListN.{length-append}
 use borrow.Author.Needs.{needs}
-use Rattle.answers.specs.Ascii.{ascii}
-use Rattle.answers.proofs.Parts.{Standing, standing, count-is, wrote-behind}
+use Rattle.answers.proofs.Parts.{stands-within, stands-room, stands-behind}
 use Rattle.numbers.specs.Numbers.{isNumber, digitsOf}
 use Rattle.numbers.proofs.Digits.{digits-most}
 use Rattle.strings.specs.Text.{star}
@@ -31,18 +29,15 @@ slice-aggregate-put-2 c = search needs
 put-requires-2 : tie.Need-put-requires-2
 put-requires-2 c κs = search needs
 
--- the MSISDN is a number, and `88*` stands
+-- the MSISDN is a number
 number : (c : tie.After-erasing) → isNumber (c .erasing .given .0 .0 .0) ≡ true
 number c = rw (c .erasing .given .1) at (c .before .before .before .pre .0)
 
-stood : (c : tie.After-put2) → Standing (ascii "88" ++ star) (c .before .before .before .before .before .before .before .args .out .now) (c .put2 .last .1 .0) (c .put2 .result)
-stood c = standing (ascii "88" ++ star) (c .before .before .before .before .before .before .before .args .out .now) (c .put2 .last .1 .0) (c .put2 .result) (c .put2 .ensures) (omega arith)
-
 sub-put-number : tie.Need-sub-put-number
-sub-put-number c = stood (c .before .before) .within
+sub-put-number c = stands-within (c .before .before .put2 .ensures)
 
 part-put-number-start : tie.Need-part-put-number-start
-part-put-number-start c = stood (c .before .before) .within
+part-put-number-start c = stands-within (c .before .before .put2 .ensures)
 
 part-put-number-end : tie.Need-part-put-number-end
 part-put-number-end c = search needs
@@ -50,23 +45,15 @@ part-put-number-end c = search needs
 put-number-requires : tie.Need-put-number-requires
 put-number-requires c κs =
     let p = c .before .before .before in
-    (number (p .before .before .before .before), omega (arith, stood p .room))
-
-returns-2 : tie.Need-returns-2
-returns-2 c =
-    let q = c .before .before in
-    let p = q .before .before .before .before in
-    let e = p .before .before .before .before in
-    rw (e .erasing .given .1)
-    (wrote-behind (ascii "88" ++ star) (digitsOf (e .erasing .given .0 .0 .0) ++ star) (e .before .before .before .args .out .now) (p .put2 .last .1 .0) (q .put-number .last .1 .0) (p .put2 .result) (q .put-number .result) (p .put2 .ensures) (q .put-number .ensures))
+    (number (p .before .before .before .before), omega (arith, stands-room (p .put2 .ensures), p .put2 .ensures .count))
 
 add-result : tie.Need-add-result
 add-result c =
     let q = c .before .before in
     let p = q .before .before .before .before in
     let e = p .before .before .before .before in
-    let digits = digitsOf (e .erasing .given .0 .0 .0) in
-    omega (arith, stood p .count, count-is (q .put-number .result) (digits ++ star) (q .put-number .ensures) refl, length-append digits star, digits-most (e .erasing .given .0 .0 .0) (number e))
+    let w = e .erasing .given .0 .0 .0 in
+    omega (arith, p .put2 .ensures .count, q .put-number .ensures .count, length-append (digitsOf w) star, digits-most w (number e))
 
 same-length : tie.Need-same-length
 same-length c = search needs
@@ -76,6 +63,12 @@ returns c = rw (c .before .before .before .before .before .enum-told .given .1) 
 
 same-length-2 : tie.Need-same-length-2
 same-length-2 c = search needs
+
+returns-2 : tie.Need-returns-2
+returns-2 c =
+    let q = c .before .before in
+    let p = q .before .before .before .before in
+    rw (p .before .before .before .before .erasing .given .1) (stands-behind (p .put2 .ensures) (q .put-number .ensures))
 
 pub put-erasing-spec : {M : Type 1} → statement M
 put-erasing-spec =

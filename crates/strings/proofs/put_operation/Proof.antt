@@ -1,3 +1,4 @@
+-- `strings::put_operation` meets its contract, operation by operation. Assumes nothing.
 use borrow.Author.Needs.{needs}
 use Rattle.strings.proofs.put_operation.Statement.{statement}
 use Rattle.strings.proofs.put_operation.Tie as tie

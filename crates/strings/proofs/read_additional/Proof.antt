@@ -1,5 +1,10 @@
 -- `strings::read_additional` meets its contract: its tests are the definition's, in the same order. Assumes nothing.
-use mathlib.Core.Path.{sym, _∙_}
+use mathlib.Core.Path.{_≡_, sym, _∙_}
+use mathlib.Core.Bool.{true}
+use Prim.Native.Nat.{_≤_}
+use lib.ListN.{length, drop}
+use Rattle.strings.specs.Text.{hash}
+use Rattle.strings.specs.Reader.{begins}
 use native.Mathlib.Omega.{arith}
 use borrow.Author.Needs.{needs}
 use borrow.Author.Tests.{not-true, not-false}
@@ -12,13 +17,22 @@ leading-additional-requires : tie.Need-leading-additional-requires
 leading-additional-requires c κs = search needs
 
 returns : tie.Need-returns
-returns c = additional-many _ _ (c .before .leading-additional .ensures) (c .if1 .taken)
+returns c = additional-many _ _ (c .before .leading-additional .ensures) (omega arith)
+
+-- the count is within the part, and `#` stands behind it
+within : (c : tie.Else1) → c .before .leading-additional .result ≤ length (c .before .before .before .args .part .now)
+within c = rw (c .before .leading-additional .ensures) (leading-within (c .before .before .before .args .part .now))
+
+hashed :
+    (c : tie.Else2) → let l = c .before .before .before .before .before in
+    begins hash (drop (l .leading-additional .result) (l .before .before .args .part .now)) ≡ true
+hashed c = sym (rw rest-of at (c .before .begins-with .ensures)) ∙ not-false _ (c .if2 .left)
 
 sub-begins-with : tie.Need-sub-begins-with
-sub-begins-with c = omega (arith, c .before .leading-additional .ensures, leading-within (c .before .before .before .args .part .now))
+sub-begins-with c = within c
 
 part-begins-with-start : tie.Need-part-begins-with-start
-part-begins-with-start c = omega (arith, c .before .leading-additional .ensures, leading-within (c .before .before .before .args .part .now))
+part-begins-with-start c = within c
 
 part-begins-with-end : tie.Need-part-begins-with-end
 part-begins-with-end c = search needs
@@ -31,8 +45,8 @@ begins-with-requires c κs = search needs
 
 returns-2 : tie.Need-returns-2
 returns-2 c =
-    let l = c .before .before .before .before .before in
-    additional-open _ _ (l .leading-additional .ensures) (c .before .before .before .before .if1 .left) (sym (rw rest-of at (c .before .begins-with .ensures)) ∙ not-true _ (c .if2 .taken))
+    additional-open _ _ (c .before .before .before .before .before .leading-additional .ensures) (omega arith)
+    (sym (rw rest-of at (c .before .begins-with .ensures)) ∙ not-true _ (c .if2 .taken))
 
 add-if3 : tie.Need-add-if3
 add-if3 c = search needs
@@ -40,12 +54,12 @@ add-if3 c = search needs
 returns-3 : tie.Need-returns-3
 returns-3 c =
     let l = c .before .before .before .before .before .before in
-    additional-more _ _ (l .leading-additional .ensures) (c .before .before .before .before .before .if1 .left) (sym (rw rest-of at (c .before .before .begins-with .ensures)) ∙ not-false _ (c .before .if2 .left)) (c .if3 .taken)
+    additional-more _ _ (l .leading-additional .ensures) (omega arith) (hashed (c .before)) (omega arith)
 
 returns-4 : tie.Need-returns-4
 returns-4 c =
     let l = c .before .before .before .before .before .before in
-    (c .if3 .left, additional-read _ _ (l .leading-additional .ensures) (c .before .before .before .before .before .if1 .left) (sym (rw rest-of at (c .before .before .begins-with .ensures)) ∙ not-false _ (c .before .if2 .left)) (c .if3 .left))
+    (omega arith, additional-read _ _ (l .leading-additional .ensures) (omega arith) (hashed (c .before)) (omega arith))
 
 pub read-additional-spec : {M : Type 1} → statement M
 read-additional-spec =

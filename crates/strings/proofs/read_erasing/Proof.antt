@@ -36,7 +36,9 @@ other c = sym (c .before .begins-with .ensures) ∙ c .if1 .left
 force : (c : tie.Else2) → mayForce (c .before .before .before .before .before .before .args .operation) ≡ true
 force c = sym (c .before .may-force .ensures) ∙ not-false _ (c .if2 .left)
 
-begun : (c : tie.Else3) → begins (ascii "88" ++ star) (c .before .before .before .before .before .before .before .before .before .args .part .now) ≡ true
+begun :
+    (c : tie.Else3) → let f = c .before .before .before in
+    begins (ascii "88" ++ star) (f .before .before .before .before .before .before .args .part .now) ≡ true
 begun c = sym (c .before .begins-with2 .ensures) ∙ not-false _ (c .if3 .left)
 
 returns-2 : tie.Need-returns-2
@@ -73,8 +75,9 @@ enum-told c = search needs
 
 -- the number behind it, in the part's own places
 found :
-    (c : tie.After-word)
-    → Found numberFieldAt (c .before .before .before .before .before .before .before .before .before .before .before .before .before .args .part .now) 3 (c .word .given .0 .0) (3 + c .word .given .0 .1 .0)
+    (c : tie.After-word) → let b = c .before .before .before .before in
+    let s = b .before .before .before .before .before .before .before .before .before in
+    Found numberFieldAt (s .args .part .now) 3 (c .word .given .0 .0) (3 + c .word .given .0 .1 .0)
 found c =
     let n = c .before .before in
     found-at numberFieldAt _ 3 _ _ (begins-within _ _ (begun (n .before .before))) (rw (c .word .given .1) at (n .read-number-field .ensures))

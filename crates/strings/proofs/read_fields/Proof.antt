@@ -49,6 +49,9 @@ cursor3 c = cursor2 (past-number c) + c .word .given .0 .1 .0
 abbrev cursor4 : tie.After-erasing → ℕ
 cursor4 c = cursor3 (past-erasing c) + c .erasing .given .0 .1 .0
 
+abbrev first : tie.After-word → tie.After-operation
+first c = past-service (past-number c)
+
 -- ---- the fields found
 
 operation : (c : tie.After-operation) → Found operationAt (text c) 0 (c .operation .given .0 .0) (cursor1 c)
@@ -59,12 +62,13 @@ service c = served-at _ _ _ (operation (past-service c) .within) (rw (c .n .give
 
 number :
     (c : tie.After-word)
-    → Found numberFieldAt (text (past-service (past-number c))) (cursor2 (past-number c)) (c .word .given .0 .0) (cursor3 c)
-number c = found-at numberFieldAt _ _ _ _ (service (past-number c) .within) (rw (c .word .given .1) at (c .before .before .read-number-field .ensures))
+    → Found numberFieldAt (text (first c)) (cursor2 (past-number c)) (c .word .given .0 .0) (cursor3 c)
+number c =
+    found-at numberFieldAt _ _ _ _ (service (past-number c) .within) (rw (c .word .given .1) at (c .before .before .read-number-field .ensures))
 
 erasing :
-    (c : tie.After-erasing)
-    → Found (erasingAt (past-service (past-number (past-erasing c)) .operation .given .0 .0)) (text (past-service (past-number (past-erasing c)))) (cursor3 (past-erasing c)) (c .erasing .given .0 .0) (cursor4 c)
+    (c : tie.After-erasing) → let n = past-erasing c in
+    Found (erasingAt (first n .operation .given .0 .0)) (text (first n)) (cursor3 n) (c .erasing .given .0 .0) (cursor4 c)
 erasing c = found-at (erasingAt _) _ _ _ _ (number (past-erasing c) .within) (rw (c .erasing .given .1) at (c .before .before .read-erasing .ensures))
 
 -- ---- the needs
@@ -116,7 +120,8 @@ enum-told-3 c = search needs
 returns-3 : tie.Need-returns-3
 returns-3 c =
     let s = c .before .before .before .before .before in
-    ended _ (no-number _ _ _ (operation (past-service s)) _ (service s) (rw rest-of at (rw (c .enum-told3 .given .1) at (c .before .before .read-number-field .ensures))))
+    let none = rw rest-of at (rw (c .enum-told3 .given .1) at (c .before .before .read-number-field .ensures)) in
+    ended _ (no-number _ _ _ (operation (past-service s)) _ (service s) none)
 
 add-cursor-2 : tie.Need-add-cursor-2
 add-cursor-2 c = omega (arith, number (c .before) .within)
@@ -142,8 +147,8 @@ enum-told-4 c = search needs
 returns-4 : tie.Need-returns-4
 returns-4 c =
     let n = c .before .before .before .before .before in
-    let s = past-number n in
-    ended _ (no-erasing _ _ _ (operation (past-service s)) _ (service s) _ _ (number n) (rw rest-of at (rw (c .enum-told4 .given .1) at (c .before .before .read-erasing .ensures))))
+    let none = rw rest-of at (rw (c .enum-told4 .given .1) at (c .before .before .read-erasing .ensures)) in
+    ended _ (no-erasing _ _ _ (operation (first n)) _ (service (past-number n)) _ _ (number n) none)
 
 add-start : tie.Need-add-start
 add-start c = omega (arith, erasing (c .before) .within)
@@ -170,8 +175,8 @@ returns-5 : tie.Need-returns-5
 returns-5 c =
     let e = c .before .before .before .before .before in
     let n = past-erasing e in
-    let s = past-number n in
-    ended _ (no-additional _ _ _ (operation (past-service s)) _ (service s) _ _ (number n) _ _ (erasing e) (rw rest-of at (rw (c .enum-told5 .given .1) at (c .before .before .read-additional .ensures))))
+    let none = rw rest-of at (rw (c .enum-told5 .given .1) at (c .before .before .read-additional .ensures)) in
+    ended _ (no-additional _ _ _ (operation (first n)) _ (service (past-number n)) _ _ (number n) _ _ (erasing e) none)
 
 returns-6 : tie.Need-returns-6
 returns-6 c =

@@ -44,14 +44,16 @@ begins-with-requires c κs = search needs
 
 returns-2 : tie.Need-returns-2
 returns-2 c =
-    number-open _ _ _ (read (c .before .before .before .before .before)) (sym (rw rest-of at (c .before .begins-with .ensures)) ∙ not-true _ (c .if1 .taken))
+    number-open _ _ _ (read (c .before .before .before .before .before))
+    (sym (rw rest-of at (c .before .begins-with .ensures)) ∙ not-true _ (c .if1 .taken))
 
 add-t8 : tie.Need-add-t8
 add-t8 c = omega (arith, read-from _ _ _ (read (c .before .before .before .before .before)) .within)
 
 returns-3 : tie.Need-returns-3
 returns-3 c =
-    number-found _ _ _ (read (c .before .before .before .before .before)) (sym (rw rest-of at (c .before .begins-with .ensures)) ∙ not-false _ (c .if1 .left))
+    number-found _ _ _ (read (c .before .before .before .before .before))
+    (sym (rw rest-of at (c .before .begins-with .ensures)) ∙ not-false _ (c .if1 .left))
 
 pub read-number-field-spec : {M : Type 1} → statement M
 read-number-field-spec =

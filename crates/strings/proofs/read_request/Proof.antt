@@ -36,11 +36,16 @@ beside : (c : tie.After-unpack) → c .unpack .last .1 .0 ≡ textBeside (octets
 unfolding textBeside
 beside c = ap (λ (x : Outcome). x .buffer) (c .unpack .ensures)
 
+abbrev text : tie.After-unpack → List ℕ
+text c = c .unpack .last .1 .0
+
 -- what a count says
-counted : (c : tie.After-n) → Counted (charsIn (length (octets (c .before .before .before)))) (readable (octets (c .before .before .before))) (unpacked (octets (c .before .before .before))) zeros (c .before .before .before .unpack .last .1 .0) (c .n .given .0 .0)
+counted :
+    (c : tie.After-n) → let u = c .before .before .before in
+    Counted (charsIn (length (octets u))) (readable (octets u)) (unpacked (octets u)) zeros (text u) (c .n .given .0 .0)
 counted c =
     let u = c .before .before .before in
-    unpack-count (octets u) zeros (u .unpack .result) (u .unpack .last .1 .0) (u .unpack .ensures) (c .n .given .0 .0) (c .n .given .1)
+    unpack-count (octets u) zeros (u .unpack .result) (text u) (u .unpack .ensures) (c .n .given .0 .0) (c .n .given .1)
 
 array-share-prefix-text : tie.Need-array-share-prefix-text
 array-share-prefix-text c = counted (c .before) .within
@@ -62,17 +67,20 @@ returns c =
     let n = c .before .before .before in
     let u = n .before .before .before in
     let k = counted n in
-    read (octets u) (u .unpack .last .1 .0) (drop (n .n .given .0 .0) zeros) (c .read-fields .result) (k .sound) (rw (k .start) at (c .read-fields .ensures)) (k .buffer) (beside u)
+    read (octets u) (text u) (drop (n .n .given .0 .0) zeros) (c .read-fields .result) (k .sound)
+    (rw (k .start) at (c .read-fields .ensures)) (k .buffer) (beside u)
 
 returns-2 : tie.Need-returns-2
 returns-2 c =
     let u = c .before .before .before in
-    unread (octets u) (u .unpack .last .1 .0) (too-long (octets u) (unpack-short (octets u) zeros (u .unpack .result) (u .unpack .last .1 .0) (u .unpack .ensures) (c .enum-told .given .1) .0)) (beside u)
+    let short = unpack-short (octets u) zeros (u .unpack .result) (text u) (u .unpack .ensures) (c .enum-told .given .1) in
+    unread (octets u) (text u) (too-long (octets u) (short .0)) (beside u)
 
 returns-3 : tie.Need-returns-3
 returns-3 c =
     let u = c .before .before .before in
-    unread (octets u) (u .unpack .last .1 .0) (unreadable (octets u) (unpack-unfit (octets u) zeros (u .unpack .result) (u .unpack .last .1 .0) (u .unpack .ensures) (c .enum-told2 .given .1) .1)) (beside u)
+    let unfit = unpack-unfit (octets u) zeros (u .unpack .result) (text u) (u .unpack .ensures) (c .enum-told2 .given .1) in
+    unread (octets u) (text u) (unreadable (octets u) (unfit .1)) (beside u)
 
 pub read-request-spec : {M : Type 1} → statement M
 read-request-spec =

@@ -1,23 +1,37 @@
 -- `strings::write_request` meets its contract: the room is tested first, and then the fields. Assumes nothing.
-use mathlib.Core.Path.{sym, _∙_}
+use mathlib.Core.Path.{_≡_, sym, _∙_}
+use mathlib.Core.Bool.{true, false}
 use native.Mathlib.Omega.{arith}
 use borrow.Author.Needs.{needs}
 use borrow.Author.Tests.{not-true, not-false}
+use Rattle.strings.specs.Text.{Request, requestFrom, requestSound}
 use Rattle.strings.proofs.Answered.{short, unsound, written}
 use Rattle.strings.proofs.write_request.Statement.{statement}
 use Rattle.strings.proofs.write_request.Tie as tie
 
+abbrev fields : tie.Start → Request
+fields s = requestFrom (s .args .operation) (s .args .number) (s .args .erasing) (s .args .additional .now)
+
 returns : tie.Need-returns
-returns c = short _ _ (c .if1 .taken)
+returns c = let s = c .before .before .before in short (fields s) (s .args .out .now) (omega arith)
 
 request-sound-requires : tie.Need-request-sound-requires
 request-sound-requires c κs = search needs
 
+-- the fields break the rules, or keep them
+broken : (c : tie.Then2) → requestSound (fields (c .before .before .before .before .before)) ≡ false
+broken c = sym (c .before .request-sound .ensures) ∙ not-true _ (c .if2 .taken)
+
+sound : (c : tie.Else2) → requestSound (fields (c .before .before .before .before .before)) ≡ true
+sound c = sym (c .before .request-sound .ensures) ∙ not-false _ (c .if2 .left)
+
 returns-2 : tie.Need-returns-2
-returns-2 c = unsound _ _ (c .before .before .if1 .left) (sym (c .before .request-sound .ensures) ∙ not-true _ (c .if2 .taken))
+returns-2 c =
+    let s = c .before .before .before .before .before in
+    unsound (fields s) (s .args .out .now) (omega arith) (broken c)
 
 write-packed-requires : tie.Need-write-packed-requires
-write-packed-requires c κs = (sym (c .before .before .request-sound .ensures) ∙ not-false _ (c .before .if2 .left), omega arith)
+write-packed-requires c κs = (sound (c .before), omega arith)
 
 same-length : tie.Need-same-length
 same-length c = search needs
@@ -25,8 +39,8 @@ same-length c = search needs
 returns-3 : tie.Need-returns-3
 returns-3 c =
     let p = c .before .before in
-    let t = p .before .before in
-    p .write-packed .ensures ∙ written _ _ (t .before .before .if1 .left) (sym (t .before .request-sound .ensures) ∙ not-false _ (t .if2 .left))
+    let s = p .before .before .before .before .before .before .before in
+    written (fields s) (s .args .out .now) (omega arith) (sound (p .before .before)) (p .write-packed .ensures)
 
 pub write-request-spec : {M : Type 1} → statement M
 write-request-spec =
