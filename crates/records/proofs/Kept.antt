@@ -18,7 +18,7 @@ use Rattle.records.specs.declared.Step.the-variants.{Stays, Becomes}
 use Rattle.records.specs.declared.Resulted.{Resulted}
 use Rattle.records.specs.declared.Resulted.the-variants.{Refused, Delivered, Dropped, Again}
 use Rattle.records.specs.Steps.{nobody, isNobody, same, heldBy, mostSendings, isAbsent, isWaiting, isInFlight, sendingsDone, withNotice, cleared, forcedOff, registered, erased, forced, delayAllowed, isDue, launched, sent, lastKind, resulted}
-use Rattle.records.specs.Rows.{failedOnce, holderSound, noticeSound, phaseOf, secondOf, sentOnce, recordSound}
+use Rattle.records.specs.Rows.{lastPhase, failedOnce, holderSound, noticeSound, phaseOf, secondOf, sentOnce, recordSound}
 use Rattle.records.proofs.Notices.{Pending, pending, pending-sound}
 use Rattle.records.proofs.Rows.{sound-record, record-is-sound}
 
@@ -100,7 +100,7 @@ module _ (r : Record) (s : recordSound r ≡ true) where
       own false e h = off-sound supervisor h n e
 
   -- another notice to the same addressee
-  renewed : (old new : Notice) → r .notice ≡ old → isAbsent old ≡ false → 1 ≤ phaseOf new → phaseOf new ≤ 10 → secondOf new < 2 ^ 32 → (eqb (secondOf new) 0 || failedOnce (phaseOf new)) ≡ true → sentOnce new ≡ true → recordSound (withNotice new r) ≡ true
+  renewed : (old new : Notice) → r .notice ≡ old → isAbsent old ≡ false → 1 ≤ phaseOf new → phaseOf new ≤ lastPhase → secondOf new < 2 ^ 32 → (eqb (secondOf new) 0 || failedOnce (phaseOf new)) ≡ true → sentOnce new ≡ true → recordSound (withNotice new r) ≡ true
   renewed old new e a some most below failed once =
       let p = pending-words r s (ap isAbsent e ∙ a) in
       record-is-sound (withNotice new r) (record {

@@ -1,22 +1,22 @@
 -- One row of a sound table, alone, is a sound table with that number and its record. Assumes nothing.
 use mathlib.Core.Path.{_≡_, sym, ap, _∙_}
 use mathlib.Core.Bool.{true}
-use mathlib.Core.Option.{none, some}
+use mathlib.Core.Option.{some}
 use mathlib.Core.List.{List}
 use Prim.Native.Nat.{ℕ, _+_, _*_, _<_}
 use native.Mathlib.Nat.{add-zero, zero-add}
 use native.Mathlib.Omega.{arith}
 use lib.ListN.{length, getD, take, drop, length-take, length-drop}
 use lib.Seq.{getD-take, getD-drop}
-use borrow.Author.Tests.{eq-eqb, ne-eqb, lt-ltb}
+use borrow.Author.Tests.{eq-eqb, lt-ltb}
 use Rattle.numbers.proofs.Lengths.{number-some}
 use Rattle.records.specs.Rows.{rowWords, numberAt, recordAt}
 use Rattle.records.proofs.Rows.{SameWords, same-record, same-row, sound-row}
-use Rattle.tables.specs.declared.Found.the-variants.{At, Nothing}
+use Rattle.tables.specs.declared.Found.the-variants.{At}
 use Rattle.tables.specs.Keys.{placeOf}
 use Rattle.tables.specs.Tables.{rowsIn, tableSound, rowOf, recordOf}
 use Rattle.tables.proofs.Sound.{table-row}
-use Rattle.tables.proofs.Stored.{row-found, record-found, record-missing}
+use Rattle.tables.proofs.Stored.{row-found, record-found}
 
 -- row i by itself
 abbrev pub alone : List ℕ → ℕ → List ℕ
@@ -52,14 +52,6 @@ module _ (t : List ℕ) (i : ℕ) where
     pub alone-row : (number : ℕ) → numberAt t i ≡ number → rowOf (alone t i) number ≡ At 0
     unfolding rowOf placeOf
     alone-row number e = simp (alone-length, eq-eqb (numberAt (alone t i) 0) number (alone-number ∙ e))
-
-    missing : (number : ℕ) → (numberAt t i ≡ number → ⊥) → rowOf (alone t i) number ≡ Nothing
-    unfolding rowOf placeOf
-    missing number n = simp (alone-length, ne-eqb (numberAt (alone t i) 0) number (λ e. n (sym alone-number ∙ e)))
-
-    -- it has no other number
-    pub alone-other : (number : ℕ) → (numberAt t i ≡ number → ⊥) → recordOf (alone t i) number ≡ none
-    alone-other number n = record-missing (alone t i) number (missing number n)
 
   -- the record of its number is the same
   pub alone-own : (number : ℕ) → rowOf t number ≡ At i → recordOf (alone t i) number ≡ recordOf t number

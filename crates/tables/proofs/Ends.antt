@@ -1,5 +1,5 @@
 -- In ascending words the end of a number's length tells the numbers that follow. Assumes nothing.
-use mathlib.Core.Path.{_≡_, refl, sym, ap, _∙_}
+use mathlib.Core.Path.{_≡_, refl, sym, ap}
 use mathlib.Core.Logic.{⊎-elim}
 use mathlib.Core.Bool.{Bool, true, false, cond, _&&_}
 use Prim.Native.Nat.{ℕ, suc, _*_, _^_, _≤_, _<_}
@@ -8,11 +8,11 @@ use native.Mathlib.Omega.{arith}
 use lib.ListN.{length}
 use lib.Dec.{ltb, lit<}
 use borrow.Author.Tests.{lt-ltb, le-ltb, ltb-true}
-use Rattle.answers.proofs.Tests.{less-or-not}
+use Rattle.answers.proofs.Tests.{and-left, and-right, and-both, less-or-not}
 use Rattle.numbers.specs.Numbers.{fewestDigits, mostDigits, isNumber, digitsOf}
 use Rattle.numbers.proofs.Lengths.{is-number}
 use Rattle.numbers.proofs.Digits.{digits-are, digits-fewest, digits-most, digits-least, stored-digits, stored-length}
-use Rattle.tables.specs.Ends.{lengthEnd, endFrom}
+use Rattle.tables.specs.Ends.{lengthEnd}
 
 -- ---- the end of a number's length
 
@@ -24,21 +24,22 @@ pub record Rising (w end : ℕ) : Type 0 where
   pub some : 0 < end
 
 module _ (w : ℕ) (h : isNumber w ≡ true) where
-  pub below-end : w < 2 * 10 ^ length (digitsOf w)
+  below-end : w < 2 * 10 ^ length (digitsOf w)
   below-end = rw (stored-digits w h) at (stored-length (digitsOf w) (digits-are w h) .1)
 
   -- up to it, every word is a number
-  pub number-on : (x : ℕ) → w ≤ x → x < 2 * 10 ^ length (digitsOf w) → isNumber x ≡ true
+  number-on : (x : ℕ) → w ≤ x → x < 2 * 10 ^ length (digitsOf w) → isNumber x ≡ true
   number-on x l b =
       is-number (length (digitsOf w)) x (record { fewest = digits-fewest w h; most = digits-most w h; least = omega (arith, digits-least w h); below = b })
 
+  -- w is not below the end of a shorter length
   digits-apart : (d : ℕ) → d < length (digitsOf w) → 2 * 10 ^ d ≤ w
   digits-apart d l = omega (arith, digits-least w h, pow-suc 10 d, pow-le-pow-right {n = 10} (lit< tt) l)
 
   pub rising-first : Rising w (2 * 10 ^ fewestDigits)
   rising-first = record { digits = fewestDigits; few = digits-fewest w h; power = refl; some = omega arith }
 
-  -- not above w, it rises to the next length's, which is not the last one's end yet
+  -- while it is not above w it can rise to the next length's, which fits a word
   pub rising-next : (end : ℕ) → Rising w end → end ≤ w → Rising w (10 * end) × (10 * end ≤ 2 * 10 ^ mostDigits)
   rising-next end r l =
       let d = r .digits in
@@ -49,7 +50,7 @@ module _ (w : ℕ) (h : isNumber w ≡ true) where
       (λ f. let same : d ≡ length (digitsOf w) = omega (arith, r .few) in absurd (omega (arith, below-end, ap (λ (k : ℕ). 10 ^ k) same)))
       (less-or-not d (length (digitsOf w)))
 
-  -- above w, it is the end of w's own
+  -- once it is above w, it is the end of w's own length
   pub rising-end : (end : ℕ) → Rising w end → w < end → end ≡ 2 * 10 ^ length (digitsOf w)
   rising-end end r l =
       let e = r .power in
@@ -60,6 +61,15 @@ module _ (w : ℕ) (h : isNumber w ≡ true) where
 
 -- ---- what a scan knows
 
+-- the end tells a number
+end-tells : (w : ℕ) → isNumber w ≡ ltb w (lengthEnd w)
+unfolding lengthEnd
+end-tells w = go (isNumber w) refl
+  where
+    go : (n : Bool) → isNumber w ≡ n → n ≡ ltb w (cond n (2 * 10 ^ length (digitsOf w)) 0)
+    go true q = sym (lt-ltb w (2 * 10 ^ length (digitsOf w)) (below-end w q))
+    go false q = sym (le-ltb w 0 (omega arith))
+
 -- every word above `before` and below `end` is a number
 abbrev pub Reaches : ℕ → ℕ → Type 0
 Reaches before end = (x : ℕ) → before < x → x < end → isNumber x ≡ true
@@ -67,32 +77,28 @@ Reaches before end = (x : ℕ) → before < x → x < end → isNumber x ≡ tru
 pub reaches-none : (before : ℕ) → Reaches before 0
 reaches-none before x l b = absurd (not-suc-le-zero b)
 
-module _ (before end w : ℕ) (r : Reaches before end) where
-  -- the end tells whether the next word is a number
-  pub end-tells : before < w → isNumber w ≡ ltb w (endFrom end w)
-  unfolding endFrom lengthEnd
-  end-tells l = go (ltb w end) refl (isNumber w) refl
-    where
-      go : (b : Bool) → ltb w end ≡ b → (n : Bool) → isNumber w ≡ n → n ≡ ltb w (cond b end (cond n (2 * 10 ^ length (digitsOf w)) 0))
-      go true e true q = sym e
-      go true e false q = sym q ∙ r w l (ltb-true w end e) ∙ sym e
-      go false e true q = sym (lt-ltb w (2 * 10 ^ length (digitsOf w)) (below-end w q))
-      go false e false q = sym (le-ltb w 0 (omega arith))
+pub reaches-length : (w new : ℕ) → new ≡ lengthEnd w → Reaches w new
+unfolding lengthEnd
+reaches-length w new q = rw q (go (isNumber w) refl)
+  where
+    go : (n : Bool) → isNumber w ≡ n → Reaches w (cond n (2 * 10 ^ length (digitsOf w)) 0)
+    go true e = λ x a b. number-on w e x (omega arith) b
+    go false e = reaches-none w
 
-  -- in the scan's test
-  pub end-test : (new : ℕ) → new ≡ endFrom end w → (f : Bool) → (ltb before w && (isNumber w && f)) ≡ (ltb before w && (ltb w new && f))
-  end-test new q f = rw q (go (ltb before w) refl)
-    where
-      go : (b : Bool) → ltb before w ≡ b → (b && (isNumber w && f)) ≡ (b && (ltb w (endFrom end w) && f))
-      go true e = ap (λ (n : Bool). n && f) (end-tells (ltb-true before w e))
-      go false e = refl
+-- the scan's test of a word, by an end
+abbrev pub within : ℕ → ℕ → ℕ → Bool → Bool
+within before end w f = ltb before w && (ltb w end && f)
 
-  -- and reaches on from it
-  pub end-reaches : (new : ℕ) → new ≡ endFrom end w → before < w → Reaches w new
-  unfolding endFrom lengthEnd
-  end-reaches new q l = rw q (go (ltb w end) (isNumber w) refl)
-    where
-      go : (b n : Bool) → isNumber w ≡ n → Reaches w (cond b end (cond n (2 * 10 ^ length (digitsOf w)) 0))
-      go true n e = λ x a b. r x (omega arith) b
-      go false true e = λ x a b. number-on w e x (omega arith) b
-      go false false e = reaches-none w
+-- by the end of its own length
+pub within-own : (before w new : ℕ) (f : Bool) → new ≡ lengthEnd w → (ltb before w && (isNumber w && f)) ≡ within before new w f
+within-own before w new f q = rw (q, end-tells)
+
+-- by an end that was reached: it holds of a number alone, and the end reaches on
+pub within-reached : (before end w : ℕ) (f : Bool) → Reaches before end → within before end w f ≡ true → ((ltb before w && (isNumber w && f)) ≡ true) × Reaches w end
+within-reached before end w f r e =
+    let l = and-left (ltb before w) (ltb w end && f) e in
+    let b = and-right (ltb before w) (ltb w end && f) e in
+    let a = ltb-true before w l in (
+      and-both (ltb before w) (isNumber w && f) l (and-both (isNumber w) f (r w a (ltb-true w end (and-left (ltb w end) f b))) (and-right (ltb w end) f b)),
+      λ x g h. r x (omega arith) h,
+    )

@@ -2,13 +2,8 @@
 use Prim.Native.Nat.{ℕ, _*_, _^_}
 use mathlib.Core.Bool.{cond}
 use lib.ListN.{length}
-use lib.Dec.{ltb}
 use Rattle.numbers.specs.Numbers.{isNumber, digitsOf}
 
 -- the end of the numbers as long as w; 0 where w is no number
 unfoldable pub lengthEnd : ℕ → ℕ
 lengthEnd w = cond (isNumber w) (2 * 10 ^ length (digitsOf w)) 0
-
--- the end known so far, while w lies below it
-unfoldable pub endFrom : ℕ → ℕ → ℕ
-endFrom end w = cond (ltb w end) end (lengthEnd w)

@@ -12,7 +12,7 @@ ghost use lib.ListN.{length};
 ghost use Rattle.numbers.specs.Numbers.{isNumber, digitsOf};
 ghost use Rattle.tables.specs.Keys.{key, every, ascends, placeOf};
 ghost use Rattle.tables.specs.Tables.{tableSound, rowOf, listSound, flagsOf};
-ghost use Rattle.tables.specs.Ends.{endFrom};
+ghost use Rattle.tables.specs.Ends.{lengthEnd};
 
 // Where a number stands among the rows.
 pub enum Found {
@@ -74,13 +74,10 @@ fn end_of_length(number: u64) -> u64
     end
 }
 
-// The end known so far, while the word lies below it; else that of the word's own length, 0 where it is no number.
-fn end_from(end: u64, word: u64) -> u64
-    ensures { λ r. ⌜ r ≡ endFrom end word ⌝ }
+// The end of the numbers as long as word; 0 where it is no number.
+fn length_end(word: u64) -> u64
+    ensures { λ r. ⌜ r ≡ lengthEnd word ⌝ }
 {
-    if word < end {
-        return end;
-    }
     if !is_number(word) {
         return 0;
     }
@@ -104,9 +101,11 @@ pub fn list_sound(list: &[u64]) -> bool
     while row < rows {
         let msisdn = list[SUBSCRIBER_WORDS * row];
         let flags = list[SUBSCRIBER_WORDS * row + FLAGS];
-        end = end_from(end, msisdn);
         if !((before < msisdn) & ((msisdn < end) & (flags <= MOST_FLAGS))) {
-            return false;
+            end = length_end(msisdn);
+            if !((before < msisdn) & ((msisdn < end) & (flags <= MOST_FLAGS))) {
+                return false;
+            }
         }
         before = msisdn;
         row += 1;

@@ -1,14 +1,13 @@
 -- The invariant: the rows passed stand, `before` is the MSISDN of the last, and the words above it up to `end` are numbers. Assumes nothing.
 use mathlib.Core.Path.{refl, _∙_}
-use mathlib.Core.Bool.{_&&_}
+use mathlib.Core.Logic.{⊎-elim}
 use Prim.Native.Nat.{_-_}
 use native.Mathlib.Omega.{arith}
 use borrow.Author.Needs.{needs}
-use lib.Dec.{ltb, leb}
-use borrow.Author.Tests.{not-true, not-false, ltb-true}
-use Rattle.answers.proofs.Tests.{and-left}
+use lib.Dec.{leb}
+use borrow.Author.Tests.{not-true, not-false}
 use Rattle.tables.specs.Tables.{subscriberWords, mostSubscribers, subscribersIn, msisdnKey, mostFlags, flagsAt, subscriberStands, listSound}
-use Rattle.tables.proofs.Ends.{Reaches, reaches-none, end-test, end-reaches}
+use Rattle.tables.proofs.Ends.{Reaches, reaches-none, reaches-length, within-own, within-reached}
 use Rattle.tables.proofs.Sound.{subscriberSound, ragged, too-many, not-every, all-stand, Scanned, scan-start, scan-test, scan-next, scan-end}
 use Rattle.tables.proofs.list_sound.Statement.{statement}
 use Rattle.tables.proofs.list_sound.Tie as tie
@@ -55,16 +54,16 @@ mul-flags-2 c = search needs
 shared-slice-read-flags : tie.Need-shared-slice-read-flags Inv-loop μ-loop
 shared-slice-read-flags c = search needs
 
-end-from-requires : tie.Need-end-from-requires Inv-loop μ-loop
-end-from-requires c κs = search needs
+length-end-requires : tie.Need-length-end-requires Inv-loop μ-loop
+length-end-requires c κs = search needs
 
 returns-3 : tie.Need-returns-3 Inv-loop μ-loop
 unfolding listSound
 returns-3 c =
-    let at = c .before .before .before .before .before in
+    let at = c .before .before .before .before .before .before in
     let t = at .before .before .before .before .args .list .now in
     not-every subscriberWords mostSubscribers (subscriberStands t) t (at .loop .row) (search needs)
-    (scan-test _ _ _ _ _ (at .loop .inv .0) _ refl ∙ end-test _ _ _ (at .loop .inv .1) _ (c .before .end-from .ensures) _ ∙ not-true _ (c .if3 .taken))
+    (scan-test _ _ _ _ _ (at .loop .inv .0) _ refl ∙ within-own _ _ _ _ (c .before .length-end .ensures) ∙ not-true _ (c .if4 .taken))
 
 add-row : tie.Need-add-row Inv-loop μ-loop
 add-row c = search needs
@@ -74,16 +73,21 @@ loop-less c = search needs
 
 loop-again : tie.Need-loop-again Inv-loop μ-loop
 loop-again c =
-    let at = c .before .before .before .before .before in
+    let at = c .before .before .before .before in
     let t = at .before .before .before .before .args .list .now in
-    let w = msisdnKey t (at .loop .row) in
-    let new = c .before .end-from .result in
-    let seen = not-false _ (c .if3 .left) in (
+    let row = at .loop .row in
+    ⊎-elim
+    (λ slow. (
       scan-next _ _ _ _ _ (at .loop .inv .0) (search needs)
-          (scan-test _ _ _ _ _ (at .loop .inv .0) _ refl ∙ end-test _ _ _ (at .loop .inv .1) _ (c .before .end-from .ensures) _ ∙ seen),
-      end-reaches _ _ w (at .loop .inv .1) new (c .before .end-from .ensures)
-          (ltb-true (at .loop .before) w (and-left (ltb (at .loop .before) w) (ltb w new && leb (flagsAt t (at .loop .row)) mostFlags) seen)),
-    )
+          (scan-test _ _ _ _ _ (at .loop .inv .0) _ refl ∙ within-own _ _ _ _ (slow .1 .ensures) ∙ not-false _ (slow .2 .left)),
+      reaches-length _ _ (slow .3 ∙ slow .1 .ensures),
+    ))
+    (λ fast.
+    let reached = within-reached (at .loop .before) (at .loop .end) (msisdnKey t row) (leb (flagsAt t row) mostFlags) (at .loop .inv .1) (not-false _ (fast .0 .left)) in (
+      scan-next _ _ _ _ _ (at .loop .inv .0) (search needs) (scan-test _ _ _ _ _ (at .loop .inv .0) _ refl ∙ reached .0),
+      rw (fast .1) (reached .1),
+    ))
+    (c .if3 .came)
 
 returns-4 : tie.Need-returns-4 Inv-loop μ-loop
 unfolding listSound
@@ -107,7 +111,7 @@ list-sound-spec =
     add-flags
     mul-flags-2
     shared-slice-read-flags
-    end-from-requires
+    length-end-requires
     returns-3
     add-row
     loop-less
