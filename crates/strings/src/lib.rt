@@ -246,20 +246,14 @@ pub fn read_request(octets: &[u8]) -> ReadRequest
     ensures { λ r. ⌜ madeRead r ≡ reading (now (octets .entry)) ⌝ }
 {
     let mut text = [0u8; MOST_CHARACTERS];
-    match packing::unpack(octets, &mut text) {
-        Written::Count(n) => {
-            let reading = read_fields(&text[..n]);
-            ReadRequest { reading, text }
-        }
-        Written::TooShort => ReadRequest {
+    let Written::Count(n) = packing::unpack(octets, &mut text) else {
+        return ReadRequest {
             reading: Reading::Unreadable,
             text,
-        },
-        Written::Unfit => ReadRequest {
-            reading: Reading::Unreadable,
-            text,
-        },
-    }
+        };
+    };
+    let reading = read_fields(&text[..n]);
+    ReadRequest { reading, text }
 }
 
 // Writes characters over the front of a part.

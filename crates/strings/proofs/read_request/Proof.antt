@@ -1,16 +1,22 @@
 -- `strings::read_request` meets its contract, by the unpacker's answer. Assumes nothing.
-use mathlib.Core.Path.{_≡_, sym, ap}
-use mathlib.Core.List.{List}
-use Prim.Native.Nat.{ℕ}
+use mathlib.Core.Path.{_≡_, refl, sym, ap, _∙_}
+use mathlib.Core.Logic.{⊎-elim}
+use mathlib.Core.Bool.{Bool, true, false}
+use mathlib.Core.Option.{none}
+use mathlib.Core.List.{List, [], _∷_}
+use Prim.Native.Nat.{ℕ, _≤_}
 use lib.ListN.{length, drop, replicate}
 use lib.Seq.{length-take-le}
+use types.Run.{miss}
 use borrow.Author.Needs.{needs}
 use Rattle.answers.specs.Writing.{Outcome}
-use Rattle.answers.proofs.Writing.{Counted}
+use Rattle.answers.specs.declared.Written.the-variants.{Count}
+use Rattle.answers.proofs.Tests.{less-or-not}
+use Rattle.answers.proofs.Writing.{made-one, Counted}
 use Rattle.packing.specs.Packing.{charsIn, readable, unpacked}
-use Rattle.packing.proofs.Outcomes.{unpack-count, unpack-short, unpack-unfit}
+use Rattle.packing.proofs.Outcomes.{unpacking-good, unpack-count}
 use Rattle.strings.specs.Text.{mostCharacters}
-use Rattle.strings.specs.Outcomes.{textBeside}
+use Rattle.strings.specs.Outcomes.{requestOf, textBeside}
 use Rattle.strings.proofs.Octets.{too-long}
 use Rattle.strings.proofs.Answered.{unread, unreadable, read}
 use Rattle.strings.proofs.read_request.Statement.{statement}
@@ -25,21 +31,41 @@ unpack-requires c κs = search needs
 enum-known-n : tie.Need-enum-known-n
 enum-known-n c = search needs
 
--- the octets, the text before and after they are unpacked into it
+-- the octets, and the text before and after they are unpacked into it
 abbrev octets : tie.After-unpack → List ℕ
 octets c = c .before .before .before .args .octets .now
 
 abbrev zeros : List ℕ
 zeros = replicate mostCharacters 0
 
-beside : (c : tie.After-unpack) → c .unpack .last .1 .0 ≡ textBeside (octets c)
-unfolding textBeside
-beside c = ap (λ (x : Outcome). x .buffer) (c .unpack .ensures)
-
 abbrev text : tie.After-unpack → List ℕ
 text c = c .unpack .last .1 .0
 
--- what a count says
+beside : (c : tie.After-unpack) → text c ≡ textBeside (octets c)
+unfolding textBeside
+beside c = ap (λ (x : Outcome). x .buffer) (c .unpack .ensures)
+
+-- ---- no count: too many characters, or unreadable bits
+
+counts : (c : tie.After-unpack) → charsIn (length (octets c)) ≤ mostCharacters → readable (octets c) ≡ true → c .unpack .result ≡ Count (length (unpacked (octets c)))
+counts c room bits =
+    made-one (c .unpack .result) (Count (length (unpacked (octets c)))) (text c) _ (c .unpack .ensures ∙ unpacking-good (octets c) zeros room bits) refl .0
+
+unreads : (c : tie.At-match-keys2) → requestOf (octets (c .before .before)) ≡ none
+unreads c = ⊎-elim (too-long os) (λ room. go room (readable os) refl) (less-or-not mostCharacters (charsIn (length os)))
+  where
+    os : List ℕ
+    os = octets (c .before .before)
+
+    go : charsIn (length os) ≤ mostCharacters → (b : Bool) → readable os ≡ b → requestOf os ≡ none
+    go room true bits = absurd (miss (1 ∷ 2 ∷ []) 0 tt (rw (counts (c .before .before) room bits) at (c .match .keys2)))
+    go room false bits = unreadable os bits
+
+returns : tie.Need-returns
+returns c = let u = c .before .before in unread (octets u) (text u) (unreads c) (beside u)
+
+-- ---- a count: the text is read
+
 counted :
     (c : tie.After-n) → let u = c .before .before .before in
     Counted (charsIn (length (octets u))) (readable (octets u)) (unpacked (octets u)) zeros (text u) (c .n .given .0 .0)
@@ -56,31 +82,13 @@ slice-aggregate-read-fields c = sym (length-take-le _ _ (counted (c .before .bef
 read-fields-requires : tie.Need-read-fields-requires
 read-fields-requires c κs = search needs
 
-enum-told : tie.Need-enum-told
-enum-told c = search needs
-
-enum-told-2 : tie.Need-enum-told-2
-enum-told-2 c = search needs
-
-returns : tie.Need-returns
-returns c =
+returns-2 : tie.Need-returns-2
+returns-2 c =
     let n = c .before .before .before in
     let u = n .before .before .before in
     let k = counted n in
     read (octets u) (text u) (drop (n .n .given .0 .0) zeros) (c .read-fields .result) (k .sound)
     (rw (k .start) at (c .read-fields .ensures)) (k .buffer) (beside u)
-
-returns-2 : tie.Need-returns-2
-returns-2 c =
-    let u = c .before .before .before in
-    let short = unpack-short (octets u) zeros (u .unpack .result) (text u) (u .unpack .ensures) (c .enum-told .given .1) in
-    unread (octets u) (text u) (too-long (octets u) (short .0)) (beside u)
-
-returns-3 : tie.Need-returns-3
-returns-3 c =
-    let u = c .before .before .before in
-    let unfit = unpack-unfit (octets u) zeros (u .unpack .result) (text u) (u .unpack .ensures) (c .enum-told2 .given .1) in
-    unread (octets u) (text u) (unreadable (octets u) (unfit .1)) (beside u)
 
 pub read-request-spec : {M : Type 1} → statement M
 read-request-spec =
@@ -89,11 +97,8 @@ read-request-spec =
     slice-aggregate-unpack
     unpack-requires
     enum-known-n
+    returns
     array-share-prefix-text
     slice-aggregate-read-fields
     read-fields-requires
-    enum-told
-    enum-told-2
-    returns
-    returns-2
-    returns-3)
+    returns-2)
