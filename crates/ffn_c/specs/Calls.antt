@@ -1,19 +1,20 @@
 -- What each C function returns and leaves in all the memory that it was lent, for every input. Assumes nothing.
 use Prim.Native.Nat.{ℕ}
-use mathlib.Core.Bool.{Bool, true, cond}
+use mathlib.Core.Bool.{true, cond}
+use mathlib.Core.Option.{Option, none, some}
 use mathlib.Core.List.{List, []}
 use lib.ListN.{length}
 use lib.Dec.{eqb, ltb}
-use Rattle.answers.specs.Checks.{isNone}
 use Rattle.answers.specs.Writing as writing
 use Rattle.numbers.specs.declared.FunctionalNumber.{FunctionalNumber}
+use Rattle.packing.specs.Packing.{unpacked}
 use Rattle.packing.specs.Outcomes.{unpacking}
 use Rattle.strings.specs.declared.Operation.{Operation}
 use Rattle.strings.specs.declared.Operation.the-variants.{Register, Erase, Interrogate}
 use Rattle.strings.specs.declared.Erasing.{Erasing}
 use Rattle.strings.specs.declared.Erasing.the-variants.{Empty, Forced}
 use Rattle.strings.specs.Text.{Request}
-use Rattle.strings.specs.Outcomes.{requestOf, reading, writerRoom, writingRequest}
+use Rattle.strings.specs.Outcomes.{requestOf, tell, writerRoom, writingRequest}
 use Rattle.rules.specs.Answers as rules
 use Rattle.ffn_c.specs.declared.Answer.{Answer}
 use Rattle.ffn_c.specs.declared.Operating.{Operating}
@@ -56,7 +57,10 @@ writingFields (Known operation) number erasing additional out =
 
 -- ---- the request's reader
 
--- "Errors and refusals … touch no memory"; the characters of a string that reads are unpacked into the text, if it has room for them
+-- by what the octets read as. "Errors and refusals … touch no memory"; the characters of a string that reads go into the text, if it has room for them
+abbrev pub readingAs : List ℕ → List ℕ → Option Request → Returned RequestRead
+readingAs octets text none = returned (ofTold (tell (unpacked octets) none)) [] text
+readingAs octets text (some f) = returned (ofTold (tell (unpacked octets) (some f))) [] (unpacking octets text .buffer)
+
 unfoldable pub readingInto : List ℕ → List ℕ → Returned RequestRead
-readingInto octets text =
-    returned (ofTold (reading octets .answer)) [] (cond (isNone (requestOf octets)) text (unpacking octets text .buffer))
+readingInto octets text = readingAs octets text (requestOf octets)

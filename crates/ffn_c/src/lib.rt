@@ -251,7 +251,7 @@ pub extern "C" fn ffn_write_request(
 {
     let erasing = erasing_of(msisdn);
     let Operating::Known(operation) = operation_of(operation) else {
-        // nobody's number is refused 9, and after 1
+        // breaks the string's rules, as nobody's number does: the writer refuses that 9, after 1
         return of_written(strings::write_request(
             Operation::Register,
             FunctionalNumber(0),
@@ -303,14 +303,7 @@ pub extern "C" fn ffn_request(
 ) -> Answer
     ensures { λ r. ⌜ returned r (now (table .exit)) (now (reply .exit)) ≡ ofCall (requests.request (now (table .entry)) (now (list .entry)) (now (reply .entry)) (record { 0 = requester }) scheme (now (string .entry))) ⌝ }
 {
-    of_request(node::request(
-        table,
-        list,
-        reply,
-        Msisdn(requester),
-        scheme,
-        string,
-    ))
+    of_request(node::request(table, list, reply, Msisdn(requester), scheme, string))
 }
 
 // A sending of a number's notice, with the notice in the buffer.
@@ -324,13 +317,7 @@ pub extern "C" fn ffn_sending(
 ) -> Answer
     ensures { λ r. ⌜ returned r (now (table .exit)) (now (buffer .exit)) ≡ ofCall (notices.sending (now (table .entry)) (now (buffer .entry)) (record { 0 = number }) delay clock) ⌝ }
 {
-    of_sending(node::sending(
-        table,
-        buffer,
-        FunctionalNumber(number),
-        delay,
-        clock,
-    ))
+    of_sending(node::sending(table, buffer, FunctionalNumber(number), delay, clock))
 }
 
 // The result of a sending.
