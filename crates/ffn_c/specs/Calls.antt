@@ -9,7 +9,6 @@ use Rattle.answers.specs.Writing as writing
 use Rattle.numbers.specs.declared.FunctionalNumber.{FunctionalNumber}
 use Rattle.packing.specs.Packing.{unpacked}
 use Rattle.packing.specs.Outcomes.{unpacking}
-use Rattle.strings.specs.declared.Operation.{Operation}
 use Rattle.strings.specs.declared.Operation.the-variants.{Register, Erase, Interrogate}
 use Rattle.strings.specs.declared.Erasing.{Erasing}
 use Rattle.strings.specs.declared.Erasing.the-variants.{Empty, Forced}

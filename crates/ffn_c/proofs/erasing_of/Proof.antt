@@ -1,6 +1,5 @@
 -- `erasing_of` meets its contract: 0, or any other word. Assumes nothing.
 use borrow.Author.Tests.{eq-eqb, ne-eqb}
-use borrow.Author.Needs.{needs}
 use Rattle.ffn_c.proofs.erasing_of.Statement.{statement}
 use Rattle.ffn_c.proofs.erasing_of.Tie as tie
 

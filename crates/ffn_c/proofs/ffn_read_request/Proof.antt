@@ -1,8 +1,8 @@
 -- `ffn_read_request` meets its contract: the numbers of what the reader ensures, and the characters that the unpacker leaves. Assumes nothing.
 use mathlib.Core.Path.{ap}
+use borrow.Author.Needs.{needs}
 use Rattle.answers.specs.Writing.{Outcome}
 use Rattle.ffn_c.proofs.Reader.{reads-error, reads-fields}
-use borrow.Author.Needs.{needs}
 use Rattle.ffn_c.proofs.ffn_read_request.Statement.{statement}
 use Rattle.ffn_c.proofs.ffn_read_request.Tie as tie
 

@@ -1,7 +1,7 @@
 -- `ffn_result` meets its contract: the numbers of what the node ensures. Assumes nothing.
 use mathlib.Core.Path.{ap}
-use Rattle.ffn_c.specs.Calls.{ofCall}
 use borrow.Author.Needs.{needs}
+use Rattle.ffn_c.specs.Calls.{ofCall}
 use Rattle.ffn_c.proofs.ffn_result.Statement.{statement}
 use Rattle.ffn_c.proofs.ffn_result.Tie as tie
 

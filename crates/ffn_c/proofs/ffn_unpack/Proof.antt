@@ -1,7 +1,7 @@
 -- `ffn_unpack` meets its contract: the numbers of what the unpacker ensures. Assumes nothing.
 use mathlib.Core.Path.{ap}
-use Rattle.ffn_c.specs.Calls.{ofWriter}
 use borrow.Author.Needs.{needs}
+use Rattle.ffn_c.specs.Calls.{ofWriter}
 use Rattle.ffn_c.proofs.ffn_unpack.Statement.{statement}
 use Rattle.ffn_c.proofs.ffn_unpack.Tie as tie
 

@@ -1,8 +1,8 @@
 -- `ffn_write_request` meets its contract: the numbers of what the writer ensures, for an operation and for a number that is none. Assumes nothing.
 use mathlib.Core.Path.{ap, _∙_}
+use borrow.Author.Needs.{needs}
 use Rattle.ffn_c.specs.Calls.{ofWriter}
 use Rattle.ffn_c.proofs.Writer.{nobody-refused}
-use borrow.Author.Needs.{needs}
 use Rattle.ffn_c.proofs.ffn_write_request.Statement.{statement}
 use Rattle.ffn_c.proofs.ffn_write_request.Tie as tie
 

@@ -1,6 +1,5 @@
 -- `operation_of` meets its contract: the number by its cases. Assumes nothing.
 use borrow.Author.Tests.{ne-eqb}
-use borrow.Author.Needs.{needs}
 use Rattle.ffn_c.proofs.operation_of.Statement.{statement}
 use Rattle.ffn_c.proofs.operation_of.Tie as tie
 
