@@ -28,7 +28,7 @@ use Rattle.strings.proofs.Answered.{not-error, told-place}
 -- ---- the reader
 
 -- the text of a string that reads stands whole beside the answer
-beside-whole : (os : List ℕ) {g : Request} → requestOf os ≡ some g → length (unpacked os) ≤ length (textBeside os)
+pub beside-whole : (os : List ℕ) {g : Request} → requestOf os ≡ some g → length (unpacked os) ≤ length (textBeside os)
 unfolding textBeside
 beside-whole os e =
     ⊎-elim (λ h. not-some (sym (too-long os h) ∙ e))

@@ -1,0 +1,153 @@
+-- The struct loses nothing: from its four numbers the answer in document 01's words can be read back. Assumes nothing.
+use mathlib.Core.Path.{_≡_, refl}
+use mathlib.Core.Bool.{Bool, true, not, cond}
+use mathlib.Core.Option.{Option, none, some}
+use mathlib.Core.List.{List, [], _∷_}
+use Prim.Native.Nat.{ℕ, zero, suc}
+use lib.Dec.{eqb}
+use borrow.Author.Tests.{not-true}
+use Rattle.answers.proofs.Decide.{decide-each}
+use Rattle.numbers.specs.declared.FunctionalNumber.{FunctionalNumber}
+use Rattle.numbers.specs.declared.Msisdn.{Msisdn}
+use Rattle.strings.specs.declared.Operation.{Operation}
+use Rattle.strings.specs.declared.Operation.the-variants.{Register, Erase, Interrogate}
+use Rattle.strings.specs.declared.Erasing.{Erasing}
+use Rattle.strings.specs.Text.{Request}
+use Rattle.strings.specs.Outcomes.{requestOf}
+use Rattle.records.specs.Steps.{isDue, delayAllowed}
+use Rattle.records.specs.Rows.{numberAt, recordAt}
+use Rattle.tables.specs.declared.Found.{Found}
+use Rattle.tables.specs.declared.Found.the-variants.{At, Nothing}
+use Rattle.tables.specs.Tables.{tableSound, rowsIn, rowOf, recordOf}
+use Rattle.rules.specs.Answers.{Answer, refusal, error, outcome, holder, sent, delivered, dropped, again, found, noneDue, Outcome, refusing}
+use Rattle.rules.specs.Requests.{numberIn, carriedOut, carriedOutAt, requestChecks, request}
+use Rattle.rules.specs.Notices as notices
+use Rattle.ffn_c.specs.declared.Answer as numbers
+use Rattle.ffn_c.specs.Numbers.{ofAnswer}
+use Rattle.ffn_c.specs.Numbers as class
+
+-- the answer that four numbers stand for
+answerOf : ℕ → ℕ → ℕ → ℕ → Answer
+answerOf c number count value =
+    cond (eqb c class.refusal) (refusal number)
+    (cond (eqb c class.error) (error number)
+    (cond (eqb c class.outcome) (cond (eqb number 3) (holder value count) (outcome number count))
+    (cond (eqb c class.sent) (sent value count)
+    (cond (eqb c class.result) (cond (eqb number class.delivered) delivered (cond (eqb number class.dropped) dropped again))
+    (cond (eqb c class.found) (found value) noneDue)))))
+
+-- outcome 03 comes with the holder
+tells : Answer → Bool
+tells (refusal n) = true
+tells (error n) = true
+tells (outcome n octets) = not (eqb n 3)
+tells (holder msisdn octets) = true
+tells (sent addressee octets) = true
+tells delivered = true
+tells dropped = true
+tells again = true
+tells (found number) = true
+tells noneDue = true
+
+IsTold : Answer → Type 0
+IsTold a = tells a ≡ true
+
+Tells : Outcome → Type 0
+Tells o = IsTold (o .answer)
+
+-- the answer, read back
+pub readBack : numbers.Answer → Answer
+readBack a = answerOf (a .class) (a .number) (a .count) (a .value)
+
+back : (a : Answer) → IsTold a → readBack (ofAnswer a) ≡ a
+unfolding answerOf tells IsTold readBack
+back (refusal n) t = refl
+back (error n) t = refl
+back (outcome n octets) t = rw (not-true (eqb n 3) t)
+back (holder msisdn octets) t = refl
+back (sent addressee octets) t = refl
+back delivered t = refl
+back dropped t = refl
+back again t = refl
+back (found number) t = refl
+back noneDue t = refl
+
+-- ---- a request
+
+done-tells :
+    (operation : Operation) (erasing : Erasing) (requester : Msisdn) (table : List ℕ) (i : ℕ) (reply : List ℕ)
+    → Tells (carriedOut operation erasing requester table i reply)
+unfolding tells IsTold Tells
+done-tells Register erasing requester table i reply = refl
+done-tells Erase erasing requester table i reply = refl
+done-tells Interrogate erasing requester table i reply = refl
+
+done-at-tells : (f : Option Request) (place : Found) (requester : Msisdn) (table reply : List ℕ) → Tells (carriedOutAt f place requester table reply)
+unfolding tells IsTold Tells
+done-at-tells none place requester table reply = refl
+done-at-tells (some f) Nothing requester table reply = refl
+done-at-tells (some f) (At i) requester table reply = done-tells (f .operation) (f .erasing) requester table i reply
+
+pub request-back :
+    (table list reply : List ℕ) (requester : Msisdn) (scheme : ℕ) (string : List ℕ)
+    → let a = request table list reply requester scheme string .answer in readBack (ofAnswer a) ≡ a
+unfolding tells IsTold Tells requestChecks request
+request-back table list reply requester scheme string =
+    back _
+    (decide-each Tells (requestChecks table list reply requester scheme string)
+    (carriedOutAt (requestOf string) (rowOf table (numberIn (requestOf string) .0)) requester table reply)
+    (refl, (refl, (refl, (refl, (refl, (refl, (refl, (refl, (refl, (refl, (refl, (refl, (refl, (refl, (refl, tt)))))))))))))))
+    (done-at-tells (requestOf string) (rowOf table (numberIn (requestOf string) .0)) requester table reply))
+
+-- ---- a sending
+
+sent-tells : (number : FunctionalNumber) (place : Found) (table buffer : List ℕ) → Tells (notices.sentAt number place table buffer)
+unfolding tells IsTold Tells
+sent-tells number Nothing table buffer = refl
+sent-tells number (At i) table buffer = refl
+
+pub sending-back :
+    (table buffer : List ℕ) (number : FunctionalNumber) (delay clock : ℕ)
+    → let a = notices.sending table buffer number delay clock .answer in readBack (ofAnswer a) ≡ a
+unfolding tells IsTold Tells notices.sending
+sending-back table buffer number delay clock =
+    back _
+    (decide-each Tells (refusing table buffer (notices.sendingChecks (tableSound table) buffer (number .0) (recordOf table (number .0)) delay clock))
+    (notices.sentAt number (rowOf table (number .0)) table buffer)
+    (refl, (refl, (refl, (refl, (refl, (refl, tt))))))
+    (sent-tells number (rowOf table (number .0)) table buffer))
+
+-- ---- a result
+
+resulted-tells : (kind clock : ℕ) (place : Found) (table : List ℕ) → Tells (notices.resultAt kind clock place table)
+unfolding tells IsTold Tells
+resulted-tells kind clock Nothing table = refl
+resulted-tells kind clock (At i) table =
+    decide-each IsTold ((eqb kind 0, delivered) ∷ (notices.clears kind (recordAt table i .notice), dropped) ∷ []) again (refl, (refl, tt)) refl
+
+pub result-back :
+    (table : List ℕ) (number : FunctionalNumber) (kind clock : ℕ)
+    → let a = notices.result table number kind clock .answer in readBack (ofAnswer a) ≡ a
+unfolding tells IsTold Tells notices.result
+result-back table number kind clock =
+    back _
+    (decide-each Tells (refusing table [] (notices.resultChecks (tableSound table) (number .0) (recordOf table (number .0)) kind))
+    (notices.resultAt kind clock (rowOf table (number .0)) table)
+    (refl, (refl, (refl, (refl, tt))))
+    (resulted-tells kind clock (rowOf table (number .0)) table))
+
+-- ---- a finding
+
+first-tells : (table : List ℕ) (delay clock n i : ℕ) → IsTold (notices.firstDue table delay clock n i)
+unfolding tells IsTold notices.firstDue
+first-tells table delay clock zero i = refl
+first-tells table delay clock (suc n) i =
+    decide-each IsTold ((isDue delay clock (recordAt table i .notice), found (numberAt table i)) ∷ []) (notices.firstDue table delay clock n (suc i)) (refl, tt)
+    (first-tells table delay clock n (suc i))
+
+pub finding-back : (table : List ℕ) (delay clock : ℕ) → let a = notices.finding table delay clock in readBack (ofAnswer a) ≡ a
+unfolding tells IsTold notices.finding
+finding-back table delay clock =
+    back _
+    (decide-each IsTold ((not (tableSound table), refusal 2) ∷ (not (delayAllowed delay), refusal 6) ∷ []) (notices.firstDue table delay clock (rowsIn table) 0)
+    (refl, (refl, tt)) (first-tells table delay clock (rowsIn table) 0))

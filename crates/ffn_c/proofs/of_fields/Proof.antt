@@ -1,0 +1,16 @@
+-- `of_fields` meets its contract, by what the operation and the erasing are turned into. Assumes nothing.
+use borrow.Author.Needs.{needs}
+use Rattle.ffn_c.proofs.of_fields.Statement.{statement}
+use Rattle.ffn_c.proofs.of_fields.Tie as tie
+
+of-operation-requires : tie.Need-of-operation-requires
+of-operation-requires c κs = search needs
+
+of-erasing-requires : tie.Need-of-erasing-requires
+of-erasing-requires c κs = search needs
+
+returns : tie.Need-returns
+returns c = rw (c .before .of-operation .ensures, c .of-erasing .ensures)
+
+pub of-fields-spec : {M : Type 1} → statement M
+of-fields-spec = tie.close (tie.spec of-operation-requires of-erasing-requires returns)

@@ -1,0 +1,172 @@
+/*
+ * The Follow Me node as a C library: libffn_c.a.
+ *
+ * Every function works on memory that the caller lends for the one call, keeps
+ * nothing, and allocates nothing. It returns one struct by value. Each is
+ * proved, for every input, to return and to leave in all lent memory exactly
+ * what document 01 says; no input is undefined. What a caller owes is only
+ * what C itself asks:
+ *  - a pointer is not null and points at as many elements as its length says,
+ *    also where that length is 0 (the pointer is not followed then);
+ *  - words are aligned as uint64_t;
+ *  - memory that is lent for writing overlaps no other memory of the call, and
+ *    no other thread uses lent memory during the call.
+ *
+ * Numbers. A functional number and an MSISDN are separate numberings; each has
+ * 5 to 15 decimal digits, and leading zeros count. A number is passed in stored
+ * form: its digits with a 1 put in front, read as a decimal. 0492123401 is
+ * 10492123401. 0 means nobody.
+ *
+ * Table. Six words a number, at most 1,024 numbers, strictly ascending by the
+ * first word: functional number; holder, or 0; phase; the notice's addressee;
+ * supervisor; second of the last failure.
+ * List. Two words a subscriber, at most 4,096, strictly ascending: MSISDN;
+ * flags 0 to 3 (1 has Follow Me, 2 supervisor).
+ *
+ * Refusals and errors touch no memory. What a function writes stands at the
+ * start of the buffer; everything beyond its count stays as it was.
+ */
+#ifndef FFN_H
+#define FFN_H
+
+#include <stddef.h>
+#include <stdint.h>
+
+#ifdef __cplusplus
+extern "C" {
+#endif
+
+/* The classes of an answer. Refusals, errors and outcomes are numbered apart. */
+enum {
+    FFN_WRITTEN = 0,  /* count: the octets or characters that were written */
+    FFN_REFUSAL = 1,  /* number: 1 to 9, see below */
+    FFN_ERROR = 2,    /* number: 35, 36 or 71, the codes of TS 29.002 */
+    FFN_OUTCOME = 3,  /* number: the outcome; count: the reply's octets; value: of 03 the holder's MSISDN, otherwise 0 */
+    FFN_SENT = 4,     /* count: the notice's octets; value: the addressee's MSISDN */
+    FFN_RESULT = 5,   /* number: FFN_DELIVERED, FFN_DROPPED or FFN_AGAIN */
+    FFN_FOUND = 6,    /* value: the lowest due functional number */
+    FFN_NONE_DUE = 7, /* no notice is due */
+    FFN_READ = 8      /* of ffn_read_request alone: the string reads */
+};
+
+/* What ffn_result returns as its number. */
+enum {
+    FFN_DELIVERED = 0, /* the notice is cleared, it was delivered */
+    FFN_DROPPED = 1,   /* the notice is cleared, it was not delivered */
+    FFN_AGAIN = 2      /* the notice waits to be sent again */
+};
+
+/* Operations of a request. */
+enum {
+    FFN_REGISTER = 0,   /* ** */
+    FFN_ERASE = 1,      /* ## */
+    FFN_INTERROGATE = 2 /* *# */
+};
+
+/*
+ * Refusals:
+ * 1 a buffer is too short; 2 the table is unsound; 3 the kind is above 5;
+ * 4 the notice is not in the phase that the call needs; 5 it is not due;
+ * 6 the delay is neither 0 nor 60 to 600 seconds; 7 the functional number is
+ * malformed or not in the table; 8 the list is unsound; 9 the fields break the
+ * string's rules, a character is not one that the packer takes, or unused bits
+ * are not 0.
+ * Errors: 35 the requester is no MSISDN, or the string has 0 octets; 36 the
+ * string does not read; 71 the data coding scheme is not 0x0F.
+ * Outcomes: 01 registered, 02 erased, 03 interrogated; 22, 41, 42, 61, 62, 63,
+ * 67, 68 as in document 01's table.
+ */
+
+/* An answer. A field that its class does not name is 0. */
+struct ffn_answer {
+    uint32_t class_; /* FFN_WRITTEN to FFN_NONE_DUE (without its underscore a word of C++) */
+    uint32_t number;
+    size_t count;
+    uint64_t value;
+};
+
+/* What a packed request string reads as. With FFN_ERROR all but number is 0. */
+struct ffn_request_read {
+    uint32_t class_;            /* FFN_READ, or FFN_ERROR */
+    uint32_t number;            /* 36 with FFN_ERROR, otherwise 0 */
+    uint32_t operation;         /* FFN_REGISTER, FFN_ERASE or FFN_INTERROGATE */
+    uint64_t functional_number; /* in stored form */
+    uint64_t msisdn;            /* of a forced erasure the MSISDN to erase, in stored form; otherwise 0 */
+    size_t start;               /* where the additional field starts in the unpacked string */
+    size_t length;              /* and how many characters it has, 0 to 30 */
+};
+
+/*
+ * Packs characters into octets (TS 23.038, USSD). FFN_WRITTEN with the count of
+ * octets, 7n/8 rounded up. Refused 1 where out is shorter than the octets, then
+ * 9 where a character is above 127 or a carriage return (13).
+ */
+struct ffn_answer ffn_pack(const uint8_t *chars, size_t chars_length, uint8_t *out, size_t out_length);
+
+/*
+ * Unpacks octets into characters. FFN_WRITTEN with the count of characters,
+ * 8m/7 rounded down; where m is a multiple of 7 and the last character is a
+ * carriage return, that one is dropped and not written. Refused 1 where out is
+ * shorter than the characters before any drop, then 9 where unused bits are
+ * not 0.
+ */
+struct ffn_answer ffn_unpack(const uint8_t *octets, size_t octets_length, uint8_t *out, size_t out_length);
+
+/*
+ * Writes a request string, packed. operation is FFN_REGISTER, FFN_ERASE or
+ * FFN_INTERROGATE; msisdn is 0, or with FFN_ERASE the MSISDN that a forced
+ * erasure names; additional has 0 to 30 characters from 0-9, A-Z and space.
+ * FFN_WRITTEN with the count of octets, at most 63. Refused 1 where out has
+ * under 160 octets, then 9 where the fields break these rules.
+ */
+struct ffn_answer ffn_write_request(uint32_t operation, uint64_t functional_number, uint64_t msisdn,
+                                    const uint8_t *additional, size_t additional_length,
+                                    uint8_t *out, size_t out_length);
+
+/*
+ * Reads a packed request string: FFN_READ with its fields, or FFN_ERROR 36.
+ * Where the string reads and text has room for its characters (8m/7 rounded
+ * down for m octets; 72 is always enough), they stand at the start of text,
+ * the additional field from start on. Otherwise text stays as it was; it may
+ * have length 0.
+ */
+struct ffn_request_read ffn_read_request(const uint8_t *octets, size_t octets_length, uint8_t *text, size_t text_length);
+
+/*
+ * A request: the requester's MSISDN, the data coding scheme and the packed
+ * string. FFN_OUTCOME with the packed text of the outcome in reply: its two
+ * digits, and of 03 a space and the holder's digits. A changing 01 or 02
+ * changes the number's record. Refused 1 (reply under 80 octets), 8, 2; errors
+ * 35, 71, 36; in document 01's order.
+ */
+struct ffn_answer ffn_request(uint64_t *table, size_t table_words, const uint64_t *list, size_t list_words,
+                              uint8_t *reply, size_t reply_length,
+                              uint64_t requester, uint8_t scheme, const uint8_t *string, size_t string_length);
+
+/*
+ * Sends the notice of a number. FFN_SENT with the addressee, and the packed
+ * notice in buffer; the record's phase grows by 1. delay is 0 (60 seconds) or
+ * 60 to 600; now is the second counter, which wraps. Refused 1 (buffer under 80
+ * octets), 2, 7, 6, 4 (the phase is not odd), 5.
+ */
+struct ffn_answer ffn_sending(uint64_t *table, size_t table_words, uint8_t *buffer, size_t buffer_length,
+                              uint64_t functional_number, uint32_t delay, uint32_t now);
+
+/*
+ * The result of a sending: kind 0 delivered, 1 unknown subscriber, 2 illegal
+ * subscriber, 3 illegal equipment, 4 service not supported, 5 any other error,
+ * a lost dialogue too. FFN_RESULT. Refused 2, 7, 3, 4 (the phase is 0 or odd).
+ */
+struct ffn_answer ffn_result(uint64_t *table, size_t table_words, uint64_t functional_number, uint32_t kind, uint32_t now);
+
+/*
+ * The lowest number whose notice is due: FFN_FOUND, or FFN_NONE_DUE exactly if
+ * none is due. Refused 2, 6.
+ */
+struct ffn_answer ffn_finding(const uint64_t *table, size_t table_words, uint32_t delay, uint32_t now);
+
+#ifdef __cplusplus
+}
+#endif
+
+#endif

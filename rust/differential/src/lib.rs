@@ -1,0 +1,288 @@
+//! The proved library beside the independent implementation of document 01:
+//! both are given the same random calls, each on its own copy of all lent
+//! memory, and must agree on every answer, every word and every octet.
+
+#![forbid(unsafe_code)]
+
+use std::collections::BTreeMap;
+
+use ffn::c;
+use oracle::generate::{Call, Generator, Random, Reply};
+use oracle::{Answer, Fields, Operation};
+
+/// How often each kind of answer came up.
+pub type Counts = BTreeMap<String, u64>;
+
+/// What a call was answered, in the independent implementation's types.
+#[derive(Clone, Debug, PartialEq, Eq)]
+enum Said {
+    Answer(Answer),
+    Count(Result<usize, u8>),
+    Fields(Option<Fields<Vec<u8>>>),
+    IsNumber(bool),
+}
+
+/// A call with its memory, and the text that the request reader is lent.
+#[derive(Clone, Debug, PartialEq, Eq)]
+struct Lent {
+    call: Call,
+    text: Vec<u8>,
+}
+
+/// Makes `calls` calls from `seed` and compares them one by one.
+///
+/// # Errors
+/// At the first difference: the call, and what both made of it.
+pub fn compare(seed: u64, calls: u64) -> Result<Counts, String> {
+    let mut generator = Generator::new(seed);
+    let mut random = Random::new(!seed);
+    let mut counts = Counts::new();
+    for n in 0..calls {
+        let before = lend(generator.call(), &mut random);
+        let (mut left, mut right) = (before.clone(), before.clone());
+        let (by_oracle, by_library) = (ask_oracle(&mut left), ask_library(&mut right));
+        if by_oracle != by_library || left != right {
+            return Err(format!(
+                "call {n} of seed {seed}: {before:?}\n\
+                 the independent implementation: {by_oracle:?}\nleaves {left:?}\n\
+                 the library: {by_library:?}\nleaves {right:?}"
+            ));
+        }
+        unknown_operation(&before, &mut random)
+            .map_err(|e| format!("call {n} of seed {seed}: {e}"))?;
+        *counts.entry(kind(&before.call, &by_library)).or_default() += 1;
+    }
+    Ok(counts)
+}
+
+/// The call as the C interface can say it, with a text of some length.
+fn lend(mut call: Call, random: &mut Random) -> Lent {
+    let mut text = Vec::new();
+    match &mut call {
+        // There the word 0 stands for an absent MSISDN, so none is named.
+        Call::WriteRequest { fields, .. } if fields.forced == Some(0) => fields.forced = None,
+        Call::ReadRequest { octets } => {
+            let room = characters(octets);
+            let length = random.pick(&[0, room.saturating_sub(1), room, room + 1, 72, 200]);
+            text.extend((0..length).map(|_| random.octet()));
+        }
+        _ => {}
+    }
+    Lent { call, text }
+}
+
+/// How many characters octets hold, before any drop.
+fn characters(octets: &[u8]) -> usize {
+    8 * octets.len() / 7
+}
+
+fn ask_oracle(lent: &mut Lent) -> Said {
+    let said = match lent.call.run() {
+        Reply::Answer(answer) => Said::Answer(answer),
+        Reply::Count(count) => Said::Count(count),
+        Reply::IsNumber(is_number) => Said::IsNumber(is_number),
+        Reply::Fields(fields) => Said::Fields(fields.map(|f| Fields {
+            operation: f.operation,
+            number: f.number,
+            forced: f.forced,
+            additional: f.additional.as_ref().to_vec(),
+        })),
+    };
+    // The text of a string that reads is unpacked where there is room for it.
+    if let (Call::ReadRequest { octets }, Said::Fields(Some(_))) = (&lent.call, &said) {
+        if characters(octets) <= lent.text.len() {
+            oracle::unpack(octets, &mut lent.text).expect("a string that reads unpacks");
+        }
+    }
+    said
+}
+
+fn ask_library(lent: &mut Lent) -> Said {
+    match &mut lent.call {
+        Call::Request {
+            table,
+            list,
+            reply,
+            requester,
+            scheme,
+            string,
+        } => answer(c::request(table, list, reply, *requester, *scheme, string)),
+        Call::Sending {
+            table,
+            buffer,
+            number,
+            delay,
+            now,
+        } => answer(c::sending(table, buffer, *number, *delay, *now)),
+        Call::Result {
+            table,
+            number,
+            kind,
+            now,
+        } => answer(c::result(table, *number, *kind, *now)),
+        Call::Finding { table, delay, now } => answer(c::finding(table, *delay, *now)),
+        Call::Pack { chars, out } => Said::Count(count(c::pack(chars, out))),
+        Call::Unpack { octets, out } => Said::Count(count(c::unpack(octets, out))),
+        Call::WriteRequest { fields, out } => {
+            let operation = number_of(fields.operation);
+            Said::Count(count(write(operation, fields, out)))
+        }
+        Call::ReadRequest { octets } => Said::Fields(read(octets, &mut lent.text)),
+        Call::IsNumber { word } => {
+            // The writer takes a functional number exactly if it is one.
+            let operation = number_of(Operation::Register);
+            let written = count(c::write_request(operation, *word, 0, &[], &mut [0; 160]));
+            Said::IsNumber(written != Err(9))
+        }
+    }
+}
+
+fn write(operation: u32, fields: &Fields<Vec<u8>>, out: &mut [u8]) -> c::Answer {
+    let msisdn = fields.forced.unwrap_or(0);
+    c::write_request(operation, fields.number, msisdn, &fields.additional, out)
+}
+
+/// The fields, the additional field taken from the text or, where the caller's
+/// has no room for it, from another.
+fn read(octets: &[u8], text: &mut [u8]) -> Option<Fields<Vec<u8>>> {
+    let read = c::read_request(octets, text);
+    let mut whole = [0; 72];
+    assert_eq!(c::read_request(octets, &mut whole), read);
+    if read.class == c::ERROR {
+        assert_eq!((read.number, whole), (36, [0; 72]));
+        return None;
+    }
+    assert_eq!((read.class, read.number), (c::READ, 0));
+    Some(Fields {
+        operation: operation(read.operation),
+        number: read.functional_number,
+        forced: Some(read.msisdn).filter(|&msisdn| msisdn != 0),
+        additional: whole[read.start..][..read.length].to_vec(),
+    })
+}
+
+/// A number that is no operation is refused as fields that break the rules
+/// are: 9, and after 1.
+fn unknown_operation(before: &Lent, random: &mut Random) -> Result<(), String> {
+    let Call::WriteRequest { fields, out } = &before.call else {
+        return Ok(());
+    };
+    let operation = random.pick(&[3, 4, 256, 1 << 31, u32::MAX]);
+    let mut left = out.clone();
+    let said = count(write(operation, fields, &mut left));
+    let expected = if out.len() < 160 { 1 } else { 9 };
+    if said == Err(expected) && left == *out {
+        Ok(())
+    } else {
+        Err(format!("operation {operation}: {said:?}, {before:?}"))
+    }
+}
+
+fn number_of(operation: Operation) -> u32 {
+    match operation {
+        Operation::Register => 0,
+        Operation::Erase => 1,
+        Operation::Interrogate => 2,
+    }
+}
+
+fn operation(number: u32) -> Operation {
+    match number {
+        0 => Operation::Register,
+        1 => Operation::Erase,
+        2 => Operation::Interrogate,
+        _ => panic!("operation {number}"),
+    }
+}
+
+/// A writer's answer; a field that its class does not name is 0.
+fn count(answer: c::Answer) -> Result<usize, u8> {
+    match (answer.class, answer.number, answer.count, answer.value) {
+        (c::WRITTEN, 0, count, 0) => Ok(count),
+        (c::REFUSAL, number, 0, 0) => Err(octet(number)),
+        _ => panic!("{answer:?}"),
+    }
+}
+
+/// A call's answer; a field that its class does not name is 0.
+fn answer(answer: c::Answer) -> Said {
+    let (number, octets) = (octet(answer.number), answer.count);
+    Said::Answer(match (answer.class, number, octets, answer.value) {
+        (c::REFUSAL, _, 0, 0) => Answer::Refusal(number),
+        (c::ERROR, _, 0, 0) => Answer::Error(number),
+        (c::OUTCOME, _, _, msisdn) => Answer::Outcome {
+            number,
+            octets,
+            msisdn,
+        },
+        (c::SENT, 0, _, addressee) => Answer::Sent { addressee, octets },
+        (c::RESULT, 0, 0, 0) => Answer::Delivered,
+        (c::RESULT, 1, 0, 0) => Answer::Dropped,
+        (c::RESULT, 2, 0, 0) => Answer::Again,
+        (c::FOUND, 0, 0, number) => Answer::Found(number),
+        (c::NONE_DUE, 0, 0, 0) => Answer::NoneDue,
+        _ => panic!("{answer:?}"),
+    })
+}
+
+fn octet(number: u32) -> u8 {
+    u8::try_from(number).expect("document 01's numbers are below 256")
+}
+
+/// The kind of an answer, for the counts.
+fn kind(call: &Call, said: &Said) -> String {
+    let call = match call {
+        Call::Request { .. } => "request",
+        Call::Sending { .. } => "sending",
+        Call::Result { .. } => "result",
+        Call::Finding { .. } => "finding",
+        Call::Pack { .. } => "pack",
+        Call::Unpack { .. } => "unpack",
+        Call::WriteRequest { .. } => "write request",
+        Call::ReadRequest { .. } => "read request",
+        Call::IsNumber { .. } => "number",
+    };
+    let said = match said {
+        Said::Answer(Answer::Refusal(n)) | Said::Count(Err(n)) => format!("refused {n}"),
+        Said::Answer(Answer::Error(n)) => format!("error {n}"),
+        Said::Answer(Answer::Outcome { number, .. }) => format!("{number:02}"),
+        Said::Answer(Answer::Sent { .. }) => "sent".into(),
+        Said::Answer(Answer::Found(_)) => "found".into(),
+        Said::Answer(answer) => format!("{answer:?}").to_lowercase(),
+        Said::Count(Ok(_)) => "written".into(),
+        Said::Fields(Some(fields)) => format!("{:?}", fields.operation).to_lowercase(),
+        Said::Fields(None) => "error 36".into(),
+        Said::IsNumber(is_number) => is_number.to_string(),
+    };
+    format!("{call}: {said}")
+}
+
+#[cfg(test)]
+mod tests {
+    use super::*;
+
+    #[test]
+    fn twenty_thousand_calls_agree_and_every_kind_of_answer_comes_up() {
+        let counts = compare(20_000, 20_000).unwrap_or_else(|difference| panic!("{difference}"));
+        assert_eq!(counts.values().sum::<u64>(), 20_000);
+        let expected = |call: &str, answers: &str| {
+            for answer in answers.split(", ") {
+                let kind = format!("{call}: {answer}");
+                assert!(counts.contains_key(&kind), "no {kind} in {counts:#?}");
+            }
+        };
+        expected("request", "refused 1, refused 2, refused 8");
+        expected("request", "error 35, error 36, error 71");
+        expected("request", "01, 02, 03, 22, 41, 42, 61, 62, 63, 67, 68");
+        expected("sending", "refused 1, refused 2, refused 4, refused 5");
+        expected("sending", "refused 6, refused 7, sent");
+        expected("result", "refused 2, refused 3, refused 4, refused 7");
+        expected("result", "delivered, dropped, again");
+        expected("finding", "refused 2, refused 6, found, nonedue");
+        for call in ["pack", "unpack", "write request"] {
+            expected(call, "refused 1, refused 9, written");
+        }
+        expected("read request", "register, erase, interrogate, error 36");
+        expected("number", "true, false");
+    }
+}

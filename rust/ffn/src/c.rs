@@ -1,0 +1,207 @@
+//! The functions of `include/ffn.h`, called with slices. Their structs hold
+//! numbers; the enums of this crate say what the numbers mean.
+//!
+//! A slice passes as a pointer and a length. That a `&mut` slice overlaps no
+//! other is Rust's own rule, and it is all that the library asks.
+
+/// The classes of an answer.
+pub const WRITTEN: u32 = 0;
+pub const REFUSAL: u32 = 1;
+pub const ERROR: u32 = 2;
+pub const OUTCOME: u32 = 3;
+pub const SENT: u32 = 4;
+pub const RESULT: u32 = 5;
+pub const FOUND: u32 = 6;
+pub const NONE_DUE: u32 = 7;
+/// Of [`read_request`] alone.
+pub const READ: u32 = 8;
+
+/// `struct ffn_answer`. A field that its class does not name is 0.
+#[repr(C)]
+#[derive(Clone, Copy, Debug, PartialEq, Eq)]
+pub struct Answer {
+    pub class: u32,
+    /// Of a refusal, an error, an outcome or a result.
+    pub number: u32,
+    /// Of octets or characters.
+    pub count: usize,
+    /// The holder's MSISDN, the notice's addressee or the number found.
+    pub value: u64,
+}
+
+/// `struct ffn_request_read`.
+#[repr(C)]
+#[derive(Clone, Copy, Debug, PartialEq, Eq)]
+pub struct RequestRead {
+    pub class: u32,
+    /// Of an error.
+    pub number: u32,
+    pub operation: u32,
+    pub functional_number: u64,
+    /// Of a forced erasure, otherwise 0.
+    pub msisdn: u64,
+    /// Of the additional field in the unpacked string.
+    pub start: usize,
+    pub length: usize,
+}
+
+mod linked {
+    use super::{Answer, RequestRead};
+
+    extern "C" {
+        pub fn ffn_pack(
+            chars: *const u8,
+            chars_length: usize,
+            out: *mut u8,
+            out_length: usize,
+        ) -> Answer;
+        pub fn ffn_unpack(
+            octets: *const u8,
+            octets_length: usize,
+            out: *mut u8,
+            out_length: usize,
+        ) -> Answer;
+        pub fn ffn_write_request(
+            operation: u32,
+            functional_number: u64,
+            msisdn: u64,
+            additional: *const u8,
+            additional_length: usize,
+            out: *mut u8,
+            out_length: usize,
+        ) -> Answer;
+        pub fn ffn_read_request(
+            octets: *const u8,
+            octets_length: usize,
+            text: *mut u8,
+            text_length: usize,
+        ) -> RequestRead;
+        pub fn ffn_request(
+            table: *mut u64,
+            table_words: usize,
+            list: *const u64,
+            list_words: usize,
+            reply: *mut u8,
+            reply_length: usize,
+            requester: u64,
+            scheme: u8,
+            string: *const u8,
+            string_length: usize,
+        ) -> Answer;
+        pub fn ffn_sending(
+            table: *mut u64,
+            table_words: usize,
+            buffer: *mut u8,
+            buffer_length: usize,
+            functional_number: u64,
+            delay: u32,
+            now: u32,
+        ) -> Answer;
+        pub fn ffn_result(
+            table: *mut u64,
+            table_words: usize,
+            functional_number: u64,
+            kind: u32,
+            now: u32,
+        ) -> Answer;
+        pub fn ffn_finding(table: *const u64, table_words: usize, delay: u32, now: u32) -> Answer;
+    }
+}
+
+// SAFETY, of every call below: each pointer and length are those of one slice,
+// which is borrowed for the call; the library reads and writes nothing else,
+// for every value of its arguments.
+
+pub fn pack(chars: &[u8], out: &mut [u8]) -> Answer {
+    unsafe { linked::ffn_pack(chars.as_ptr(), chars.len(), out.as_mut_ptr(), out.len()) }
+}
+
+pub fn unpack(octets: &[u8], out: &mut [u8]) -> Answer {
+    unsafe { linked::ffn_unpack(octets.as_ptr(), octets.len(), out.as_mut_ptr(), out.len()) }
+}
+
+pub fn write_request(
+    operation: u32,
+    functional_number: u64,
+    msisdn: u64,
+    additional: &[u8],
+    out: &mut [u8],
+) -> Answer {
+    unsafe {
+        linked::ffn_write_request(
+            operation,
+            functional_number,
+            msisdn,
+            additional.as_ptr(),
+            additional.len(),
+            out.as_mut_ptr(),
+            out.len(),
+        )
+    }
+}
+
+pub fn read_request(octets: &[u8], text: &mut [u8]) -> RequestRead {
+    unsafe {
+        linked::ffn_read_request(octets.as_ptr(), octets.len(), text.as_mut_ptr(), text.len())
+    }
+}
+
+pub fn request(
+    table: &mut [u64],
+    list: &[u64],
+    reply: &mut [u8],
+    requester: u64,
+    scheme: u8,
+    string: &[u8],
+) -> Answer {
+    unsafe {
+        linked::ffn_request(
+            table.as_mut_ptr(),
+            table.len(),
+            list.as_ptr(),
+            list.len(),
+            reply.as_mut_ptr(),
+            reply.len(),
+            requester,
+            scheme,
+            string.as_ptr(),
+            string.len(),
+        )
+    }
+}
+
+pub fn sending(
+    table: &mut [u64],
+    buffer: &mut [u8],
+    functional_number: u64,
+    delay: u32,
+    now: u32,
+) -> Answer {
+    unsafe {
+        linked::ffn_sending(
+            table.as_mut_ptr(),
+            table.len(),
+            buffer.as_mut_ptr(),
+            buffer.len(),
+            functional_number,
+            delay,
+            now,
+        )
+    }
+}
+
+pub fn result(table: &mut [u64], functional_number: u64, kind: u32, now: u32) -> Answer {
+    unsafe {
+        linked::ffn_result(
+            table.as_mut_ptr(),
+            table.len(),
+            functional_number,
+            kind,
+            now,
+        )
+    }
+}
+
+pub fn finding(table: &[u64], delay: u32, now: u32) -> Answer {
+    unsafe { linked::ffn_finding(table.as_ptr(), table.len(), delay, now) }
+}

@@ -1,0 +1,378 @@
+//! Document 01's examples P5 to P15, the refusals, and what stays untouched.
+
+use ffn::{
+    finding, pack, read_request, request, result, sending, unpack, write_request, Failure,
+    FunctionalNumber, Kind, Msisdn, Operation, Outcome, Refusal, Reply, Request, RequestError,
+    Resulted, Sent, CODING_SCHEME,
+};
+
+const UNTOUCHED: u8 = 0xEE;
+
+fn msisdn(digits: &str) -> Msisdn {
+    Msisdn::from_digits(digits).unwrap()
+}
+
+fn f() -> FunctionalNumber {
+    FunctionalNumber::from_digits("0492123401").unwrap()
+}
+
+fn a() -> Msisdn {
+    msisdn("4915100001")
+}
+
+fn b() -> Msisdn {
+    msisdn("4915100002")
+}
+
+fn c() -> Msisdn {
+    msisdn("4915100003")
+}
+
+fn list() -> [u64; 6] {
+    [a().word(), 1, b().word(), 3, c().word(), 0]
+}
+
+/// F, held by `holder` or free, with no notice.
+fn held_by(holder: Option<Msisdn>) -> [u64; 6] {
+    [f().word(), holder.map_or(0, Msisdn::word), 0, 0, 0, 0]
+}
+
+/// F, free, with a notice to A from B.
+fn notice(phase: u64, failure: u64) -> [u64; 6] {
+    [f().word(), 0, phase, a().word(), b().word(), failure]
+}
+
+fn packed(text: &str) -> Vec<u8> {
+    let mut out = [0; 300];
+    let count = pack(text.as_bytes(), &mut out).unwrap();
+    out[..count].to_vec()
+}
+
+/// The packed text in front, and the rest untouched.
+fn holds(buffer: &[u8], text: &str) -> bool {
+    let octets = packed(text);
+    buffer.starts_with(&octets) && buffer[octets.len()..].iter().all(|&o| o == UNTOUCHED)
+}
+
+/// A request, with the reply's text checked.
+fn ask(table: &mut [u64], requester: Msisdn, text: &str) -> Result<Outcome, Failure> {
+    let mut reply = [UNTOUCHED; 100];
+    let answer = request(
+        table,
+        &list(),
+        &mut reply,
+        requester,
+        CODING_SCHEME,
+        &packed(text),
+    );
+    match answer {
+        Ok(Reply { outcome, octets }) => {
+            let expected = match outcome {
+                Outcome::Held(holder) => format!("03 {}", &holder.word().to_string()[1..]),
+                _ => format!("{:02}", outcome.number()),
+            };
+            assert!(holds(&reply, &expected));
+            assert_eq!(octets, packed(&expected).len());
+            Ok(outcome)
+        }
+        Err(failure) => {
+            assert_eq!(reply, [UNTOUCHED; 100]);
+            Err(failure)
+        }
+    }
+}
+
+const REGISTER: &str = "**214*0492123401***#";
+const ERASE: &str = "##214*0492123401***#";
+const INTERROGATE: &str = "*#214*0492123401***#";
+const FORCE_A: &str = "##214*0492123401*88*4915100001*#";
+const FORCE_B: &str = "##214*0492123401*88*4915100002*#";
+
+#[test]
+fn numbers_keep_their_zeros() {
+    assert_eq!(f().word(), 10_492_123_401);
+    assert_eq!(
+        FunctionalNumber::from_digits("492123401").unwrap().word(),
+        1_492_123_401
+    );
+    assert_eq!(msisdn("00000").word(), 100_000);
+    assert_eq!(msisdn("999999999999999").word(), 1_999_999_999_999_999);
+    for text in ["", "1234", "1234567890123456", "12345 ", "+12345", "1234٥"] {
+        assert_eq!(Msisdn::from_digits(text), None, "{text:?}");
+    }
+    assert_eq!(Msisdn::from_word(0), None);
+}
+
+#[test]
+fn p5_and_p6_registering() {
+    let mut table = held_by(None);
+    assert_eq!(ask(&mut table, a(), REGISTER), Ok(Outcome::Registered));
+    assert_eq!(table, held_by(Some(a())));
+    assert_eq!(ask(&mut table, b(), REGISTER), Ok(Outcome::HeldByAnother));
+    assert_eq!(ask(&mut table, a(), REGISTER), Ok(Outcome::Registered));
+    assert_eq!(table, held_by(Some(a())));
+}
+
+#[test]
+fn p7_to_p9_erasing() {
+    let mut table = held_by(Some(a()));
+    assert_eq!(ask(&mut table, b(), ERASE), Ok(Outcome::WrongHolder));
+    assert_eq!(ask(&mut table, b(), FORCE_B), Ok(Outcome::WrongHolder));
+    assert_eq!(ask(&mut table, a(), FORCE_A), Ok(Outcome::NoSupervisor));
+    assert_eq!(table, held_by(Some(a())));
+    assert_eq!(ask(&mut table, b(), FORCE_A), Ok(Outcome::Erased));
+    assert_eq!(table, notice(1, 0));
+    assert_eq!(ask(&mut table, a(), ERASE), Ok(Outcome::NoHolder));
+}
+
+#[test]
+fn p10_to_p12_and_other_negative_answers() {
+    let mut table = held_by(Some(a()));
+    assert_eq!(ask(&mut table, c(), INTERROGATE), Ok(Outcome::NoFollowMe));
+    assert_eq!(
+        ask(&mut table, a(), "**214*492123401***#"),
+        Ok(Outcome::UnknownNumber)
+    );
+    assert_eq!(
+        ask(&mut table, a(), "**214*0492123401*88**#"),
+        Err(Failure::Error(RequestError::UnexpectedDataValue))
+    );
+    assert_eq!(ask(&mut table, b(), INTERROGATE), Ok(Outcome::Held(a())));
+    assert_eq!(table, held_by(Some(a())));
+    let mut same = [a().word(), 0, 0, 0, 0, 0];
+    assert_eq!(
+        ask(&mut same, a(), "**214*4915100001***#"),
+        Ok(Outcome::SameDigits)
+    );
+}
+
+#[test]
+fn p13_a_clock_that_wraps() {
+    let mut buffer = [UNTOUCHED; 100];
+    let mut table = notice(3, 4_294_967_290);
+    assert_eq!(finding(&table, 60, 53), Ok(None));
+    assert_eq!(
+        sending(&mut table, &mut buffer, f(), 60, 53),
+        Err(Refusal::NotDue)
+    );
+    assert_eq!(table, notice(3, 4_294_967_290));
+    assert_eq!(buffer, [UNTOUCHED; 100]);
+    assert_eq!(finding(&table, 60, 54), Ok(Some(f())));
+    let sent = Sent {
+        addressee: a(),
+        octets: 28,
+    };
+    assert_eq!(sending(&mut table, &mut buffer, f(), 60, 54), Ok(sent));
+    assert_eq!(table, notice(4, 0));
+    assert!(holds(&buffer, "##214*0492123401*88*4915100002*#"));
+}
+
+#[test]
+fn p14_five_sendings_at_most() {
+    let mut table = notice(8, 0);
+    assert_eq!(
+        result(&mut table, f(), Kind::OtherError, 77),
+        Ok(Resulted::Again)
+    );
+    assert_eq!(table, notice(9, 77));
+    let mut table = notice(10, 0);
+    assert_eq!(
+        result(&mut table, f(), Kind::OtherError, 77),
+        Ok(Resulted::Dropped)
+    );
+    assert_eq!(table, held_by(None));
+    let mut table = notice(2, 0);
+    assert_eq!(
+        result(&mut table, f(), Kind::Delivered, 77),
+        Ok(Resulted::Delivered)
+    );
+    assert_eq!(table, held_by(None));
+}
+
+#[test]
+fn p15_a_second_forced_erasure_before_the_notice_ends() {
+    let mut table = notice(1, 0);
+    assert_eq!(ask(&mut table, a(), REGISTER), Ok(Outcome::Registered));
+    assert_eq!(ask(&mut table, b(), FORCE_A), Ok(Outcome::NoticePending));
+    let [number, _, rest @ ..] = notice(1, 0);
+    assert_eq!(table[..2], [number, a().word()]);
+    assert_eq!(table[2..], rest);
+}
+
+#[test]
+fn refusals_of_a_request_in_their_order() {
+    let mut unsound = [1, 0, 0, 0, 0, 0];
+    let mut reply = [UNTOUCHED; 80];
+    let string = packed(REGISTER);
+    let mut table = held_by(None);
+    let malformed = Msisdn::from_word(1).unwrap();
+    let refused = |refusal| Err(Failure::Refused(refusal));
+    let error = |error| Err(Failure::Error(error));
+    assert_eq!(
+        request(&mut unsound, &[1], &mut reply[..79], malformed, 0, &[]),
+        refused(Refusal::NoRoom)
+    );
+    assert_eq!(
+        request(&mut unsound, &[1], &mut reply, malformed, 0, &[]),
+        refused(Refusal::ListUnsound)
+    );
+    assert_eq!(
+        request(&mut unsound, &list(), &mut reply, malformed, 0, &[]),
+        refused(Refusal::TableUnsound)
+    );
+    assert_eq!(
+        request(&mut table, &list(), &mut reply, malformed, 0, &[]),
+        error(RequestError::DataMissing)
+    );
+    assert_eq!(
+        request(&mut table, &list(), &mut reply, a(), 0, &[]),
+        error(RequestError::UnknownAlphabet)
+    );
+    assert_eq!(
+        request(&mut table, &list(), &mut reply, a(), CODING_SCHEME, &[]),
+        error(RequestError::DataMissing)
+    );
+    assert_eq!(
+        request(
+            &mut table,
+            &list(),
+            &mut reply,
+            a(),
+            CODING_SCHEME,
+            &string[1..]
+        ),
+        error(RequestError::UnexpectedDataValue)
+    );
+    assert_eq!(unsound, [1, 0, 0, 0, 0, 0]);
+    assert_eq!(table, held_by(None));
+    assert_eq!(reply, [UNTOUCHED; 80]);
+}
+
+#[test]
+fn refusals_for_notices_in_their_order() {
+    let mut unsound = [1, 0, 0, 0, 0, 0];
+    let mut buffer = [UNTOUCHED; 80];
+    let mut table = notice(4, 0);
+    let absent = FunctionalNumber::from_digits("0492123402").unwrap();
+    assert_eq!(
+        sending(&mut unsound, &mut buffer[..79], absent, 1, 0),
+        Err(Refusal::NoRoom)
+    );
+    assert_eq!(
+        sending(&mut unsound, &mut buffer, absent, 1, 0),
+        Err(Refusal::TableUnsound)
+    );
+    assert_eq!(
+        sending(&mut table, &mut buffer, absent, 1, 0),
+        Err(Refusal::Number)
+    );
+    assert_eq!(
+        sending(&mut table, &mut buffer, f(), 1, 0),
+        Err(Refusal::Delay)
+    );
+    assert_eq!(
+        sending(&mut table, &mut buffer, f(), 0, 0),
+        Err(Refusal::Phase)
+    );
+    assert_eq!(
+        result(&mut unsound, absent, Kind::Delivered, 0),
+        Err(Refusal::TableUnsound)
+    );
+    assert_eq!(
+        result(&mut table, absent, Kind::Delivered, 0),
+        Err(Refusal::Number)
+    );
+    assert_eq!(
+        result(&mut notice(3, 0), f(), Kind::Delivered, 0),
+        Err(Refusal::Phase)
+    );
+    assert_eq!(ffn::c::result(&mut table, f().word(), 6, 0).number, 3);
+    assert_eq!(finding(&unsound, 1, 0), Err(Refusal::TableUnsound));
+    assert_eq!(finding(&table, 1, 0), Err(Refusal::Delay));
+    assert_eq!(table, notice(4, 0));
+    assert_eq!(buffer, [UNTOUCHED; 80]);
+}
+
+#[test]
+fn strings_read_back_as_they_were_written() {
+    let fields = Request {
+        operation: Operation::Erase,
+        number: f(),
+        forced: Some(a()),
+        additional: b"TRAIN 4711",
+    };
+    let mut out = [UNTOUCHED; 200];
+    let count = write_request(&fields, &mut out).unwrap();
+    assert!(holds(&out, "##214*0492123401*88*4915100001*TRAIN 4711#"));
+    let read = read_request(&out[..count]).unwrap();
+    assert_eq!(read.fields(), fields);
+    assert_eq!(
+        read_request(&out[..count - 1]),
+        Err(RequestError::UnexpectedDataValue)
+    );
+
+    let longest = Request {
+        additional: &[b'A'; 30],
+        ..fields
+    };
+    let mut out = [UNTOUCHED; 160];
+    let count = write_request(&longest, &mut out).unwrap();
+    assert_eq!(read_request(&out[..count]).unwrap().fields(), longest);
+    for broken in [
+        Request {
+            operation: Operation::Register,
+            ..fields
+        },
+        Request {
+            forced: Msisdn::from_word(1),
+            ..fields
+        },
+        Request {
+            additional: &[b'A'; 31],
+            ..fields
+        },
+        Request {
+            additional: b"train",
+            ..fields
+        },
+    ] {
+        let mut out = [UNTOUCHED; 160];
+        assert_eq!(
+            write_request(&broken, &mut out[..159]),
+            Err(Refusal::NoRoom)
+        );
+        assert_eq!(write_request(&broken, &mut out), Err(Refusal::Unfit));
+        assert_eq!(out, [UNTOUCHED; 160]);
+    }
+}
+
+#[test]
+fn the_text_of_a_read_request_is_written_where_it_has_room() {
+    let octets = packed("**214*0492123401***#");
+    let mut text = [UNTOUCHED; 25];
+    let read = ffn::c::read_request(&octets, &mut text[..20]);
+    assert_eq!((read.class, read.start, read.length), (ffn::c::READ, 19, 0));
+    assert_eq!(&text, b"**214*0492123401***#\xEE\xEE\xEE\xEE\xEE");
+    let mut text = [UNTOUCHED; 25];
+    assert_eq!(ffn::c::read_request(&octets, &mut text[..19]), read);
+    assert_eq!(ffn::c::read_request(&octets[1..], &mut text).number, 36);
+    assert_eq!(text, [UNTOUCHED; 25]);
+}
+
+#[test]
+fn packing_there_and_back() {
+    let mut out = [UNTOUCHED; 10];
+    assert_eq!(pack(b"1234567", &mut out), Ok(7));
+    assert_eq!(
+        out,
+        [0x31, 0xD9, 0x8C, 0x56, 0xB3, 0xDD, 0x1A, 0xEE, 0xEE, 0xEE]
+    );
+    let mut chars = [UNTOUCHED; 10];
+    assert_eq!(unpack(&out[..7], &mut chars), Ok(7));
+    assert_eq!(&chars, b"1234567\xEE\xEE\xEE");
+    assert_eq!(unpack(&out[..7], &mut chars[..7]), Err(Refusal::NoRoom));
+    assert_eq!(unpack(&[0xFF], &mut chars), Err(Refusal::Unfit));
+    assert_eq!(pack(b"\r", &mut out), Err(Refusal::Unfit));
+    assert_eq!(pack(b"\r", &mut []), Err(Refusal::NoRoom));
+    assert_eq!(pack(&[], &mut []), Ok(0));
+}
