@@ -2,11 +2,18 @@
 use answers::Written;
 use libc::STDOUT_FILENO;
 ghost use mathlib.Core.Path.{_≡_};
+ghost use lib.ListN.{length};
 ghost use Rattle.io.specs.Counts.{Counts};
 ghost use Rattle.printing.specs.Counted.{counted};
 
 // What a buffer is filled with before it is lent, so that an octet that was left shows.
 pub const FILLING: u8 = 0xEE;
+
+pub fn filled() -> [u8; 160]
+    ensures { λ r. ⌜ 160 ≡ length r ⌝ }
+{
+    [FILLING; 160]
+}
 
 pub fn text(characters: &[u8]) {
     io::write_all(STDOUT_FILENO, characters);
@@ -14,6 +21,11 @@ pub fn text(characters: &[u8]) {
 
 pub fn number(n: u64) {
     io::print_decimal(STDOUT_FILENO, n);
+}
+
+pub fn title(characters: &[u8]) {
+    text(characters);
+    text(b": ");
 }
 
 fn octet(n: u8) {

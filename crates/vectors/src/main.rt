@@ -8,6 +8,7 @@ use strings::Erasing;
 use strings::Fields;
 use strings::Operation;
 use strings::Reading;
+ghost use mathlib.Core.Path.{_≡_};
 ghost use Prim.Native.Nat.{_≤_};
 ghost use lib.ListN.{length};
 
@@ -17,11 +18,6 @@ const A: u64 = 14915100001;
 const F: u64 = 10492123401;
 
 // ---- what is printed
-
-fn put_title(title: &[u8]) {
-    printing::text(title);
-    printing::text(b": ");
-}
 
 fn put_written(written: Written) {
     match written {
@@ -91,7 +87,7 @@ fn put_fields(fields: Fields, text: &[u8]) {
 
 fn pack_into(title: &[u8], characters: &[u8], out: &mut [u8]) {
     let written = packing::pack(characters, out);
-    put_title(title);
+    printing::title(title);
     put_written(written);
     put_octets(out, printing::count_of(written));
 }
@@ -105,7 +101,7 @@ fn pack(title: &[u8], characters: &[u8], room: usize)
 
 fn unpack_into(title: &[u8], octets: &[u8], out: &mut [u8]) {
     let written = packing::unpack(octets, out);
-    put_title(title);
+    printing::title(title);
     put_written(written);
     put_octets(out, printing::count_of(written));
 }
@@ -138,7 +134,7 @@ fn write_into(
 ) {
     let number = FunctionalNumber(number);
     let written = strings::write_request(operation, number, erasing, additional, out);
-    put_title(title);
+    printing::title(title);
     put_written(written);
     put_octets(out, printing::count_of(written));
     let Written::Count(n) = written else {
@@ -149,7 +145,7 @@ fn write_into(
 }
 
 fn write(title: &[u8], operation: Operation, number: u64, erasing: Erasing, additional: &[u8]) {
-    let mut out = [FILLING; 160];
+    let mut out = printing::filled();
     write_into(title, operation, number, erasing, additional, &mut out);
 }
 
@@ -163,9 +159,15 @@ fn register(title: &[u8], number: u64, additional: &[u8]) {
     );
 }
 
+fn short_buffer() -> [u8; 159]
+    ensures { λ r. ⌜ 159 ≡ length r ⌝ }
+{
+    [FILLING; 159]
+}
+
 // A registration in a buffer that is an octet too short.
 fn register_short(title: &[u8], number: u64) {
-    let mut out = [FILLING; 159];
+    let mut out = short_buffer();
     write_into(
         title,
         Operation::Register,
@@ -184,7 +186,7 @@ fn wide(octet: u8) -> u64 {
 fn unpack_21(octets: &[u8])
     requires { ⌜ 21 ≤ length (now octets) ⌝ }
 {
-    put_title(b"the last of the 24 characters");
+    printing::title(b"the last of the 24 characters");
     printing::number(wide(octets[20]) / 2);
     printing::text(b"\n");
     unpack(b"unpacked", &octets[..21], 24);
@@ -192,7 +194,7 @@ fn unpack_21(octets: &[u8])
 
 // A registration whose string takes 21 octets.
 fn register_in_21(title: &[u8], number: u64) {
-    let mut out = [FILLING; 160];
+    let mut out = printing::filled();
     write_into(
         title,
         Operation::Register,
@@ -206,26 +208,29 @@ fn register_in_21(title: &[u8], number: u64) {
 
 // Reads a text that the packer takes.
 fn read_text(title: &[u8], text: &[u8]) {
-    let mut octets = [FILLING; 160];
+    let mut octets = printing::filled();
     let count = printing::packed(text, &mut octets);
     printing::text(title);
     printing::text(b", ");
-    put_title(text);
+    printing::title(text);
     read(&octets[..count]);
 }
 
 fn read_octets(title: &[u8], octets: &[u8]) {
-    put_title(title);
+    printing::title(title);
     read(octets);
 }
 
 // ---- the cases
 
-fn packing_cases() {
+fn packing_examples() {
     pack(b"P1 pack *#", b"*#", 24);
     pack(b"P2 pack 1234567", b"1234567", 24);
     pack(b"P3 pack 12345678", b"12345678", 24);
     pack(b"pack nothing into 0", b"", 0);
+}
+
+fn packing_refusals() {
     pack(b"pack *# into 2", b"*#", 2);
     pack(b"pack *# into 1", b"*#", 1);
     pack(b"pack 1234567 into 7", b"1234567", 7);
@@ -236,16 +241,19 @@ fn packing_cases() {
     pack(b"pack 12, 13 into 1", b"\x0c\x0d", 1);
 }
 
-fn unpacking_cases() {
-    let p2 = b"\x31\xd9\x8c\x56\xb3\xdd\x1a";
+fn unpacking_examples() {
     unpack(
         b"P4 unpack 31 d9 8c 56 b3 dd 00",
         b"\x31\xd9\x8c\x56\xb3\xdd\x00",
         24,
     );
-    unpack(b"unpack P2's octets", p2, 24);
+    unpack(b"unpack P2's octets", b"\x31\xd9\x8c\x56\xb3\xdd\x1a", 24);
     unpack(b"unpack P3's octets", b"\x31\xd9\x8c\x56\xb3\xdd\x70", 24);
     unpack(b"unpack nothing into 0", b"", 0);
+}
+
+fn unpacking_refusals() {
+    let p2 = b"\x31\xd9\x8c\x56\xb3\xdd\x1a";
     unpack(b"unpack P2's octets into 8", p2, 8);
     unpack(b"unpack P2's octets into 7", p2, 7);
     unpack(b"unpack 0d", b"\x0d", 24);
@@ -257,7 +265,6 @@ fn unpacking_cases() {
 }
 
 fn round_trips() {
-    let thirty = b"ABCDEFGHIJKLMNOPQRSTUVWXYZ 012";
     let empty = Erasing::Empty;
     register_in_21(b"13 digits", 10123456789012);
     register_in_21(b"14 digits", 101234567890123);
@@ -272,7 +279,11 @@ fn round_trips() {
         empty,
         b"TRAIN 12",
     );
-    write(b"30 characters", Operation::Register, F, empty, thirty);
+}
+
+fn longest() {
+    let thirty = b"ABCDEFGHIJKLMNOPQRSTUVWXYZ 012";
+    register(b"30 characters", F, thirty);
     let forced = Erasing::Forced(Msisdn(1000000000000000));
     write(
         b"the longest",
@@ -281,10 +292,10 @@ fn round_trips() {
         forced,
         thirty,
     );
+    register(b"31 characters", F, b"ABCDEFGHIJKLMNOPQRSTUVWXYZ 0123");
 }
 
-fn writing_refusals() {
-    register(b"31 characters", F, b"ABCDEFGHIJKLMNOPQRSTUVWXYZ 0123");
+fn unsound_numbers() {
     register_short(b"buffer of 159", F);
     register_short(b"buffer of 159, 4 digits", 10001);
     register(b"4 digits", 10001, b"");
@@ -292,6 +303,9 @@ fn writing_refusals() {
     register(b"15 digits", 1000000000000001, b"");
     register(b"16 digits", 10000000000000001, b"");
     register(b"no 1 in front", 20492123401, b"");
+}
+
+fn unsound_fields() {
     let forced = Erasing::Forced(Msisdn(A));
     write(b"register, forced", Operation::Register, F, forced, b"");
     write(
@@ -310,7 +324,7 @@ fn writing_refusals() {
     register(b"additional *", F, b"*");
 }
 
-fn reading_cases() {
+fn reading_examples() {
     read_text(b"register", b"**214*0492123401***#");
     read_text(b"erase", b"##214*0492123401***#");
     read_text(b"force", b"##214*0492123401*88*4915100001*#");
@@ -323,13 +337,16 @@ fn reading_cases() {
     );
 }
 
-fn reading_errors() {
+fn broken_erasings() {
     read_text(b"P12", b"**214*0492123401*88**#");
     read_text(b"88 after **", b"**214*0492123401*88*4915100001*#");
     read_text(b"88 after *#", b"*#214*0492123401*88*4915100001*#");
     read_text(b"88 and no MSISDN", b"##214*0492123401*88**#");
     read_text(b"no 88 and an MSISDN", b"##214*0492123401**4915100001*#");
     read_text(b"87 for 88", b"##214*0492123401*87*4915100001*#");
+}
+
+fn broken_fields() {
     read_text(b"small letter", b"**214*0492123401***a#");
     read_text(b"4 digits", b"**214*0001***#");
     read_text(b"16 digits", b"**214*0000000000000001***#");
@@ -344,7 +361,7 @@ fn reading_errors() {
     read_text(b"215 for 214", b"**215*0492123401***#");
 }
 
-fn reading_lengths() {
+fn broken_octets() {
     read_text(
         b"31 additional",
         b"**214*0492123401***ABCDEFGHIJKLMNOPQRSTUVWXYZ 0123#",
@@ -365,11 +382,16 @@ fn reading_lengths() {
 }
 
 fn main() {
-    packing_cases();
-    unpacking_cases();
+    packing_examples();
+    packing_refusals();
+    unpacking_examples();
+    unpacking_refusals();
     round_trips();
-    writing_refusals();
-    reading_cases();
-    reading_errors();
-    reading_lengths();
+    longest();
+    unsound_numbers();
+    unsound_fields();
+    reading_examples();
+    broken_erasings();
+    broken_fields();
+    broken_octets();
 }

@@ -4,11 +4,11 @@ use borrow.Author.Needs.{needs}
 use Rattle.vectors.proofs.unpack_21.Statement.{statement}
 use Rattle.vectors.proofs.unpack_21.Tie as tie
 
-slice-aggregate-put-title : tie.Need-slice-aggregate-put-title
-slice-aggregate-put-title c = search needs
+slice-aggregate-title : tie.Need-slice-aggregate-title
+slice-aggregate-title c = search needs
 
-put-title-requires : tie.Need-put-title-requires
-put-title-requires c κs = search needs
+title-requires : tie.Need-title-requires
+title-requires c κs = search needs
 
 shared-slice-read-wide : tie.Need-shared-slice-read-wide
 shared-slice-read-wide c = search needs
@@ -41,8 +41,8 @@ pub unpack-21-spec : {M : Type 1} → statement M
 unpack-21-spec =
     tie.close
     (tie.spec
-    slice-aggregate-put-title
-    put-title-requires
+    slice-aggregate-title
+    title-requires
     shared-slice-read-wide
     wide-requires
     number-requires

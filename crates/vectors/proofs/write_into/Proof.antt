@@ -7,8 +7,8 @@ use Rattle.vectors.proofs.write_into.Tie as tie
 write-request-requires : tie.Need-write-request-requires
 write-request-requires c κs = search needs
 
-put-title-requires : tie.Need-put-title-requires
-put-title-requires c κs = search needs
+title-requires : tie.Need-title-requires
+title-requires c κs = search needs
 
 put-written-requires : tie.Need-put-written-requires
 put-written-requires c κs = search needs
@@ -60,7 +60,7 @@ write-into-spec =
     tie.close
     (tie.spec
     write-request-requires
-    put-title-requires
+    title-requires
     put-written-requires
     count-of-requires
     put-octets-requires
