@@ -7,7 +7,7 @@ use node::SendingAnswer;
 use numbers::FunctionalNumber;
 use numbers::Msisdn;
 ghost use mathlib.Core.Path.{_≡_};
-ghost use Prim.Native.Nat.{_≤_};
+ghost use Prim.Native.Nat.{_≤_, _<_};
 ghost use lib.ListN.{length};
 
 // The numbers of document 01's examples, as they are stored.
@@ -415,24 +415,17 @@ fn lists() {
     register(b"A twice", &[A, 1, A, 1]);
 }
 
-// The numbers 00000, 00001 and so on, all free.
-fn fill_table(table: &mut [u64]) {
-    let rows = table.len() / 6;
-    let mut row = 0;
-    while row < rows {
-        table[6 * row] = 100000 + (row as u64);
-        row += 1;
-    }
-}
-
-// The MSISDNs 00000, 00001 and so on, all with flags 1.
-fn fill_list(list: &mut [u64]) {
-    let rows = list.len() / 2;
-    let mut row = 0;
-    while row < rows {
-        list[2 * row] = 100000 + (row as u64);
-        list[2 * row + 1] = 1;
-        row += 1;
+// Puts the numbers 00000, 00001 and so on into the first words of rows of a width.
+fn number_rows(words: &mut [u64], width: usize)
+    requires { ⌜ length (now words) ≤ 8194 ⌝ }
+    requires { ⌜ (0 < width) × (width ≤ 6) ⌝ }
+{
+    let mut number = 100000;
+    let mut at = 0;
+    while at < words.len() {
+        words[at] = number;
+        number += 1;
+        at += width;
     }
 }
 
@@ -453,39 +446,44 @@ fn ask_full(title: &[u8], table: &mut [u64], list: &[u64], text: &[u8]) {
     printing::text(b"\n");
 }
 
-fn fill_and_ask(title: &[u8], table: &mut [u64], list: &mut [u64]) {
-    fill_table(table);
-    fill_list(list);
+fn number_and_ask(title: &[u8], table: &mut [u64], list: &mut [u64])
+    requires { ⌜ (length (now table) ≤ 8194) × (length (now list) ≤ 8194) ⌝ }
+{
+    number_rows(table, 6);
+    number_rows(list, 2);
     ask_full(title, table, list, b"**214*01023***#");
     ask_full(b"interrogated", table, list, b"*#214*01023***#");
 }
 
-fn room_for_numbers() -> [u64; 6150]
+// Rows of numbers that are free.
+fn free_rows() -> [u64; 6150]
     ensures { λ r. ⌜ 6150 ≡ length r ⌝ }
 {
     [0; 6150]
 }
 
-fn room_for_subscribers() -> [u64; 8194]
+// Rows of subscribers with flags 1.
+fn follow_me_rows() -> [u64; 8194]
     ensures { λ r. ⌜ 8194 ≡ length r ⌝ }
 {
-    [0; 8194]
+    [1; 8194]
 }
 
-// A table and a list of so many words.
-fn fill(title: &[u8], words: usize, list_words: usize)
-    requires { ⌜ words ≤ 6150 ⌝ }
-    requires { ⌜ list_words ≤ 8194 ⌝ }
+// So many numbers and subscribers.
+fn fill(title: &[u8], numbers: usize, subscribers: usize)
+    requires { ⌜ (numbers ≤ 1025) × (subscribers ≤ 4097) ⌝ }
 {
-    let mut table = room_for_numbers();
-    let mut list = room_for_subscribers();
-    fill_and_ask(title, &mut table[..words], &mut list[..list_words]);
+    let mut table = free_rows();
+    let mut list = follow_me_rows();
+    let words = 6 * numbers;
+    let end = 2 * subscribers;
+    number_and_ask(title, &mut table[..words], &mut list[..end]);
 }
 
 fn full() {
-    fill(b"1024 numbers, 4096 subscribers", 6144, 8192);
-    fill(b"1025 numbers, 4096 subscribers", 6150, 8192);
-    fill(b"1024 numbers, 4097 subscribers", 6144, 8194);
+    fill(b"1024 numbers, 4096 subscribers", 1024, 4096);
+    fill(b"1025 numbers, 4096 subscribers", 1025, 4096);
+    fill(b"1024 numbers, 4097 subscribers", 1024, 4097);
 }
 
 // ---- the table: A registers F, its notice is sent, the result is 0, and a due number is looked for
