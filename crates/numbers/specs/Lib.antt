@@ -1,2 +1,3 @@
--- `Numbers`: the stored form of a number, and its digits read and written.
+-- `Numbers`: the stored form of a number, and its digits read and written. `Least`: the table by which one comparison tells a number.
 pub mod Numbers
+pub mod Least

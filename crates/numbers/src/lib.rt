@@ -1,4 +1,14 @@
 // Functional numbers and MSISDNs: their stored form, and their digits read and written.
+ghost use mathlib.Core.Path.{_≡_};
+ghost use mathlib.Core.Bool.{true};
+ghost use mathlib.Core.List.{_++_};
+ghost use Prim.Native.Nat.{_^_, _≤_, _<_};
+ghost use lib.ListN.{length, drop};
+ghost use Rattle.answers.specs.Writing.{made};
+ghost use Rattle.numbers.specs.Numbers.{isDigit, areDigits, stored, isNumber, digitsUpTo, digitsOf, leadingDigits, numberAt, writingDigits};
+ghost use Rattle.numbers.specs.Least.{leastNumbers};
+
+use answers::Written;
 
 // The "dummy" number of a function on a train, in stored form.
 pub struct FunctionalNumber(pub u64);
@@ -10,4 +20,196 @@ pub struct Msisdn(pub u64);
 pub enum NumberRead {
     Number(u64, usize),
     Unreadable,
+}
+
+// How many digits a number has.
+const FEWEST_DIGITS: usize = 5;
+
+const MOST_DIGITS: usize = 15;
+
+// For each count of leading zero bits, the least number of the one length that they leave; 0 where they leave none.
+const LEAST: [u64; 65] = [
+    0,
+    0,
+    0,
+    0,
+    0,
+    0,
+    0,
+    0,
+    0,
+    0,
+    0,
+    0,
+    0,
+    1000000000000000,
+    1000000000000000,
+    0,
+    100000000000000,
+    100000000000000,
+    0,
+    10000000000000,
+    10000000000000,
+    0,
+    0,
+    1000000000000,
+    1000000000000,
+    0,
+    100000000000,
+    100000000000,
+    0,
+    10000000000,
+    10000000000,
+    0,
+    0,
+    1000000000,
+    1000000000,
+    0,
+    100000000,
+    100000000,
+    0,
+    10000000,
+    10000000,
+    0,
+    0,
+    1000000,
+    1000000,
+    0,
+    100000,
+    100000,
+    0,
+    0,
+    0,
+    0,
+    0,
+    0,
+    0,
+    0,
+    0,
+    0,
+    0,
+    0,
+    0,
+    0,
+    0,
+    0,
+    0,
+];
+
+// The table that `is_number_by` compares with. It is built anew at each call, so a scan makes it once.
+pub fn least_numbers() -> [u64; 65]
+    ensures { λ r. ⌜ r ≡ leastNumbers ⌝ }
+{
+    LEAST
+}
+
+// Whether word is a number in stored form: its leading zeros leave one length, so one comparison decides.
+pub fn is_number_by(word: u64, least: &[u64; 65]) -> bool
+    requires { ⌜ now least ≡ leastNumbers ⌝ }
+    ensures { λ r. ⌜ r ≡ isNumber word ⌝ }
+{
+    let zeros = u64::leading_zeros(word) as usize;
+    let first = least[zeros];
+    std::num::wrapping_sub_u64(word, first) < first
+}
+
+// Whether word is a number in stored form.
+pub fn is_number(word: u64) -> bool
+    ensures { λ r. ⌜ r ≡ isNumber word ⌝ }
+{
+    let least = least_numbers();
+    is_number_by(word, &least)
+}
+
+fn is_digit(c: u8) -> bool
+    ensures { λ r. ⌜ r ≡ isDigit c ⌝ }
+{
+    (b'0' <= c) & (c <= b'9')
+}
+
+// How many digits stand at the front of a part.
+fn leading_digits(part: &[u8]) -> usize
+    ensures { λ r. ⌜ r ≡ leadingDigits (now (part .entry)) ⌝ }
+{
+    let mut n = 0;
+    while n < part.len() {
+        if !is_digit(part[n]) {
+            return n;
+        }
+        n += 1;
+    }
+    n
+}
+
+// The stored form of digits: they are put behind a 1.
+fn stored_of(digits: &[u8]) -> u64
+    requires { ⌜ areDigits (now digits) ≡ true ⌝ }
+    requires { ⌜ length (now digits) ≤ 15 ⌝ }
+    ensures { λ r. ⌜ r ≡ stored (now (digits .entry)) ⌝ }
+{
+    let mut word: u64 = 1;
+    let mut i = 0;
+    while i < digits.len() {
+        word = 10 * word + (digits[i] - b'0') as u64;
+        i += 1;
+    }
+    word
+}
+
+// The number at the front of a part.
+pub fn read_number(part: &[u8]) -> NumberRead
+    ensures { λ r. ⌜ r ≡ numberAt (now (part .entry)) ⌝ }
+{
+    let n = leading_digits(part);
+    if n < FEWEST_DIGITS {
+        return NumberRead::Unreadable;
+    }
+    if MOST_DIGITS < n {
+        return NumberRead::Unreadable;
+    }
+    NumberRead::Number(stored_of(&part[..n]), n)
+}
+
+// How many digits a number in stored form has.
+fn count_digits(word: u64) -> usize
+    requires { ⌜ isNumber word ≡ true ⌝ }
+    ensures { λ r. ⌜ r ≡ length (digitsOf word) ⌝ }
+{
+    let mut rest = word;
+    let mut n = 0;
+    while 10 <= rest {
+        rest = rest / 10;
+        n += 1;
+    }
+    n
+}
+
+// Writes the last n digits of word over the front of out, from the last one down.
+fn write_last(word: u64, n: usize, out: &mut [u8])
+    requires { ⌜ 10 ^ n ≤ word ⌝ }
+    requires { ⌜ n ≤ length (now out) ⌝ }
+    ensures { λ _. ⌜ now (out .exit) ≡ digitsUpTo n word ++ drop n (now (out .entry)) ⌝ }
+{
+    let mut rest = word;
+    let mut left = n;
+    while 0 < left {
+        left -= 1;
+        out[left] = b'0' + (rest % 10) as u8;
+        rest = rest / 10;
+    }
+}
+
+// Writes a number's digits over the front of a part that has room for the longest.
+pub fn write_digits(word: u64, out: &mut [u8]) -> Written
+    ensures { λ r. ⌜ made r (now (out .exit)) ≡ writingDigits word (now (out .entry)) ⌝ }
+{
+    if out.len() < MOST_DIGITS {
+        return Written::TooShort;
+    }
+    if !is_number(word) {
+        return Written::Unfit;
+    }
+    let n = count_digits(word);
+    write_last(word, n, out);
+    Written::Count(n)
 }

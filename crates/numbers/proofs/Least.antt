@@ -1,0 +1,90 @@
+-- How the table of least numbers tells a number: a word's leading zero bits leave one length, and a comparison with the least number of that length decides. Assumes nothing.
+use mathlib.Core.Path.{_≡_, refl, sym, ap, _∙_}
+use mathlib.Core.Logic.{_⊎_, inl, inr}
+use mathlib.Core.Bool.{Bool, true, false, cond, _||_}
+use Prim.Native.Nat.{ℕ, zero, suc, _+_, _-_, _*_, _%_, _^_, _≤_, _<_, zero-le}
+use native.Mathlib.Nat.{pow-le-pow-right, le-of-suc-le-suc, not-suc-le-zero, add-zero, zero-add, suc-add, add-suc}
+use native.Mathlib.Omega.{arith}
+use lib.ListN.{getD}
+use lib.Count.{leadingZeros, leading-le, leading-length}
+use lib.Dec.{leb, ltb, eqb, lit<}
+use borrow.Author.Tests.{leb-true, ltb-true, eqb-true, lt-ltb}
+use Rattle.answers.proofs.Tests.{same-test, or-cases}
+use Rattle.numbers.specs.Numbers.{fewestDigits, mostDigits, isNumber}
+use Rattle.numbers.specs.Least.{lengths, apart, leastOf, leastFrom, leastNumbers}
+use Rattle.numbers.proofs.Lengths.{allOf, all-at, HasLength, length-of, is-number}
+
+-- ---- the table's entries
+
+from-at : (z n k : ℕ) → k < n → getD (leastFrom z n) k 0 ≡ leastOf (z + k) lengths
+unfolding leastFrom
+from-at z zero k h = absurd (not-suc-le-zero h)
+from-at z (suc n) zero h = rw add-zero
+from-at z (suc n) (suc k) h = from-at (suc z) n k (le-of-suc-le-suc h) ∙ rw (suc-add, add-suc)
+
+entry-at : (w : ℕ) → getD leastNumbers (leadingZeros 64 w) 0 ≡ leastOf (leadingZeros 64 w) lengths
+unfolding leastNumbers
+entry-at w = from-at 0 65 (leadingZeros 64 w) (omega (arith, leading-le 64 w)) ∙ rw zero-add
+
+-- an entry is 0 or the least number of some length
+entry-is : (z n : ℕ) → (leastOf z n ≡ 0) ⊎ ((d : ℕ) × (fewestDigits ≤ d) × (d < fewestDigits + n) × (leastOf z n ≡ 10 ^ d))
+unfolding leastOf
+entry-is z zero = inl refl
+entry-is z (suc n) = go (apart z (fewestDigits + n)) (entry-is z n)
+  where
+    go :
+        (b : Bool) → (leastOf z n ≡ 0) ⊎ ((d : ℕ) × (fewestDigits ≤ d) × (d < fewestDigits + n) × (leastOf z n ≡ 10 ^ d))
+        → (cond b (leastOf z n) (10 ^ (fewestDigits + n)) ≡ 0)
+        ⊎ ((d : ℕ) × (fewestDigits ≤ d) × (d < fewestDigits + suc n) × (cond b (leastOf z n) (10 ^ (fewestDigits + n)) ≡ 10 ^ d))
+    go true (inl e) = inl e
+    go true (inr r) = inr (r .0, r .1, omega (arith, r .2), r .3)
+    go false r = inr (fewestDigits + n, omega arith, omega arith, refl)
+
+-- no other length is left: tried at every count of leading zero bits
+one-length : allOf 0 65 (λ z. allOf fewestDigits lengths (λ d. apart z d || eqb (leastOf z lengths) (10 ^ d))) ≡ true
+unfolding allOf apart leastOf
+one-length = refl
+
+-- so the entry at a number's leading zero bits is the least number of its length
+entry-of : (d w : ℕ) → HasLength d w → w < 2 ^ 64 → leastOf (leadingZeros 64 w) lengths ≡ 10 ^ d
+unfolding apart
+entry-of d w l fits =
+    go
+    (or-cases (apart z d) (eqb (leastOf z lengths) (10 ^ d))
+    (all-at fewestDigits lengths (λ e. apart z e || eqb (leastOf z lengths) (10 ^ e)) (all-at 0 65 (λ y. allOf fewestDigits lengths (λ e. apart y e || eqb (leastOf y lengths) (10 ^ e))) one-length z zero-le (omega (arith, leading-le 64 w))) d (l .fewest) (omega (arith, l .most))))
+  where
+    z : ℕ
+    z = leadingZeros 64 w
+
+    top : (w < 2 ^ (64 - z)) × (2 ^ (64 - z) ≤ 2 * w + 1)
+    top = let m = leading-length 64 w fits in let rest : 64 - z ≡ m .0 = omega (arith, m .1) in rw rest (m .2, m .3)
+
+    not-apart : (leb (2 ^ (64 - z)) (10 ^ d) ≡ true) ⊎ (leb (2 * (2 * 10 ^ d)) (2 ^ (64 - z)) ≡ true) → ⊥
+    not-apart (inl e) = omega (arith, leb-true (2 ^ (64 - z)) (10 ^ d) e, top, l)
+    not-apart (inr e) = omega (arith, leb-true (2 * (2 * 10 ^ d)) (2 ^ (64 - z)) e, top, l)
+
+    go : (apart z d ≡ true) ⊎ (eqb (leastOf z lengths) (10 ^ d) ≡ true) → leastOf z lengths ≡ 10 ^ d
+    go (inl e) = absurd (not-apart (or-cases (leb (2 ^ (64 - z)) (10 ^ d)) (leb (2 * (2 * 10 ^ d)) (2 ^ (64 - z))) e))
+    go (inr e) = eqb-true (leastOf z lengths) (10 ^ d) e
+
+-- ---- one comparison
+
+-- p is the entry at the leading zero bits of w, and x is w less p, modulo 2 ^ 64
+pub tells :
+    (w p x : ℕ) → p ≡ getD leastNumbers (leadingZeros 64 w) 0 → w < 2 ^ 64 → x < 2 ^ 64 → (x + p) % 2 ^ 64 ≡ w → ltb x p ≡ isNumber w
+tells w p x at fits x-fits less = same-test (ltb x p) (isNumber w) (λ s. number (ltb-true x p s) (entry-is (leadingZeros 64 w) lengths)) compare
+  where
+    entry : p ≡ leastOf (leadingZeros 64 w) lengths
+    entry = at ∙ entry-at w
+
+    number :
+        x < p → (leastOf (leadingZeros 64 w) lengths ≡ 0)
+        ⊎ ((d : ℕ) × (fewestDigits ≤ d) × (d < fewestDigits + lengths) × (leastOf (leadingZeros 64 w) lengths ≡ 10 ^ d)) → isNumber w ≡ true
+    number s (inl e) = absurd (omega (arith, entry))
+    number s (inr r) =
+        let most : r .0 ≤ mostDigits = omega (arith, r .2) in
+        let small = pow-le-pow-right {n = 10} (lit< tt) most in
+        is-number (r .0) w (record { fewest = r .1; most = most; least = omega (arith, entry, r .3); below = omega (arith, entry, r .3) })
+
+    compare : isNumber w ≡ true → ltb x p ≡ true
+    compare n = let l = length-of w n in lt-ltb x p (omega (arith, entry, entry-of (l .0) w (l .1) fits, l .1 .least, l .1 .below))

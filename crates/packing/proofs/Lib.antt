@@ -1,0 +1,4 @@
+pub mod Digits
+pub mod Moving
+pub mod Laws
+pub mod Outcomes
