@@ -1,2 +1,4 @@
--- The laws and the theorems about lines and the program.
+-- `Places`: lines and fields by the place where they end. `Digits`: fields of digits. `Examples`: document 01's whole input and output, computed.
+pub mod Places
+pub mod Digits
 pub mod Examples

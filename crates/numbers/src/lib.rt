@@ -7,7 +7,6 @@ ghost use lib.ListN.{length, drop};
 ghost use Rattle.answers.specs.Writing.{made};
 ghost use Rattle.numbers.specs.Numbers.{isDigit, areDigits, stored, isNumber, digitsUpTo, digitsOf, leadingDigits, numberAt, writingDigits};
 ghost use Rattle.numbers.specs.Least.{leastNumbers};
-
 use answers::Written;
 
 // The "dummy" number of a function on a train, in stored form.

@@ -46,7 +46,7 @@ loop-again c =
     (omega arith, omega (arith, h .loop .inv .1, leading-more-at part (h .loop .n) (t .loop-test .taken) (sym (c .before .is-digit .ensures) ∙ not-false _ (c .if1 .left))))
 
 returns-2 : tie.Need-returns-2 Inv-loop μ-loop
-returns-2 c = 
+returns-2 c =
     let h = c .before in
     let part = h .before .before .args .part .now in
     omega (arith, h .loop .inv .1, leading-end part (h .loop .n) (c .loop-test .left))
