@@ -1,4 +1,5 @@
--- `Places`: lines and fields by the place where they end. `Digits`: fields of digits. `Examples`: document 01's whole input and output, computed.
+-- `Places`: lines and fields by the place where they end. `Digits`: fields of digits. `Reading`: what their readers tell. `Examples`: document 01's whole input and output, computed.
 pub mod Places
 pub mod Digits
+pub mod Reading
 pub mod Examples

@@ -3,10 +3,10 @@ use mathlib.Core.Path.{_≡_, refl, ap, _∙_}
 use mathlib.Core.Bool.{Bool, true, false, cond}
 use mathlib.Core.Option.{Option, none, some}
 use mathlib.Core.List.{List, [], _∷_}
-use Prim.Native.Nat.{ℕ, suc, _+_, _≤_, _<_}
+use Prim.Native.Nat.{ℕ, suc, _+_, _-_, _≤_, _<_}
 use native.Mathlib.Numerals.{add-one}
 use native.Mathlib.Omega.{arith}
-use lib.ListN.{length, take, drop}
+use lib.ListN.{length, take, drop, length-drop}
 use lib.Seq.{take-all}
 use lib.Dec.{eqb}
 use Rattle.bytes.specs.Bytes.{indexOf, indexAfter, slice}
@@ -15,6 +15,10 @@ use Rattle.lines.specs.Lines.{lineFeed, onFirst, linesOf, space, fieldAt
 pub whole-slice : (s : List ℕ) → slice 0 (length s) s ≡ s
 unfolding slice
 whole-slice s = take-all (length s) s (omega arith)
+
+-- the part from a place to the end, as it is lent
+pub rest-of : (n : ℕ) (s : List ℕ) → take (length s - n) (drop n s) ≡ drop n s
+rest-of n s = take-all (length s - n) (drop n s) (omega (arith, length-drop n s))
 
 pub field-front : (s : List ℕ) → fieldAt s ≡ take (indexOf space s) s
 unfolding indexOf indexAfter fieldAt
@@ -47,6 +51,17 @@ behind-none (c ∷ s) h = go (eqb c space) h (λ k. behind-none s k)
         → cond b (some s) (behindField s) ≡ none
     go true k e = absurd (omega arith)
     go false k e = e (omega arith)
+
+-- a part of a line, split at the place of its first space
+pub record Split (s : List ℕ) (end : ℕ) : Type 0 where
+  pub field : fieldAt s ≡ take end s
+  pub behind : behindField s ≡ some (drop (end + 1) s)
+
+pub split : (s : List ℕ) (end : ℕ) → (end ≡ indexOf space s) × (end ≤ length s) → (end ≡ length s → ⊥) → Split s end
+split s end (e, h) n = record { field = field-front s ∙ rw e; behind = behind-some s (omega arith) ∙ rw e }
+
+pub unsplit : (s : List ℕ) (end : ℕ) → (end ≡ indexOf space s) × (end ≤ length s) → end ≡ length s → behindField s ≡ none
+unsplit s end (e, h) n = behind-none s (omega arith)
 
 -- an octet more in front of the first line
 line-longer :

@@ -110,14 +110,19 @@ sendingForm rest = do
   word ← askedOf numberField
   some (sending now (record { 0 = word }))
 
-unfoldable pub resultForm : List ℕ → Option Form
-resultForm rest = do
-  numberOn ← behindField rest
-  now ← valueBelow (2 ^ 32) (fieldAt rest)
-  kindField ← behindField numberOn
-  word ← askedOf (fieldAt numberOn)
+-- number and kind, behind now
+unfoldable pub resultAt : ℕ → List ℕ → Option Form
+resultAt now rest = do
+  kindField ← behindField rest
+  word ← askedOf (fieldAt rest)
   kind ← valueBelow (2 ^ 32) kindField
   some (result now (record { 0 = word }) kind)
+
+unfoldable pub resultForm : List ℕ → Option Form
+resultForm rest = do
+  fields ← behindField rest
+  now ← valueBelow (2 ^ 32) (fieldAt rest)
+  resultAt now fields
 
 -- the form by its letter
 unfoldable pub lettered : ℕ → List ℕ → Option Form
