@@ -1,6 +1,6 @@
 -- Digits put behind a 1, and the digits behind the 1 of a number: each undoes the other, and leading zeros count. Assumes nothing.
 use mathlib.Core.Path.{_≡_, refl, sym, ap, _∙_}
-use mathlib.Core.Bool.{Bool, true, false, _&&_}
+use mathlib.Core.Bool.{true}
 use mathlib.Core.List.{List, [], _∷_, _++_, append-nil}
 use Prim.Native.Nat.{ℕ, zero, suc, _+_, _-_, _*_, _/_, _%_, _^_, _≤_, _<_}
 use native.Mathlib.Nat.{le-trans, le-of-eq, lt-of-lt-of-le, mul-le-mul-right, mul-assoc, mul-comm, pow-suc, pow-zero, one-le-pow, add-zero}
@@ -9,7 +9,7 @@ use lib.ListN.{length, length-append}
 use lib.Seq.{append-snoc}
 use lib.Dec.{leb, lit<}
 use borrow.Author.Tests.{leb-true, le-leb, lt-ltb, le-ltb}
-use Rattle.answers.proofs.Tests.{no-path, and-left, and-right, and-both}
+use Rattle.answers.proofs.Tests.{and-left, and-right, and-both}
 use Rattle.numbers.specs.Numbers.{fewestDigits, mostDigits, isDigit, areDigits, pushed, stored, isNumber, digitsUpTo, digitsOf}
 use Rattle.numbers.proofs.Lengths.{HasLength, length-of, is-number}
 
@@ -39,7 +39,7 @@ digits-snoc (b ∷ cs) c h d =
 
 -- ---- digits put behind a number
 
-pub pushed-snoc : (w : ℕ) (cs : List ℕ) (c : ℕ) → pushed w (cs ++ (c ∷ [])) ≡ 10 * pushed w cs + (c - 48)
+pushed-snoc : (w : ℕ) (cs : List ℕ) (c : ℕ) → pushed w (cs ++ (c ∷ [])) ≡ 10 * pushed w cs + (c - 48)
 unfolding pushed
 pushed-snoc w [] c = refl
 pushed-snoc w (b ∷ cs) c = pushed-snoc (10 * w + (b - 48)) cs c
@@ -97,7 +97,7 @@ digits-pushed (c ∷ cs) w room r h p e =
     digits-pushed cs v room (suc r) (digits-tail c cs h) (omega arith) (omega arith) ∙ rw one (append-snoc (digitsUpTo r w) c cs)
 
 -- any room that they fit gives digits back from their stored form
-pub digits-back : (cs : List ℕ) (room : ℕ) → areDigits cs ≡ true → length cs ≤ room → digitsUpTo room (stored cs) ≡ cs
+digits-back : (cs : List ℕ) (room : ℕ) → areDigits cs ≡ true → length cs ≤ room → digitsUpTo room (stored cs) ≡ cs
 unfolding stored
 digits-back cs room h l =
     digits-pushed cs 1 room (room - length cs) h (omega arith) (omega arith) ∙ rw (digits-none (room - length cs) 1 (omega arith))
@@ -105,10 +105,10 @@ digits-back cs room h l =
 -- ---- a number and its digits
 
 -- cs are the n digits of w
-pub record Spelt (n w : ℕ) (cs : List ℕ) : Type 0 where
-  pub size : length cs ≡ n
-  pub digits : areDigits cs ≡ true
-  pub value : stored cs ≡ w
+record Spelt (n w : ℕ) (cs : List ℕ) : Type 0 where
+  size : length cs ≡ n
+  digits : areDigits cs ≡ true
+  value : stored cs ≡ w
 
 spelt : (n room w : ℕ) → n ≤ room → 10 ^ n ≤ w → w < 2 * 10 ^ n → Spelt n w (digitsUpTo room w)
 unfolding areDigits stored pushed

@@ -1,5 +1,6 @@
--- How the table of least numbers tells a number: a word's leading zero bits leave one length, and a comparison with the least number of that length decides. Assumes nothing.
-use mathlib.Core.Path.{_≡_, refl, sym, ap, _∙_}
+-- How the table of least numbers tells a number: a word's leading zero bits leave one length, and a comparison with the least number of
+-- that length decides. Assumes nothing.
+use mathlib.Core.Path.{_≡_, refl, _∙_}
 use mathlib.Core.Logic.{_⊎_, inl, inr}
 use mathlib.Core.Bool.{Bool, true, false, cond, _||_}
 use Prim.Native.Nat.{ℕ, zero, suc, _+_, _-_, _*_, _%_, _^_, _≤_, _<_, zero-le}
@@ -7,9 +8,9 @@ use native.Mathlib.Nat.{pow-le-pow-right, le-of-suc-le-suc, not-suc-le-zero, add
 use native.Mathlib.Omega.{arith}
 use lib.ListN.{getD}
 use lib.Count.{leadingZeros, leading-le, leading-length}
-use lib.Dec.{leb, ltb, eqb, lit<}
-use borrow.Author.Tests.{leb-true, ltb-true, eqb-true, lt-ltb}
-use Rattle.answers.proofs.Tests.{same-test, or-cases}
+use lib.Dec.{leb, eqb, lit<}
+use borrow.Author.Tests.{leb-true, eqb-true}
+use Rattle.answers.proofs.Tests.{same-test, or-cases, either}
 use Rattle.numbers.specs.Numbers.{fewestDigits, mostDigits, isNumber}
 use Rattle.numbers.specs.Least.{lengths, apart, leastOf, leastFrom, leastNumbers}
 use Rattle.numbers.proofs.Lengths.{allOf, all-at, HasLength, length-of, is-number}
@@ -26,35 +27,41 @@ entry-at : (w : ℕ) → getD leastNumbers (leadingZeros 64 w) 0 ≡ leastOf (le
 unfolding leastNumbers
 entry-at w = from-at 0 65 (leadingZeros 64 w) (omega (arith, leading-le 64 w)) ∙ rw zero-add
 
--- an entry is 0 or the least number of some length
-entry-is : (z n : ℕ) → (leastOf z n ≡ 0) ⊎ ((d : ℕ) × (fewestDigits ≤ d) × (d < fewestDigits + n) × (leastOf z n ≡ 10 ^ d))
+-- p is 0, or the least number of one of the n shortest lengths
+abbrev Entry : ℕ → ℕ → Type 0
+Entry n p = (p ≡ 0) ⊎ ((d : ℕ) × (fewestDigits ≤ d) × (d < fewestDigits + n) × (p ≡ 10 ^ d))
+
+entry-is : (z n : ℕ) → Entry n (leastOf z n)
 unfolding leastOf
 entry-is z zero = inl refl
 entry-is z (suc n) = go (apart z (fewestDigits + n)) (entry-is z n)
   where
-    go :
-        (b : Bool) → (leastOf z n ≡ 0) ⊎ ((d : ℕ) × (fewestDigits ≤ d) × (d < fewestDigits + n) × (leastOf z n ≡ 10 ^ d))
-        → (cond b (leastOf z n) (10 ^ (fewestDigits + n)) ≡ 0)
-        ⊎ ((d : ℕ) × (fewestDigits ≤ d) × (d < fewestDigits + suc n) × (cond b (leastOf z n) (10 ^ (fewestDigits + n)) ≡ 10 ^ d))
+    go : (b : Bool) → Entry n (leastOf z n) → Entry (suc n) (cond b (leastOf z n) (10 ^ (fewestDigits + n)))
     go true (inl e) = inl e
     go true (inr r) = inr (r .0, r .1, omega (arith, r .2), r .3)
     go false r = inr (fewestDigits + n, omega arith, omega arith, refl)
 
--- no other length is left: tried at every count of leading zero bits
-one-length : allOf 0 65 (λ z. allOf fewestDigits lengths (λ d. apart z d || eqb (leastOf z lengths) (10 ^ d))) ≡ true
-unfolding allOf apart leastOf
+-- z leading zero bits do not leave the length d, unless the entry is its least number
+onlyEntry : ℕ → ℕ → Bool
+onlyEntry z d = apart z d || eqb (leastOf z lengths) (10 ^ d)
+
+-- computed at every count of leading zero bits and every length
+one-length : allOf 0 65 (λ z. allOf fewestDigits lengths (onlyEntry z)) ≡ true
+unfolding allOf apart leastOf onlyEntry
 one-length = refl
 
--- so the entry at a number's leading zero bits is the least number of its length
+-- the entry at a number's leading zero bits is the least number of its length
 entry-of : (d w : ℕ) → HasLength d w → w < 2 ^ 64 → leastOf (leadingZeros 64 w) lengths ≡ 10 ^ d
-unfolding apart
+unfolding apart onlyEntry
 entry-of d w l fits =
     go
-    (or-cases (apart z d) (eqb (leastOf z lengths) (10 ^ d))
-    (all-at fewestDigits lengths (λ e. apart z e || eqb (leastOf z lengths) (10 ^ e)) (all-at 0 65 (λ y. allOf fewestDigits lengths (λ e. apart y e || eqb (leastOf y lengths) (10 ^ e))) one-length z zero-le (omega (arith, leading-le 64 w))) d (l .fewest) (omega (arith, l .most))))
+    (or-cases (apart z d) (eqb (leastOf z lengths) (10 ^ d)) (all-at fewestDigits lengths (onlyEntry z) row d (l .fewest) (omega (arith, l .most))))
   where
     z : ℕ
     z = leadingZeros 64 w
+
+    row : allOf fewestDigits lengths (onlyEntry z) ≡ true
+    row = all-at 0 65 (λ y. allOf fewestDigits lengths (onlyEntry y)) one-length z zero-le (omega (arith, leading-le 64 w))
 
     top : (w < 2 ^ (64 - z)) × (2 ^ (64 - z) ≤ 2 * w + 1)
     top = let m = leading-length 64 w fits in let rest : 64 - z ≡ m .0 = omega (arith, m .1) in rw rest (m .2, m .3)
@@ -69,22 +76,28 @@ entry-of d w l fits =
 
 -- ---- one comparison
 
--- p is the entry at the leading zero bits of w, and x is w less p, modulo 2 ^ 64
+-- p is the entry at the leading zero bits of w, x is w less p, modulo 2 ^ 64, and the test is whether x is below p
 pub tells :
-    (w p x : ℕ) → p ≡ getD leastNumbers (leadingZeros 64 w) 0 → w < 2 ^ 64 → x < 2 ^ 64 → (x + p) % 2 ^ 64 ≡ w → ltb x p ≡ isNumber w
-tells w p x at fits x-fits less = same-test (ltb x p) (isNumber w) (λ s. number (ltb-true x p s) (entry-is (leadingZeros 64 w) lengths)) compare
+    (w p x : ℕ) (test : Bool) → p ≡ getD leastNumbers (leadingZeros 64 w) 0 → w < 2 ^ 64 → x < 2 ^ 64 → (x + p) % 2 ^ 64 ≡ w
+    → (test ≡ true → x < p) → (test ≡ false → p ≤ x) → test ≡ isNumber w
+tells w p x test at fits x-fits less holds fails =
+    same-test test (isNumber w) (λ t. number (holds t) (entry-is z lengths)) (λ n. passes n (either test))
   where
-    entry : p ≡ leastOf (leadingZeros 64 w) lengths
+    z : ℕ
+    z = leadingZeros 64 w
+
+    entry : p ≡ leastOf z lengths
     entry = at ∙ entry-at w
 
-    number :
-        x < p → (leastOf (leadingZeros 64 w) lengths ≡ 0)
-        ⊎ ((d : ℕ) × (fewestDigits ≤ d) × (d < fewestDigits + lengths) × (leastOf (leadingZeros 64 w) lengths ≡ 10 ^ d)) → isNumber w ≡ true
+    number : x < p → Entry lengths (leastOf z lengths) → isNumber w ≡ true
     number s (inl e) = absurd (omega (arith, entry))
     number s (inr r) =
         let most : r .0 ≤ mostDigits = omega (arith, r .2) in
         let small = pow-le-pow-right {n = 10} (lit< tt) most in
         is-number (r .0) w (record { fewest = r .1; most = most; least = omega (arith, entry, r .3); below = omega (arith, entry, r .3) })
 
-    compare : isNumber w ≡ true → ltb x p ≡ true
-    compare n = let l = length-of w n in lt-ltb x p (omega (arith, entry, entry-of (l .0) w (l .1) fits, l .1 .least, l .1 .below))
+    passes : isNumber w ≡ true → (test ≡ true) ⊎ (test ≡ false) → test ≡ true
+    passes n (inl t) = t
+    passes n (inr f) =
+        let l = length-of w n in
+        absurd (omega (arith, fails f, entry, entry-of (l .0) w (l .1) fits, l .1 .least, l .1 .below))

@@ -1,8 +1,8 @@
 -- Digits read from the front of a string. Assumes nothing.
-use mathlib.Core.Path.{_≡_, refl, sym, ap, _∙_}
+use mathlib.Core.Path.{_≡_, refl, sym, _∙_}
 use mathlib.Core.Bool.{Bool, true, false, cond, _&&_}
 use mathlib.Core.List.{List, [], _∷_, _++_, append-nil}
-use Prim.Native.Nat.{ℕ, zero, suc, _+_, _-_, _*_, _^_, _≤_, _<_, zero-le, suc-le-suc}
+use Prim.Native.Nat.{ℕ, suc, _+_, _-_, _*_, _^_, _≤_, _<_, zero-le, suc-le-suc}
 use native.Mathlib.Nat.{one-le-pow, pow-le-pow-right, mul-le-mul-left, le-trans, mul-one}
 use native.Mathlib.Numerals.{add-one}
 use native.Mathlib.Omega.{arith}
@@ -10,11 +10,11 @@ use lib.ListN.{length, take, drop, getD, drop-of-length-le, take-append-drop}
 use lib.Seq.{drop-cons, take-at, length-take-le}
 use lib.Dec.{leb, lit<}
 use borrow.Author.Tests.{leb-true, le-leb, lt-leb}
-use Rattle.answers.proofs.Tests.{no-path, and-left, and-right, and-both, and-no}
+use Rattle.answers.proofs.Tests.{and-left, and-right, and-both, and-no}
 use Rattle.numbers.specs.Numbers.{fewestDigits, mostDigits, isDigit, areDigits, pushed, stored, isNumber, digitsOf, leadingDigits, numberAt}
-use Rattle.numbers.specs.declared.NumberRead.{NumberRead}
 use Rattle.numbers.specs.declared.NumberRead.the-variants.{Number, Unreadable}
-use Rattle.numbers.proofs.Digits.{digit-range, digits-head, digits-tail, stored-length, pushed-least, stored-number, digits-are, digits-fewest, digits-most, stored-digits, digits-stored}
+use Rattle.numbers.proofs.Digits.{digit-range, digits-head, digits-tail, pushed-least, stored-length, stored-number}
+use Rattle.numbers.proofs.Digits.{digits-are, digits-fewest, digits-most, stored-digits, digits-stored}
 
 -- ---- how many digits stand at the front
 

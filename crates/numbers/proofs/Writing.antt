@@ -1,14 +1,14 @@
 -- A number's digits counted and written. Assumes nothing.
-use mathlib.Core.Path.{_≡_, refl, sym, ap, _∙_}
+use mathlib.Core.Path.{_≡_, sym, ap, _∙_}
 use mathlib.Core.Logic.{_⊎_, inl, inr}
-use mathlib.Core.Bool.{Bool, true, false, not}
+use mathlib.Core.Bool.{true, false, not}
 use mathlib.Core.List.{List, [], _∷_, _++_}
-use Prim.Native.Nat.{ℕ, zero, suc, _+_, _-_, _*_, _/_, _%_, _^_, _≤_, _<_}
+use Prim.Native.Nat.{ℕ, zero, suc, _+_, _-_, _/_, _%_, _^_, _≤_, _<_}
 use native.Mathlib.Nat.{pow-suc, one-le-pow}
 use native.Mathlib.Omega.{arith}
-use lib.ListN.{length, drop, set, getD, length-append, length-set}
+use lib.ListN.{length, drop, set, length-append}
 use lib.Seq.{append-snoc, drop-cons, getD-set-same, drop-set-lt, lt-length-set}
-use lib.Dec.{ltb, lit<}
+use lib.Dec.{lit<}
 use borrow.Author.Tests.{lt-ltb, le-ltb}
 use Rattle.answers.specs.Writing.{made}
 use Rattle.answers.specs.declared.Written.{Written}
@@ -33,21 +33,25 @@ pub count-end : (w : ℕ) → w < 10 → length (digitsOf w) ≡ 0
 unfolding digitsOf
 count-end w h = rw (digits-none mostDigits w h)
 
+count-room : (room w : ℕ) → 10 ≤ w → w < 10 ^ suc (suc room) → length (digitsUpTo (suc room) w) ≡ suc (length (digitsUpTo (suc room) (w / 10)))
+count-room room w m h =
+    rw (digits-last room w m, digits-room room (w / 10) (omega (arith, pow-suc 10 (suc room))))
+    (length-append (digitsUpTo room (w / 10)) ((48 + w % 10) ∷ []) ∙ omega arith)
+
 pub count-more : (w : ℕ) → 10 ≤ w → w < 10 ^ suc mostDigits → length (digitsOf w) ≡ suc (length (digitsOf (w / 10)))
 unfolding digitsOf
-count-more w m h = rw (digits-last 14 w m, digits-room 14 (w / 10) (omega arith)) (length-append (digitsUpTo 14 (w / 10)) ((48 + w % 10) ∷ []) ∙ omega arith)
+count-more w m h = count-room (mostDigits - 1) w m h
 
 -- ---- writing from the last digit down
 
 pub write-more :
-    (left k w : ℕ) (out : List ℕ) → left ≡ suc k → k < length out → 10 ≤ w
-    → digitsUpTo left w ++ drop left out ≡ digitsUpTo k (w / 10) ++ drop k (set out k (48 + w % 10))
-write-more left k w out e l m =
-    let d = 48 + w % 10 in
-    rw (e, digits-last k w m, drop-cons (set out k d) k 0 (lt-length-set out k d l), getD-set-same out k d 0 l, drop-set-lt (suc k) out k d (omega arith))
+    (left k w d : ℕ) (out : List ℕ) → left ≡ suc k → d ≡ 48 + w % 10 → k < length out → 10 ≤ w
+    → digitsUpTo left w ++ drop left out ≡ digitsUpTo k (w / 10) ++ drop k (set out k d)
+write-more left k w d out e f l m =
+    rw (e, digits-last k w m, ← f, drop-cons (set out k d) k 0 (lt-length-set out k d l), getD-set-same out k d 0 l, drop-set-lt (suc k) out k d (omega arith))
     (append-snoc (digitsUpTo k (w / 10)) d (drop (suc k) out))
 
--- while a digit is left, it stands behind another
+-- where a digit is left, the 1 or another stands before it
 pub left-more : (left k w : ℕ) → left ≡ suc k → 10 ^ left ≤ w → (10 ≤ w) × (10 ^ k ≤ w / 10)
 left-more left k w e h =
     let ten = pow-suc 10 k in
@@ -59,12 +63,11 @@ left-more left k w e h =
 
 pub digits-short : (w : ℕ) (out : List ℕ) → length out < mostDigits → made TooShort out ≡ writingDigits w out
 unfolding writingDigits
-digits-short w out h = sym (writing-short (ltb (length out) mostDigits) (not (isNumber w)) (digitsOf w) out (lt-ltb (length out) mostDigits h))
+digits-short w out h = sym (writing-short _ _ _ out (lt-ltb (length out) mostDigits h))
 
 pub digits-unfit : (w : ℕ) (out : List ℕ) → mostDigits ≤ length out → isNumber w ≡ false → made Unfit out ≡ writingDigits w out
 unfolding writingDigits
-digits-unfit w out h u =
-    sym (writing-unfit (ltb (length out) mostDigits) (not (isNumber w)) (digitsOf w) out (le-ltb (length out) mostDigits h) (ap not u))
+digits-unfit w out h u = sym (writing-unfit _ _ _ out (le-ltb (length out) mostDigits h) (ap not u))
 
 pub digits-good :
     (w n : ℕ) (out new : List ℕ) → mostDigits ≤ length out → isNumber w ≡ true → n ≡ length (digitsOf w) → new ≡ digitsUpTo n w ++ drop n out
@@ -73,12 +76,11 @@ unfolding writingDigits
 digits-good w n out new h g e f =
     let all : digitsUpTo n w ≡ digitsOf w = rw e (digits-fit w g) in
     wrote-count (digitsOf w) out new n (sym e) (f ∙ rw all)
-    ∙ sym (writing-good (ltb (length out) mostDigits) (not (isNumber w)) (digitsOf w) out (le-ltb (length out) mostDigits h) (ap not g))
+    ∙ sym (writing-good _ _ _ out (le-ltb (length out) mostDigits h) (ap not g))
 
 -- what a caller knows of a number's digits written where there is room
 pub written-digits :
     (w : ℕ) (out : List ℕ) (r : Written) (new : List ℕ) → isNumber w ≡ true → mostDigits ≤ length out → made r new ≡ writingDigits w out
     → (r ≡ Count (length (digitsOf w))) × (new ≡ digitsOf w ++ drop (length (digitsOf w)) out)
 unfolding writingDigits
-written-digits w out r new g h done =
-    done-good (ltb (length out) mostDigits) (not (isNumber w)) (digitsOf w) out r new done (le-ltb (length out) mostDigits h) (ap not g)
+written-digits w out r new g h done = done-good _ _ _ out r new done (le-ltb (length out) mostDigits h) (ap not g)

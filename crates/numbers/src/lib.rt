@@ -5,7 +5,7 @@ ghost use mathlib.Core.List.{_++_};
 ghost use Prim.Native.Nat.{_^_, _≤_, _<_};
 ghost use lib.ListN.{length, drop};
 ghost use Rattle.answers.specs.Writing.{made};
-ghost use Rattle.numbers.specs.Numbers.{isDigit, areDigits, stored, isNumber, digitsUpTo, digitsOf, leadingDigits, numberAt, writingDigits};
+ghost use Rattle.numbers.specs.Numbers.{mostDigits, isDigit, areDigits, stored, isNumber, digitsUpTo, digitsOf, leadingDigits, numberAt, writingDigits};
 ghost use Rattle.numbers.specs.Least.{leastNumbers};
 use answers::Written;
 
@@ -41,41 +41,41 @@ const LEAST: [u64; 65] = [
     0,
     0,
     0,
-    1000000000000000,
-    1000000000000000,
+    1_000_000_000_000_000, // 13: 15 digits
+    1_000_000_000_000_000, // 14: 15 digits
     0,
-    100000000000000,
-    100000000000000,
+    100_000_000_000_000, // 16: 14 digits
+    100_000_000_000_000, // 17: 14 digits
     0,
-    10000000000000,
-    10000000000000,
-    0,
-    0,
-    1000000000000,
-    1000000000000,
-    0,
-    100000000000,
-    100000000000,
-    0,
-    10000000000,
-    10000000000,
+    10_000_000_000_000, // 19: 13 digits
+    10_000_000_000_000, // 20: 13 digits
     0,
     0,
-    1000000000,
-    1000000000,
+    1_000_000_000_000, // 23: 12 digits
+    1_000_000_000_000, // 24: 12 digits
     0,
-    100000000,
-    100000000,
+    100_000_000_000, // 26: 11 digits
+    100_000_000_000, // 27: 11 digits
     0,
-    10000000,
-    10000000,
+    10_000_000_000, // 29: 10 digits
+    10_000_000_000, // 30: 10 digits
     0,
     0,
-    1000000,
-    1000000,
+    1_000_000_000, // 33: 9 digits
+    1_000_000_000, // 34: 9 digits
     0,
-    100000,
-    100000,
+    100_000_000, // 36: 8 digits
+    100_000_000, // 37: 8 digits
+    0,
+    10_000_000, // 39: 7 digits
+    10_000_000, // 40: 7 digits
+    0,
+    0,
+    1_000_000, // 43: 6 digits
+    1_000_000, // 44: 6 digits
+    0,
+    100_000, // 46: 5 digits
+    100_000, // 47: 5 digits
     0,
     0,
     0,
@@ -95,21 +95,22 @@ const LEAST: [u64; 65] = [
     0,
 ];
 
-// The table that `is_number_by` compares with. It is built anew at each call, so a scan makes it once.
+// The table that `is_number_by` looks into. A call builds it anew, so a scan of many words makes it once and lends it.
 pub fn least_numbers() -> [u64; 65]
     ensures { λ r. ⌜ r ≡ leastNumbers ⌝ }
 {
     LEAST
 }
 
-// Whether word is a number in stored form: its leading zeros leave one length, so one comparison decides.
+// Whether word is a number in stored form: its leading zero bits leave one length, and a number of that length is not below its start
+// and below twice its start.
 pub fn is_number_by(word: u64, least: &[u64; 65]) -> bool
     requires { ⌜ now least ≡ leastNumbers ⌝ }
     ensures { λ r. ⌜ r ≡ isNumber word ⌝ }
 {
     let zeros = u64::leading_zeros(word) as usize;
-    let first = least[zeros];
-    std::num::wrapping_sub_u64(word, first) < first
+    let start = least[zeros];
+    std::num::wrapping_sub_u64(word, start) < start
 }
 
 // Whether word is a number in stored form.
@@ -143,7 +144,7 @@ fn leading_digits(part: &[u8]) -> usize
 // The stored form of digits: they are put behind a 1.
 fn stored_of(digits: &[u8]) -> u64
     requires { ⌜ areDigits (now digits) ≡ true ⌝ }
-    requires { ⌜ length (now digits) ≤ 15 ⌝ }
+    requires { ⌜ length (now digits) ≤ mostDigits ⌝ }
     ensures { λ r. ⌜ r ≡ stored (now (digits .entry)) ⌝ }
 {
     let mut word: u64 = 1;

@@ -1,20 +1,20 @@
 -- The laws of `specs/Packing`: counts and lengths, which characters the packer takes, where a carriage return stands, and what the last octet tells. Assumes nothing.
-use mathlib.Core.Path.{_≡_, refl, sym, ap, _∙_, subst}
+use mathlib.Core.Path.{_≡_, refl, sym, ap, _∙_}
 use mathlib.Core.Logic.{_⊎_, inl, inr}
-use mathlib.Core.Bool.{Bool, true, false, not, _&&_, and-assoc, and-true, and-false}
+use mathlib.Core.Bool.{Bool, true, false, not, _&&_, and-assoc, and-true}
 use Prim.Native.Nat.{ℕ, zero, suc, _+_, _-_, _*_, _/_, _%_, _^_, _≤_, _<_}
-use native.Mathlib.Nat.{mul-zero, add-zero, zero-div, mul-add-mod-self-left, mod-eq-of-lt, div-lt-iff-lt-mul, div-div-eq-div-mul, le-trans, zero-lt-suc}
+use native.Mathlib.Nat.{mul-zero, add-zero, zero-div, mul-add-mod-self-left, mod-eq-of-lt, div-div-eq-div-mul, zero-lt-suc}
 use native.Mathlib.Numerals.{add-one}
 use native.Mathlib.Omega.{arith}
 use mathlib.Core.List.{List, [], _∷_, _++_}
-use lib.ListN.{length, take, drop, getD, List·getD-append, drop-of-length-le}
-use lib.Seq.{drop-cons, drop-append-seam, length-take-le}
+use lib.ListN.{length, drop, getD, List·getD-append, drop-of-length-le}
+use lib.Seq.{drop-cons, drop-append-seam}
 use lib.Pow.{pow-add}
 use lib.Dec.{ltb, eqb}
-use borrow.Author.Tests.{eq-eqb, ne-eqb, ltb-true}
+use borrow.Author.Tests.{lt-ltb, eq-eqb, ne-eqb, ltb-true}
 use Rattle.answers.proofs.Tests.{and-left, and-right, no-path, same-or-not}
 use Rattle.packing.specs.Packing.{number, digits, octetsFor, charsIn, taken, takes, return-if, padded, packed, characters, readable, filled, kept-if, kept, unpacked}
-use Rattle.packing.proofs.Digits.{Below, pow-mul, number-head, number-drop, length-digits, getD-digits, take-digits, Below-digits}
+use Rattle.packing.proofs.Digits.{Below, pow-mul, number-head, number-drop, length-digits, getD-digits, take-digits}
 
 -- ---- counts and lengths
 
@@ -55,14 +55,6 @@ length-unpacked os = ap length (unpacked-is os) ∙ length-digits 128 (kept os) 
 pub length-unpacked-le : (os : List ℕ) → length (unpacked os) ≤ charsIn (length os)
 length-unpacked-le os = rw length-unpacked (kept-le os)
 
--- every octet that is written is below 256, and every character below 128
-pub packed-below : (cs : List ℕ) → Below 256 (packed cs)
-unfolding packed
-packed-below cs = Below-digits 256 (omega arith) (octetsFor (length cs)) (number 128 (padded cs))
-
-pub unpacked-below : (os : List ℕ) → Below 128 (unpacked os)
-unpacked-below os = rw unpacked-is (Below-digits 128 (omega arith) (kept os) (number 256 os))
-
 -- ---- which characters the packer takes
 
 -- a turn of the test, and its end
@@ -75,6 +67,16 @@ takes-next cs i ok h e = e ∙ rw (add-one, drop-cons cs i 0 h) (simp and-assoc)
 pub takes-end : (cs : List ℕ) (i : ℕ) (ok : Bool) → length cs ≤ i → takes cs ≡ (ok && takes (drop i cs)) → ok ≡ takes cs
 unfolding takes
 takes-end cs i ok h e = sym (e ∙ rw (drop-of-length-le cs h) (and-true ok))
+
+-- a text is taken where its parts are
+pub takes-append : (xs ys : List ℕ) → takes (xs ++ ys) ≡ (takes xs && takes ys)
+unfolding takes
+takes-append [] ys = refl
+takes-append (x ∷ xs) ys = rw (takes-append xs ys) (sym (and-assoc (taken x) (takes xs) (takes ys)))
+
+pub takes-cons : (c : ℕ) (cs : List ℕ) → c < 128 → (c ≡ 13 → ⊥) → takes cs ≡ true → takes (c ∷ cs) ≡ true
+unfolding takes taken
+takes-cons c cs h f e = rw (lt-ltb c 128 h, ne-eqb c 13 f, e)
 
 pub takes-below : (cs : List ℕ) → takes cs ≡ true → Below 128 cs
 unfolding takes taken

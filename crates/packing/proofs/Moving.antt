@@ -1,10 +1,10 @@
 -- Digits moved from one base to another through a few held bits, as both writers do it. Assumes nothing.
 use mathlib.Core.Path.{_≡_, refl, sym, ap, _∙_}
 use Prim.Native.Nat.{ℕ, suc, _+_, _-_, _*_, _/_, _%_, _^_, _≤_, _<_}
-use native.Mathlib.Nat.{mul-zero, zero-add, mul-suc, mul-comm, mul-assoc, add-assoc, mul-add, pow-zero, pow-suc, div-one, div-div-eq-div-mul, add-mul-div-left, add-mul-mod-self-left, one-mul}
+use native.Mathlib.Nat.{mul-zero, zero-add, mul-suc, mul-comm, mul-assoc, mul-add, pow-zero, pow-suc, div-one, div-div-eq-div-mul, add-mul-div-left, add-mul-mod-self-left, one-mul}
 use native.Mathlib.Numerals.{add-one}
 use native.Mathlib.Omega.{arith}
-use mathlib.Core.List.{List, [], _∷_, _++_}
+use mathlib.Core.List.{List, _++_}
 use lib.ListN.{length, drop, getD, set, length-set}
 use lib.Seq.{drop-cons, set-at, append-snoc}
 use lib.Arith.{digits-lt}
@@ -53,16 +53,16 @@ module _ {a b : ℕ} {ds old new : List ℕ} {i j held bits : ℕ} (m : Moved a 
       record {
         place = rw (add-one, mul-suc) (omega (arith, m .place));
         small = shr-lt (bits - b) b (rw split (m .small));
-        rest = rw (add-one, pow-suc, ← div-div-eq-div-mul) (ap (λ (n : ℕ). n / 2 ^ b) above ∙ add-mul-div-left held (2 ^ (bits - b) * R) (pow-pos b));
-        done = one-more (2 ^ b) (number (2 ^ a) ds) j (held % 2 ^ b) old new l (m .done) (sym (ap (λ (n : ℕ). n % 2 ^ b) above ∙ add-mul-mod-self-left held (2 ^ b) (2 ^ (bits - b) * R)));
+        rest = rw (add-one, pow-suc, ← div-div-eq-div-mul, low) (add-mul-div-left held above (pow-pos b));
+        done = one-more (2 ^ b) (number (2 ^ a) ds) j (held % 2 ^ b) old new l (m .done) (rw low (sym (add-mul-mod-self-left held (2 ^ b) above)));
         room = simp length-set (m .room);
       }
     where
-      R : ℕ
-      R = number (2 ^ a) (drop i ds)
-
       split : bits - b + b ≡ bits
       split = omega arith
 
-      above : number (2 ^ a) ds / (2 ^ b) ^ j ≡ held + 2 ^ b * (2 ^ (bits - b) * R)
-      above = m .rest ∙ ap (λ (n : ℕ). held + n * R) (ap (λ (n : ℕ). 2 ^ n) (sym split) ∙ pow-add 2 (bits - b) b ∙ mul-comm (2 ^ (bits - b)) (2 ^ b)) ∙ ap (λ (n : ℕ). held + n) (mul-assoc (2 ^ b) (2 ^ (bits - b)) R)
+      above : ℕ
+      above = 2 ^ (bits - b) * number (2 ^ a) (drop i ds)
+
+      low : number (2 ^ a) ds / (2 ^ b) ^ j ≡ held + 2 ^ b * above
+      low = m .rest ∙ rw (← mul-assoc, mul-comm (2 ^ b) (2 ^ (bits - b)), ← pow-add, split)

@@ -1,14 +1,16 @@
 -- Document 01, "The lent table and list": the words of a row, when they are sound, and the record that they are. Assumes nothing.
 use Prim.Native.Nat.{ℕ, _+_, _*_, _/_, _%_, _^_}
 use mathlib.Core.Bool.{Bool, true, cond, not, _&&_, _||_}
-use mathlib.Core.List.{List}
-use lib.ListN.{getD, set}
+use mathlib.Core.List.{List, [], _∷_}
+use lib.ListN.{getD}
+use lib.Seq.{sets}
 use lib.Dec.{eqb, ltb, leb}
 use Rattle.numbers.specs.Numbers.{isNumber}
 use Rattle.numbers.specs.declared.Msisdn.{Msisdn}
 use Rattle.records.specs.declared.Notice.{Notice}
 use Rattle.records.specs.declared.Notice.the-variants.{Absent, Waiting, InFlight}
 use Rattle.records.specs.declared.Record.{Record}
+use Rattle.records.specs.declared.Words.{Words}
 use Rattle.records.specs.Steps.{mostSendings}
 
 -- "six 64-bit words a number … The words: functional number; holder, a number, or 0; phase; notice's addressee; supervisor; second of the last failure"
@@ -37,6 +39,17 @@ supervisorAt t i = word t i 4
 
 abbrev pub secondAt : List ℕ → ℕ → ℕ
 secondAt t i = word t i 5
+
+-- the words of row i
+abbrev pub wordsAt : List ℕ → ℕ → Words
+wordsAt t i = record {
+  number = numberAt t i;
+  holder = holderAt t i;
+  phase = phaseAt t i;
+  addressee = addresseeAt t i;
+  supervisor = supervisorAt t i;
+  second = secondAt t i;
+}
 
 -- the largest phase: "Even 2k (2 to 10): in flight, k done"
 abbrev pub lastPhase : ℕ
@@ -86,11 +99,13 @@ recordAt t i = record {
   supervisor = record { 0 = supervisorAt t i };
 }
 
+-- the words of a record, in the order in which they stand behind the number
+abbrev pub wordsOf : Record → List ℕ
+wordsOf r = r .holder .0 ∷ phaseOf (r .notice) ∷ r .addressee .0 ∷ r .supervisor .0 ∷ secondOf (r .notice) ∷ []
+
 -- the table with r for the record of row i; its number stays, and so does every other row
 unfoldable pub stored : List ℕ → ℕ → Record → List ℕ
-stored t i r =
-    set (set (set (set (set t (rowWords * i + 1) (r .holder .0)) (rowWords * i + 2) (phaseOf (r .notice)))
-    (rowWords * i + 3) (r .addressee .0)) (rowWords * i + 4) (r .supervisor .0)) (rowWords * i + 5) (secondOf (r .notice))
+stored t i r = sets t (rowWords * i + 1) (wordsOf r)
 
 -- a notice in flight was sent at least once: the one record that no row is, in flight with 0 sendings, is left out
 abbrev pub sentOnce : Notice → Bool

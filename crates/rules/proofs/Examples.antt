@@ -1,17 +1,13 @@
 -- Document 01, "Examples": P1 to P15, of the rules, computed from octets and words, as one list under one statement. Assumes nothing.
 use mathlib.Core.Path.{_≡_, refl}
 use mathlib.Core.Bool.{Bool, true}
-use mathlib.Core.Option.{Option, none, some}
 use mathlib.Core.List.{List, [], _∷_, _++_}
 use Prim.Native.Nat.{ℕ}
 use lib.ListN.{replicate}
-use Rattle.answers.specs.Writing.{writing}
-use Rattle.packing.specs.Packing.{number, digits, octetsFor, charsIn, taken, takes, padded, packed, characters, readable, filled, kept, unpacked}
-use Rattle.numbers.specs.Numbers.{isDigit, areDigits, pushed, stored, isNumber, digitsUpTo, digitsOf, leadingDigits, numberAt}
-use Rattle.numbers.specs.declared.FunctionalNumber.{FunctionalNumber}
-use Rattle.numbers.specs.declared.Msisdn.{Msisdn}
-use Rattle.strings.specs.Text.{isAdditional, areAdditional, requestSound, textOf, noticeOf}
-use Rattle.strings.specs.Reader.{operationAt, serviceAt, numberFieldAt, erasingAt, leadingAdditional, additionalAt, fieldsOf}
+use Rattle.packing.specs.Packing.{number, digits, octetsFor, charsIn, padded, packed, characters, readable, filled, kept, unpacked}
+use Rattle.numbers.specs.Numbers.{isDigit, pushed, stored, isNumber, digitsUpTo, digitsOf, leadingDigits, numberAt}
+use Rattle.strings.specs.Text.{isAdditional, textOf, noticeOf}
+use Rattle.strings.specs.Reader.{begins, operationAt, serviceAt, numberFieldAt, erasingAt, leadingAdditional, additionalAt, fieldsOf}
 use Rattle.strings.specs.Outcomes.{requestOf}
 use Rattle.records.specs.Steps.{elapsed, delayOf, delayAllowed}
 use Rattle.records.specs.Rows as rows
@@ -142,6 +138,6 @@ examples =
     ∷ []
 
 pub p1-to-p15 : All examples
-unfolding number digits octetsFor charsIn padded packed characters readable filled kept unpacked isDigit pushed stored isNumber digitsUpTo digitsOf leadingDigits numberAt isAdditional textOf noticeOf operationAt serviceAt numberFieldAt erasingAt leadingAdditional additionalAt fieldsOf requestOf elapsed delayOf delayAllowed rows.noticeSound rows.rowSound rows.noticeOf rows.recordAt rows.stored placeOf tableSound rowOf recordOf listSound flagsOf requests.requestChecks requests.request notices.sending notices.result
+unfolding number digits octetsFor charsIn padded packed characters readable filled kept unpacked isDigit pushed stored isNumber digitsUpTo digitsOf leadingDigits numberAt isAdditional textOf noticeOf begins operationAt serviceAt numberFieldAt erasingAt leadingAdditional additionalAt fieldsOf requestOf elapsed delayOf delayAllowed rows.noticeSound rows.rowSound rows.noticeOf rows.recordAt rows.stored placeOf tableSound rowOf recordOf listSound flagsOf requests.requestChecks requests.request notices.sending notices.result
 p1-to-p15 =
     refl and refl and refl and refl and refl and refl and refl and refl and refl and refl and refl and refl and refl and refl and refl and refl and refl and refl and refl and done

@@ -1,7 +1,8 @@
--- `Answers`: answers in the paper's words, and the texts that they write. `Requests`, `Notices`: what each of the four calls comes to. `Run`: a list of calls, and what it is to rearrange one. `Calls`: requests, sendings and results as such calls. `Visits`: a second form, by the record that a call visits.
+-- `Answers`: answers in the paper's words, and the texts that they write. `Requests`, `Notices`: what each of the four calls comes to. `Run`: a list of calls, and what it is to rearrange one. `Calls`: requests, sendings and results as such calls. `Visits`: a second form, by the record that a call visits. `Demand`: demand 3.
 pub mod Answers
 pub mod Requests
 pub mod Notices
 pub mod Run
 pub mod Calls
 pub mod Visits
+pub mod Demand

@@ -1,6 +1,6 @@
 -- A second form of the rules, for the theorems and the code: once a request's string reads, and for every sending and result, a call visits the record of one number, and a step of that record decides. It is proved equal to the first form. Assumes nothing.
 use Prim.Native.Nat.{ℕ}
-use mathlib.Core.Bool.{Bool, true, false, not, _&&_}
+use mathlib.Core.Bool.{true, not, _&&_}
 use mathlib.Core.Option.{Option, none, some}
 use mathlib.Core.List.{List, [], _∷_}
 use lib.ListN.{length}
@@ -22,8 +22,9 @@ use Rattle.records.specs.declared.Holder.the-variants as holds
 use Rattle.records.specs.declared.Resulted.{Resulted}
 use Rattle.records.specs.declared.Resulted.the-variants.{Refused, Delivered, Dropped, Again}
 use Rattle.records.specs.Steps as steps
+use Rattle.records.specs.Rows.{stored}
 use Rattle.tables.specs.Tables.{flagsOf}
-use Rattle.rules.specs.Answers.{Answer, refusal, error, outcome, holder, sent, delivered, dropped, again, bufferRoom, twoDigits, holderText, over, octetCount}
+use Rattle.rules.specs.Answers.{Answer, refusal, error, outcome, holder, sent, delivered, dropped, again, Outcome, made, bufferRoom, twoDigits, holderText, over, octetCount}
 use Rattle.rules.specs.Requests.{hasFollowMe, isSupervisor, isForced, refusalChecks}
 use Rattle.rules.specs.Calls.{Call, request, sending, result, Reply, reading}
 
@@ -34,6 +35,14 @@ pub record Visited : Type 0 where
 
 abbrev pub visited : Answer → List ℕ → Record → Visited
 visited a buffer r = record { reply = record { answer = a; buffer = buffer }; next = r }
+
+-- what a visit to row i comes to: the record that it leaves is stored there
+abbrev pub storing : List ℕ → ℕ → Visited → Outcome
+storing table i v = made (v .reply .answer) (stored table i (v .next)) (v .reply .buffer)
+
+-- a reply, with the table as it was
+abbrev pub leaving : List ℕ → Reply → Outcome
+leaving table r = made (r .answer) table (r .buffer)
 
 -- ---- requests
 
@@ -80,6 +89,14 @@ resultStep r (Again next) = visited again [] next
 
 -- ---- a call
 
+-- "1 (buffer under 80)" stands before what the record decides
+abbrev pub visitSending : ℕ → ℕ → FunctionalNumber → List ℕ → Record → Visited
+visitSending delay clock number buffer r =
+    decide ((ltb (length buffer) bufferRoom, visited (refusal 1) buffer r) ∷ []) (sentStep number buffer r (steps.sent delay clock r))
+
+abbrev pub visitResult : ℕ → ℕ → Record → Visited
+visitResult kind clock r = resultStep r (steps.resulted kind clock r)
+
 abbrev pub visitRequest : ℕ → Msisdn → List ℕ → Option Request → Record → Visited
 visitRequest flags requester reply none r = visited (error 36) reply r
 visitRequest flags requester reply (some f) r =
@@ -89,9 +106,8 @@ visitRequest flags requester reply (some f) r =
 -- what a call that names a number makes of that number's record
 abbrev pub visit : List ℕ → ℕ → Call → Record → Visited
 visit list delay (request requester scheme string reply) r = visitRequest (flagsOf list (requester .0)) requester reply (requestOf string) r
-visit list delay (sending now number buffer) r =
-    decide ((ltb (length buffer) bufferRoom, visited (refusal 1) buffer r) ∷ []) (sentStep number buffer r (steps.sent delay (reading now) r))
-visit list delay (result now number kind) r = resultStep r (steps.resulted kind (reading now) r)
+visit list delay (sending now number buffer) r = visitSending delay (reading now) number buffer r
+visit list delay (result now number kind) r = visitResult kind (reading now) r
 
 -- ---- a number that is not in the table
 
@@ -103,11 +119,17 @@ missedRequest flags reply none = record { answer = error 36; buffer = reply }
 missedRequest flags reply (some f) =
     decide ((not (hasFollowMe flags), saying 42 reply) ∷ (isForced (f .erasing) && not (isSupervisor flags), saying 22 reply) ∷ []) (saying 41 reply)
 
+abbrev pub missedSending : List ℕ → Reply
+missedSending buffer =
+    decide ((ltb (length buffer) bufferRoom, record { answer = refusal 1; buffer = buffer }) ∷ []) (record { answer = refusal 7; buffer = buffer })
+
+abbrev pub missedResult : Reply
+missedResult = record { answer = refusal 7; buffer = [] }
+
 abbrev pub missed : List ℕ → Call → Reply
 missed list (request requester scheme string reply) = missedRequest (flagsOf list (requester .0)) reply (requestOf string)
-missed list (sending now number buffer) =
-    decide ((ltb (length buffer) bufferRoom, record { answer = refusal 1; buffer = buffer }) ∷ []) (record { answer = refusal 7; buffer = buffer })
-missed list (result now number kind) = record { answer = refusal 7; buffer = [] }
+missed list (sending now number buffer) = missedSending buffer
+missed list (result now number kind) = missedResult
 
 -- ---- a request that names none: its refusal or error, and the buffer as it was
 

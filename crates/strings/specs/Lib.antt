@@ -2,3 +2,4 @@
 pub mod Text
 pub mod Reader
 pub mod Outcomes
+pub mod Found

@@ -5,6 +5,7 @@ use mathlib.Core.Option.{Option, none, some}
 use mathlib.Core.List.{List, [], _∷_, _++_}
 use lib.ListN.{length, take, drop}
 use lib.Dec.{leb, eqb}
+use Rattle.answers.specs.Ascii.{ascii}
 use Rattle.answers.specs.Checks.{_>>=_, onlyIf}
 use Rattle.numbers.specs.Numbers.{numberAt}
 use Rattle.numbers.specs.declared.NumberRead.{NumberRead}
@@ -21,7 +22,7 @@ pub record Field (X : Type 0) : Type 0 where
   pub rest : List ℕ
 
 -- the string begins with the characters p
-abbrev pub begins : List ℕ → List ℕ → Bool
+unfoldable pub begins : List ℕ → List ℕ → Bool
 begins [] s = true
 begins (c ∷ p) [] = false
 begins (c ∷ p) (x ∷ s) = eqb x c && begins p s
@@ -58,10 +59,10 @@ unfoldable pub numberFieldAt : List ℕ → Option (Field ℕ)
 numberFieldAt s = starredNumber s (numberAt s)
 
 -- `88`, a star, the MSISDN to erase and its star: behind `##` only
-abbrev pub forcedAt : Operation → List ℕ → Option (Field Erasing)
+unfoldable pub forcedAt : Operation → List ℕ → Option (Field Erasing)
 forcedAt Register s = none
 forcedAt Erase s = do
-  rest ← behind (56 ∷ 56 ∷ 42 ∷ []) s
+  rest ← behind (ascii "88" ++ star) s
   msisdn ← numberFieldAt rest
   some (record { got = Forced (record { 0 = msisdn .got }); rest = msisdn .rest })
 forcedAt Interrogate s = none

@@ -4,6 +4,7 @@ use mathlib.Core.Bool.{Bool, true, false, _&&_, _||_}
 use mathlib.Core.List.{List, [], _∷_, _++_}
 use lib.ListN.{length}
 use lib.Dec.{leb, eqb}
+use Rattle.answers.specs.Ascii.{ascii}
 use Rattle.numbers.specs.Numbers.{isDigit, isNumber, digitsOf}
 use Rattle.numbers.specs.declared.FunctionalNumber.{FunctionalNumber}
 use Rattle.numbers.specs.declared.Msisdn.{Msisdn}
@@ -45,23 +46,23 @@ requestSound f =
 
 -- "operation `**` (register), `##` (erase) or `*#` (interrogate)"
 abbrev pub operationText : Operation → List ℕ
-operationText Register = 42 ∷ 42 ∷ []
-operationText Erase = 35 ∷ 35 ∷ []
-operationText Interrogate = 42 ∷ 35 ∷ []
+operationText Register = ascii "**"
+operationText Erase = ascii "##"
+operationText Interrogate = ascii "*#"
 
 -- `214`, `*`, `#` and `88`
 abbrev pub serviceText : List ℕ
-serviceText = 50 ∷ 49 ∷ 52 ∷ []
+serviceText = ascii "214"
 
 abbrev pub star : List ℕ
-star = 42 ∷ []
+star = ascii "*"
 
 abbrev pub hash : List ℕ
-hash = 35 ∷ []
+hash = ascii "#"
 
 abbrev pub supervisorText : Erasing → List ℕ
 supervisorText Empty = []
-supervisorText (Forced m) = 56 ∷ 56 ∷ []
+supervisorText (Forced m) = ascii "88"
 
 abbrev pub msisdnText : Erasing → List ℕ
 msisdnText Empty = []

@@ -1,6 +1,21 @@
 // The request string: its fields, their text, and its packed octets, read and written.
+use answers::Written;
 use numbers::FunctionalNumber;
 use numbers::Msisdn;
+use numbers::NumberRead;
+ghost use mathlib.Core.Path.{_≡_};
+ghost use mathlib.Core.List.{_++_};
+ghost use Prim.Native.Nat.{_<_, _≤_};
+ghost use lib.ListN.{length};
+ghost use Rattle.answers.specs.Writing.{made, wrote};
+ghost use Rattle.answers.specs.declared.Written.the-variants.{Count};
+ghost use Rattle.strings.specs.Text.{isAdditional, operationText, serviceText, star, hash};
+ghost use Rattle.strings.specs.Reader.{begins, forcedAt, erasingAt, leadingAdditional, fieldsOf};
+ghost use Rattle.strings.specs.Outcomes.{told, tell, madeRead, reading};
+ghost use Rattle.strings.specs.Found.{OperationIs, ServiceIs, NumberFieldIs, ErasingIs, AdditionalIs};
+
+// The text of sound fields has at most so many characters.
+const MOST_CHARACTERS: usize = 72;
 
 // What is asked for: `**`, `##` or `*#`.
 pub enum Operation {
@@ -33,5 +48,241 @@ pub enum Reading {
 // What was read, beside the unpacked text in which the additional field stands.
 pub struct ReadRequest {
     pub reading: Reading,
-    pub text: [u8; 72],
+    pub text: [u8; MOST_CHARACTERS],
+}
+
+// What a field's reader answers: the field at the front of a part and how far it reaches, or that it cannot be read.
+enum OperationRead {
+    Read(Operation, usize),
+    Unreadable,
+}
+
+enum ServiceRead {
+    Read(usize),
+    Unreadable,
+}
+
+enum NumberFieldRead {
+    Read(u64, usize),
+    Unreadable,
+}
+
+enum ErasingRead {
+    Read(Erasing, usize),
+    Unreadable,
+}
+
+enum AdditionalRead {
+    Read(usize),
+    Unreadable,
+}
+
+// An additional field has at most so many characters.
+const MOST_ADDITIONAL: usize = 30;
+
+// Whether a part begins with these characters.
+fn begins_with(part: &[u8], characters: &[u8]) -> bool
+    ensures { λ r. ⌜ r ≡ begins (now (characters .entry)) (now (part .entry)) ⌝ }
+{
+    if part.len() < characters.len() {
+        return false;
+    }
+    let mut i = 0;
+    while i < characters.len() {
+        if part[i] != characters[i] {
+            return false;
+        }
+        i += 1;
+    }
+    true
+}
+
+// The operation.
+fn read_operation(part: &[u8]) -> OperationRead
+    ensures { λ r. ⌜ OperationIs r (now (part .entry)) ⌝ }
+{
+    if begins_with(part, b"**") {
+        return OperationRead::Read(Operation::Register, 2);
+    }
+    if begins_with(part, b"##") {
+        return OperationRead::Read(Operation::Erase, 2);
+    }
+    if begins_with(part, b"*#") {
+        return OperationRead::Read(Operation::Interrogate, 2);
+    }
+    OperationRead::Unreadable
+}
+
+// `214` and its star.
+fn read_service(part: &[u8]) -> ServiceRead
+    ensures { λ r. ⌜ ServiceIs r (now (part .entry)) ⌝ }
+{
+    if begins_with(part, b"214*") {
+        return ServiceRead::Read(4);
+    }
+    ServiceRead::Unreadable
+}
+
+// A number and its star.
+fn read_number_field(part: &[u8]) -> NumberFieldRead
+    ensures { λ r. ⌜ NumberFieldIs r (now (part .entry)) ⌝ }
+{
+    let NumberRead::Number(word, n) = numbers::read_number(part) else {
+        return NumberFieldRead::Unreadable;
+    };
+    if !begins_with(&part[n..], b"*") {
+        return NumberFieldRead::Unreadable;
+    }
+    NumberFieldRead::Read(word, n + 1)
+}
+
+// `88`, the MSISDN to erase and their stars.
+fn read_forced(part: &[u8]) -> ErasingRead
+    ensures { λ r. ⌜ ErasingIs (forcedAt Operation.Erase) r (now (part .entry)) ⌝ }
+{
+    if !begins_with(part, b"88*") {
+        return ErasingRead::Unreadable;
+    }
+    let NumberFieldRead::Read(word, n) = read_number_field(&part[3..]) else {
+        return ErasingRead::Unreadable;
+    };
+    ErasingRead::Read(Erasing::Forced(Msisdn(word)), 3 + n)
+}
+
+// Supervisor field and MSISDN to erase, each with its star: both empty, or, with `##` only, of a forced erasure.
+fn read_erasing(operation: Operation, part: &[u8]) -> ErasingRead
+    ensures { λ r. ⌜ ErasingIs (erasingAt operation) r (now (part .entry)) ⌝ }
+{
+    if begins_with(part, b"**") {
+        return ErasingRead::Read(Erasing::Empty, 2);
+    }
+    match operation {
+        Operation::Register => ErasingRead::Unreadable,
+        Operation::Erase => read_forced(part),
+        Operation::Interrogate => ErasingRead::Unreadable,
+    }
+}
+
+fn is_additional(c: u8) -> bool
+    ensures { λ r. ⌜ r ≡ isAdditional c ⌝ }
+{
+    (b'0' <= c) & (c <= b'9') | (b'A' <= c) & (c <= b'Z') | (c == b' ')
+}
+
+// How many characters at the front of a part may stand in an additional field.
+fn leading_additional(part: &[u8]) -> usize
+    ensures { λ r. ⌜ r ≡ leadingAdditional (now (part .entry)) ⌝ }
+{
+    let mut n = 0;
+    while n < part.len() {
+        if !is_additional(part[n]) {
+            return n;
+        }
+        n += 1;
+    }
+    n
+}
+
+// The additional field, and `#` as last character.
+fn read_additional(part: &[u8]) -> AdditionalRead
+    ensures { λ r. ⌜ AdditionalIs r (now (part .entry)) ⌝ }
+{
+    let n = leading_additional(part);
+    if MOST_ADDITIONAL < n {
+        return AdditionalRead::Unreadable;
+    }
+    if !begins_with(&part[n..], b"#") {
+        return AdditionalRead::Unreadable;
+    }
+    if part.len() != n + 1 {
+        return AdditionalRead::Unreadable;
+    }
+    AdditionalRead::Read(n)
+}
+
+// The fields of a text, each read from the rest of it; the first that cannot be read ends the reading.
+fn read_fields(text: &[u8]) -> Reading
+    ensures { λ r. ⌜ told r (now (text .entry)) ≡ tell (now (text .entry)) (fieldsOf (now (text .entry))) ⌝ }
+{
+    let OperationRead::Read(operation, cursor) = read_operation(text) else {
+        return Reading::Unreadable;
+    };
+    let ServiceRead::Read(n) = read_service(&text[cursor..]) else {
+        return Reading::Unreadable;
+    };
+    let cursor = cursor + n;
+    let NumberFieldRead::Read(word, n) = read_number_field(&text[cursor..]) else {
+        return Reading::Unreadable;
+    };
+    let cursor = cursor + n;
+    let ErasingRead::Read(erasing, n) = read_erasing(operation, &text[cursor..]) else {
+        return Reading::Unreadable;
+    };
+    let start = cursor + n;
+    let AdditionalRead::Read(count) = read_additional(&text[start..]) else {
+        return Reading::Unreadable;
+    };
+    let number = FunctionalNumber(word);
+    Reading::Read(Fields {
+        operation,
+        number,
+        erasing,
+        start,
+        count,
+    })
+}
+
+// Reads a packed request string; one with too many characters for any fields, or with unreadable bits, is unreadable.
+pub fn read_request(octets: &[u8]) -> ReadRequest
+    ensures { λ r. ⌜ madeRead r ≡ reading (now (octets .entry)) ⌝ }
+{
+    let mut text = [0u8; MOST_CHARACTERS];
+    match packing::unpack(octets, &mut text) {
+        Written::Count(n) => {
+            let reading = read_fields(&text[..n]);
+            ReadRequest { reading, text }
+        }
+        Written::TooShort => ReadRequest {
+            reading: Reading::Unreadable,
+            text,
+        },
+        Written::Unfit => ReadRequest {
+            reading: Reading::Unreadable,
+            text,
+        },
+    }
+}
+
+// Writes characters over the front of a part.
+fn put(characters: &[u8], out: &mut [u8]) -> usize
+    requires { ⌜ length (now characters) ≤ length (now out) ⌝ }
+    ensures { λ r. ⌜ made (Count r) (now (out .exit)) ≡ wrote (now (characters .entry)) (now (out .entry)) ⌝ }
+{
+    let mut i = 0;
+    while i < characters.len() {
+        out[i] = characters[i];
+        i += 1;
+    }
+    i
+}
+
+// Writes the operation, `214` and the star.
+fn put_operation(operation: Operation, out: &mut [u8]) -> usize
+    requires { ⌜ 6 ≤ length (now out) ⌝ }
+    ensures { λ r. ⌜ made (Count r) (now (out .exit)) ≡ wrote (operationText operation ++ (serviceText ++ star)) (now (out .entry)) ⌝ }
+{
+    match operation {
+        Operation::Register => put(b"**214*", out),
+        Operation::Erase => put(b"##214*", out),
+        Operation::Interrogate => put(b"*#214*", out),
+    }
+}
+
+// Writes the additional field and `#`.
+fn put_additional(additional: &[u8], out: &mut [u8]) -> usize
+    requires { ⌜ length (now additional) < length (now out) ⌝ }
+    ensures { λ r. ⌜ made (Count r) (now (out .exit)) ≡ wrote (now (additional .entry) ++ hash) (now (out .entry)) ⌝ }
+{
+    let at = put(additional, out);
+    at + put(b"#", &mut out[at..])
 }

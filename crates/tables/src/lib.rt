@@ -1,7 +1,136 @@
 // The lent table and the lent list: whether they are sound, and where a number or a subscriber stands in them.
+use numbers::FunctionalNumber;
+use numbers::Msisdn;
+use numbers::is_number_by;
+use numbers::least_numbers;
+use records::ROW_WORDS;
+use records::row_sound;
+ghost use mathlib.Core.Path.{_≡_};
+ghost use mathlib.Core.Bool.{true, _&&_};
+ghost use Prim.Native.Nat.{_/_, _<_};
+ghost use lib.ListN.{length};
+ghost use lib.Dec.{ltb, leb};
+ghost use Rattle.numbers.specs.Least.{leastNumbers};
+ghost use Rattle.numbers.specs.Numbers.{isNumber};
+ghost use Rattle.tables.specs.Keys.{key, every, ascends, placeOf};
+ghost use Rattle.tables.specs.Tables.{tableSound, rowOf, mostFlags, listSound, flagsOf};
 
 // Where a number stands among the rows.
 pub enum Found {
     At(usize),
     Nothing,
+}
+
+// "at most 1,024 numbers".
+const MOST_NUMBERS: usize = 1024;
+
+// "at most 4,096".
+const MOST_SUBSCRIBERS: usize = 4096;
+
+// "flags 0 to 3".
+const MOST_FLAGS: u64 = 3;
+
+// "two words each (MSISDN; flags 0 to 3 ..)".
+const SUBSCRIBER_WORDS: usize = 2;
+
+const FLAGS: usize = 1;
+
+// Whether the table is sound: whole rows, few enough, each sound and above the one before it.
+pub fn table_sound(table: &[u64]) -> bool
+    ensures { λ r. ⌜ r ≡ tableSound (now (table .entry)) ⌝ }
+{
+    if table.len() % ROW_WORDS != 0 {
+        return false;
+    }
+    let rows = table.len() / ROW_WORDS;
+    if MOST_NUMBERS < rows {
+        return false;
+    }
+    let least = least_numbers();
+    let mut before = 0;
+    let mut row = 0;
+    while row < rows {
+        let number = table[ROW_WORDS * row];
+        if !((before < number) & row_sound(table, row, &least)) {
+            return false;
+        }
+        before = number;
+        row += 1;
+    }
+    true
+}
+
+// Whether a subscriber's row is sound and stands above the MSISDN before it.
+fn subscriber_stands(before: u64, msisdn: u64, flags: u64, least: &[u64; 65]) -> bool
+    requires { ⌜ now least ≡ leastNumbers ⌝ }
+    ensures { λ r. ⌜ r ≡ (ltb before msisdn && (isNumber msisdn && leb flags mostFlags)) ⌝ }
+{
+    (before < msisdn) & (is_number_by(msisdn, least) & (flags <= MOST_FLAGS))
+}
+
+// Whether the list is sound: whole rows, few enough, each sound and above the one before it.
+pub fn list_sound(list: &[u64]) -> bool
+    ensures { λ r. ⌜ r ≡ listSound (now (list .entry)) ⌝ }
+{
+    if list.len() % SUBSCRIBER_WORDS != 0 {
+        return false;
+    }
+    let rows = list.len() / SUBSCRIBER_WORDS;
+    if MOST_SUBSCRIBERS < rows {
+        return false;
+    }
+    let least = least_numbers();
+    let mut before = 0;
+    let mut row = 0;
+    while row < rows {
+        let msisdn = list[SUBSCRIBER_WORDS * row];
+        if !subscriber_stands(before, msisdn, list[SUBSCRIBER_WORDS * row + FLAGS], &least) {
+            return false;
+        }
+        before = msisdn;
+        row += 1;
+    }
+    true
+}
+
+// Where a word stands among the first words of rows that ascend, by halving.
+fn place_of(words: &[u64], width: usize, wanted: u64) -> Found
+    requires { ⌜ 0 < width ⌝ }
+    requires { ⌜ every (ascends (key width (now words))) (length (now words) / width) ≡ true ⌝ }
+    ensures { λ r. ⌜ r ≡ placeOf (key width (now (words .entry))) wanted (length (now (words .entry)) / width) ⌝ }
+{
+    let mut low = 0;
+    let mut high = words.len() / width;
+    while low < high {
+        let middle = low + (high - low) / 2;
+        let first = words[width * middle];
+        if first == wanted {
+            return Found::At(middle);
+        }
+        if first < wanted {
+            low = middle + 1;
+        } else {
+            high = middle;
+        }
+    }
+    Found::Nothing
+}
+
+// The row of a functional number.
+pub fn row_of(table: &[u64], number: FunctionalNumber) -> Found
+    requires { ⌜ tableSound (now table) ≡ true ⌝ }
+    ensures { λ r. ⌜ r ≡ rowOf (now (table .entry)) (number .0) ⌝ }
+{
+    place_of(table, ROW_WORDS, number.0)
+}
+
+// The flags of a subscriber; 0 where the list does not have her.
+pub fn flags_of(list: &[u64], msisdn: Msisdn) -> u64
+    requires { ⌜ listSound (now list) ≡ true ⌝ }
+    ensures { λ r. ⌜ r ≡ flagsOf (now (list .entry)) (msisdn .0) ⌝ }
+{
+    match place_of(list, SUBSCRIBER_WORDS, msisdn.0) {
+        Found::At(row) => list[SUBSCRIBER_WORDS * row + FLAGS],
+        Found::Nothing => 0,
+    }
 }

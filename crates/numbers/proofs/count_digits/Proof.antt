@@ -1,5 +1,5 @@
 -- The invariant: the digits passed and those of the rest make all. Assumes nothing.
-use mathlib.Core.Path.{_≡_, refl}
+use mathlib.Core.Path.{_≡_}
 use Prim.Native.Nat.{suc, _+_, _^_, _<_}
 use native.Mathlib.Omega.{arith}
 use lib.ListN.{length}
@@ -28,10 +28,10 @@ loop-less c = omega arith
 loop-again : tie.Need-loop-again Inv-loop μ-loop
 loop-again c =
     let h = c .before in
-    (omega arith, omega (arith, h .loop .inv .1, count-more (h .loop .rest) (c .loop-test .taken) (h .loop .inv .0)))
+    (omega arith, omega (arith, h .loop .inv .1, count-more (h .loop .rest) (omega arith) (omega arith)))
 
 returns : tie.Need-returns Inv-loop μ-loop
-returns c = omega (arith, c .before .loop .inv .1, count-end (c .before .loop .rest) (c .loop-test .left))
+returns c = omega (arith, c .before .loop .inv .1, count-end (c .before .loop .rest) (omega arith))
 
 pub count-digits-spec : {M : Type 1} → statement M
 count-digits-spec = tie.close (tie.spec Inv-loop μ-loop loop-holds add-n loop-less loop-again returns)

@@ -29,8 +29,8 @@ returns : tie.Need-returns Inv-loop μ-loop
 returns c =
     let t = c .before .before .before in
     let h = t .before in
-    let part = h .before .before .args .part .now in
-    omega (arith, h .loop .inv .1, leading-stop-at part (h .loop .n) (t .loop-test .taken) (sym (c .before .is-digit .ensures) ∙ not-true _ (c .if1 .taken)))
+    let none = sym (c .before .is-digit .ensures) ∙ not-true _ (c .if1 .taken) in
+    omega (arith, h .loop .inv .1, leading-stop-at (h .before .before .args .part .now) (h .loop .n) (t .loop-test .taken) none)
 
 add-n : tie.Need-add-n Inv-loop μ-loop
 add-n c = search needs
@@ -42,14 +42,13 @@ loop-again : tie.Need-loop-again Inv-loop μ-loop
 loop-again c =
     let t = c .before .before .before in
     let h = t .before in
-    let part = h .before .before .args .part .now in
-    (omega arith, omega (arith, h .loop .inv .1, leading-more-at part (h .loop .n) (t .loop-test .taken) (sym (c .before .is-digit .ensures) ∙ not-false _ (c .if1 .left))))
+    let digit = sym (c .before .is-digit .ensures) ∙ not-false _ (c .if1 .left) in
+    (omega arith, omega (arith, h .loop .inv .1, leading-more-at (h .before .before .args .part .now) (h .loop .n) (t .loop-test .taken) digit))
 
 returns-2 : tie.Need-returns-2 Inv-loop μ-loop
 returns-2 c =
     let h = c .before in
-    let part = h .before .before .args .part .now in
-    omega (arith, h .loop .inv .1, leading-end part (h .loop .n) (c .loop-test .left))
+    omega (arith, h .loop .inv .1, leading-end (h .before .before .args .part .now) (h .loop .n) (c .loop-test .left))
 
 pub leading-digits-spec : {M : Type 1} → statement M
 leading-digits-spec =

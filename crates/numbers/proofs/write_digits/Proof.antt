@@ -10,7 +10,7 @@ use Rattle.numbers.proofs.write_digits.Statement.{statement}
 use Rattle.numbers.proofs.write_digits.Tie as tie
 
 returns : tie.Need-returns
-returns c = let a = c .before .before .args in digits-short (a .word) (a .out .now) (c .if1 .taken)
+returns c = let a = c .before .before .args in digits-short (a .word) (a .out .now) (omega arith)
 
 is-number-requires : tie.Need-is-number-requires
 is-number-requires c κs = search needs
@@ -19,7 +19,7 @@ returns-2 : tie.Need-returns-2
 returns-2 c =
     let n = c .before in
     let a = n .before .before .before .args in
-    digits-unfit (a .word) (a .out .now) (n .before .if1 .left) (sym (n .is-number .ensures) ∙ not-true _ (c .if2 .taken))
+    digits-unfit (a .word) (a .out .now) (omega arith) (sym (n .is-number .ensures) ∙ not-true _ (c .if2 .taken))
 
 number : (c : tie.Else2) → isNumber (c .before .before .before .before .args .word) ≡ true
 number c = sym (c .before .is-number .ensures) ∙ not-false _ (c .if2 .left)
@@ -32,7 +32,7 @@ write-last-requires c κs =
     let n = c .before .before in
     let w = n .before .before .before .before .args .word in
     let e = c .before .count-digits .ensures in
-    (rw e (digits-least w (number n)), omega (arith, e, digits-most w (number n), n .before .before .if1 .left))
+    (rw e (digits-least w (number n)), omega (arith, e, digits-most w (number n)))
 
 same-length : tie.Need-same-length
 same-length c = search needs
@@ -42,7 +42,7 @@ returns-3 c =
     let d = c .before .before .before .before in
     let n = d .before in
     let a = n .before .before .before .before .args in
-    digits-good (a .word) (d .count-digits .result) (a .out .now) _ (n .before .before .if1 .left) (number n) (d .count-digits .ensures) (c .before .before .write-last .ensures)
+    digits-good (a .word) (d .count-digits .result) (a .out .now) _ (omega arith) (number n) (d .count-digits .ensures) (c .before .before .write-last .ensures)
 
 pub write-digits-spec : {M : Type 1} → statement M
 write-digits-spec =

@@ -1,7 +1,7 @@
 -- The invariant: the digits that are left, and what stands behind them, are what is to be written. Assumes nothing.
 use mathlib.Core.Path.{_≡_, refl, sym, _∙_}
 use mathlib.Core.List.{_++_}
-use Prim.Native.Nat.{suc, _+_, _-_, _%_, _^_, _≤_}
+use Prim.Native.Nat.{suc, _-_, _^_, _≤_}
 use native.Mathlib.Omega.{arith}
 use borrow.Author.Needs.{needs}
 use lib.ListN.{length, drop, length-set}
@@ -42,9 +42,9 @@ loop-again c =
     let down : left ≡ suc (left - 1) = omega arith in
     let m = left-more left (left - 1) (h .rest) down (h .inv .2) in (
       simp length-set (omega arith),
-      length-set (h .out) (left - 1) (48 + h .rest % 10) ∙ h .inv .1,
+      simp length-set (h .inv .1),
       m .1,
-      h .inv .3 ∙ write-more left (left - 1) (h .rest) (h .out) down (omega arith) (m .0),
+      h .inv .3 ∙ write-more left (left - 1) (h .rest) _ (h .out) down (omega arith) (omega arith) (m .0),
     )
 
 same-length : tie.Need-same-length Inv-loop μ-loop

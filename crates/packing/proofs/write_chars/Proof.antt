@@ -8,15 +8,13 @@ use mathlib.Core.List.{List, _++_}
 use lib.ListN.{length, drop, getD}
 use lib.Pow.{pow-mono}
 use borrow.Author.Needs.{needs}
-use Rattle.packing.specs.Packing.{number, digits, kept, unpacked}
+use Rattle.packing.specs.Packing.{kept, unpacked}
 use Rattle.packing.proofs.Moving.{Moved, nothing-moved, take-in, put-out}
 use Rattle.packing.proofs.Laws.{chars-count, kept-le, unpacked-is}
 use Rattle.packing.proofs.write_chars.Statement.{statement}
 use Rattle.packing.proofs.write_chars.Tie as tie
-use Rattle.packing.proofs.write_chars.Reads as reads
-use Rattle.packing.proofs.write_chars.Lts as lts
 
--- what holds at the head of the loop, and what where a character is written
+-- what holds at the head of the loop, where low is 0, and where a character is written, where it is 7
 record State (n low : ℕ) (os old new : List ℕ) (i j held bits : ℕ) : Type 0 where
   within : j ≤ n
   some : low ≤ bits
@@ -46,7 +44,7 @@ loop-holds c = record { within = omega arith; some = omega arith; few = omega ar
 shared-slice-read-held : tie.Need-shared-slice-read-held Inv-loop μ-loop
 shared-slice-read-held c =
     let h = c .before .before .before in
-    octet-left (h .loop .inv) (h .before .pre .0) (c .before .before .loop-test .taken) (c .before .if1 .taken)
+    octet-left (h .loop .inv) (h .before .pre .0) (c .before .before .loop-test .taken) (omega arith)
 
 cast-held : tie.Need-cast-held Inv-loop μ-loop
 cast-held c = omega (arith, c .shared-slice-known .given (c .before .before .before .loop .i))
@@ -65,12 +63,13 @@ add-bits c = omega arith
 add-i : tie.Need-add-i Inv-loop μ-loop
 add-i c =
     let h = c .before .before .before in
-    omega (arith, octet-left (h .loop .inv) (h .before .pre .0) (c .before .before .loop-test .taken) (c .before .if1 .taken))
+    omega (arith, octet-left (h .loop .inv) (h .before .pre .0) (c .before .before .loop-test .taken) (omega arith))
 
 -- with an octet read or not, there are bits for a character
 joined :
-    (c : tie.Joined1 Inv-loop μ-loop)
-    → State (c .before .before .before .args .n) 7 (c .before .before .before .args .octets .now) (c .before .before .before .args .out .now) (c .before .before .loop .out) (c .if1 .i) (c .before .before .loop .j) (c .if1 .held) (c .if1 .bits)
+    (c : tie.Joined1 Inv-loop μ-loop) → let h = c .before .before in
+    let a = h .before .args in
+    State (a .n) 7 (a .octets .now) (a .out .now) (h .loop .out) (c .if1 .i) (h .loop .j) (c .if1 .held) (c .if1 .bits)
 joined c =
     let h = c .before .before in
     ⊎-elim

@@ -1,0 +1,54 @@
+-- The texts of outcomes: the packer takes them, and a buffer of 80 octets has room for them. Assumes nothing.
+use mathlib.Core.Path.{_≡_, refl, sym, ap, _∙_}
+use mathlib.Core.Bool.{true}
+use mathlib.Core.List.{List, [], _∷_, _++_, append-nil}
+use Prim.Native.Nat.{ℕ, _+_, _/_, _%_, _≤_, _<_}
+use native.Mathlib.Omega.{arith}
+use mathlib.Core.Logic.{⊎-elim}
+use denote.Enum.Declared.{tagOf}
+use types.Run.{OneOf}
+use lib.ListN.{length, take}
+use lib.Seq.{take-append-add, take-at}
+use native.Mathlib.Nat.{add-comm}
+use borrow.Author.Tests.{lt-ltb, ne-eqb}
+use Rattle.answers.proofs.Written.{the-type}
+use Rattle.answers.specs.declared.Written.{Written}
+use Rattle.answers.specs.declared.Written.the-variants.{Count}
+use Rattle.packing.specs.Packing.{taken, takes, octetsFor}
+use Rattle.numbers.specs.Numbers.{areDigits, isNumber, digitsOf}
+use Rattle.numbers.proofs.Digits.{digit-range, digits-head, digits-tail, digits-are, digits-most}
+use Rattle.rules.specs.Answers.{twoDigits, holderText, bufferRoom}
+
+-- a character of digits, as of any octet's two digits, is taken
+taken-low : (c : ℕ) → 48 ≤ c → c < 128 → taken c ≡ true
+unfolding taken
+taken-low c h l = simp (lt-ltb c 128 l, ne-eqb c 13 (λ e. omega arith))
+
+pub takes-two : (n : ℕ) → n < 256 → takes (twoDigits n) ≡ true
+unfolding takes
+takes-two n h = simp (taken-low (48 + n / 10) (omega arith) (omega arith), taken-low (48 + n % 10) (omega arith) (omega arith))
+
+takes-digits : (cs : List ℕ) → areDigits cs ≡ true → takes cs ≡ true
+unfolding takes
+takes-digits [] e = refl
+takes-digits (c ∷ cs) e =
+    let r = digit-range c (digits-head c cs e) in
+    simp (taken-low c (r .0) (omega (arith, r .1)), takes-digits cs (digits-tail c cs e))
+
+pub takes-holder : (w : ℕ) → isNumber w ≡ true → takes (holderText w) ≡ true
+unfolding takes taken
+takes-holder w e = takes-digits (digitsOf w) (digits-are w e)
+
+pub holder-room : (w room : ℕ) → isNumber w ≡ true → bufferRoom ≤ room → octetsFor (length (holderText w)) ≤ room
+unfolding octetsFor
+holder-room w room e h = omega (arith, digits-most w e)
+
+-- the code, the space and a number's digits, as they stand at the front of a longer text
+pub holder-front : (w n : ℕ) (new rest : List ℕ) → n ≡ length (digitsOf w) → new ≡ digitsOf w ++ rest → take (n + 3) (48 ∷ 51 ∷ 32 ∷ (new ++ [])) ≡ holderText w
+holder-front w n new rest e f =
+    rw (add-comm n 3)
+    (take-append-add (48 ∷ 51 ∷ 32 ∷ []) (new ++ []) n ∙ ap (λ (l : List ℕ). 48 ∷ 51 ∷ 32 ∷ l) (rw (append-nil, f) (take-at (digitsOf w) rest n (sym e))))
+
+-- a writer that counts is in no other arm
+pub counts-only : {A : Type 0} (w : Written) (n : ℕ) → w ≡ Count n → OneOf (1 ∷ 2 ∷ []) (tagOf the-type w) → A
+counts-only w n e h = absurd (⊎-elim (λ z. omega arith) (λ z. omega arith) (rw e at h))

@@ -1,0 +1,23 @@
+use borrow.Author.Needs.{needs}
+use Rattle.records.specs.Rows.{recordAt}
+use Rattle.records.proofs.Notices.{notice-bounds}
+use Rattle.records.proofs.Rows.{sound-row}
+use Rattle.records.proofs.load.Statement.{statement}
+use Rattle.records.proofs.load.Tie as tie
+
+words-at-requires : tie.Need-words-at-requires
+words-at-requires c κs = search needs
+
+notice-of-requires : tie.Need-notice-of-requires
+notice-of-requires c κs =
+    let start = c .before .before in
+    let words = c .words-at .ensures in
+    let b = notice-bounds _ _ _ _ (sound-row (start .args .table .now) (start .args .row) (start .pre .1) .notice) in
+    (rw words (b .0), rw words (b .1))
+
+returns : tie.Need-returns
+unfolding recordAt
+returns c = simp (c .notice-of .ensures, c .before .words-at .ensures)
+
+pub load-spec : {M : Type 1} → statement M
+load-spec = tie.close (tie.spec words-at-requires notice-of-requires returns)

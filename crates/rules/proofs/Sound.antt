@@ -1,0 +1,181 @@
+-- A call over a sound table leaves a sound table, with the same numbers in the same rows; and what it does to the records. Assumes nothing.
+use mathlib.Core.Path.{_≡_, refl, sym, ap, _∙_}
+use mathlib.Core.Bool.{true, false, not, _&&_}
+use mathlib.Core.Option.{Option, none, some}
+use mathlib.Core.List.{List, [], _∷_}
+use Prim.Native.Nat.{ℕ, _<_}
+use native.Mathlib.Omega.{arith}
+use lib.ListN.{length}
+use lib.Dec.{ltb}
+use borrow.Author.Tests.{eqb-false}
+use Rattle.answers.proofs.Checks.{not-some}
+use Rattle.answers.proofs.Decide.{decide-each}
+use Rattle.numbers.specs.Numbers.{isNumber}
+use Rattle.numbers.specs.declared.FunctionalNumber.{FunctionalNumber}
+use Rattle.numbers.specs.declared.Msisdn.{Msisdn}
+use Rattle.strings.specs.declared.Operation.{Operation}
+use Rattle.strings.specs.declared.Operation.the-variants.{Register, Erase, Interrogate}
+use Rattle.strings.specs.declared.Erasing.{Erasing}
+use Rattle.strings.specs.declared.Erasing.the-variants.{Empty, Forced}
+use Rattle.strings.specs.Text.{Request}
+use Rattle.strings.specs.Outcomes.{requestOf}
+use Rattle.records.specs.declared.Record.{Record}
+use Rattle.records.specs.declared.Step.{Step}
+use Rattle.records.specs.declared.Step.the-variants as step
+use Rattle.records.specs.declared.Holder.{Holder}
+use Rattle.records.specs.declared.Holder.the-variants as holds
+use Rattle.records.specs.declared.Resulted.{Resulted}
+use Rattle.records.specs.declared.Resulted.the-variants.{Refused, Delivered, Dropped, Again}
+use Rattle.records.specs.Steps as steps
+use Rattle.records.specs.Rows.{numberAt, recordAt, stored, recordSound}
+use Rattle.records.proofs.Rows.{record-sound, stored-length, stored-number}
+use Rattle.records.proofs.Kept.{SoundStep, SoundResult, registered-sound, erased-sound, forced-sound, sent-sound, resulted-sound}
+use Rattle.tables.specs.declared.Found.{Found}
+use Rattle.tables.specs.declared.Found.the-variants.{At, Nothing}
+use Rattle.tables.specs.Tables.{tableSound, rowOf, recordFound, recordOf, rowsIn, flagsOf}
+use Rattle.tables.proofs.Stored.{row-found, own-record, other-record, table-stored}
+use Rattle.rules.specs.Answers.{refusal, bufferRoom}
+use Rattle.rules.specs.Requests.{hasFollowMe, isForced, isSupervisor}
+use Rattle.rules.specs.Run.{end}
+use Rattle.rules.specs.Calls.{Call, request, sending, result, Reply, reading, call, nameOf, isNamed, names}
+use Rattle.rules.specs.Visits.{Visited, visited, says, stepped, told, decides, decided, sentStep, resultStep, visitRequest, visit, missed}
+use Rattle.rules.proofs.Visits.{found-sound, requester-number, call-visits, call-misses, call-stops}
+
+-- ---- a visit leaves a sound record
+
+abbrev pub SoundVisit : Visited → Type 0
+SoundVisit v = recordSound (v .next) ≡ true
+
+module _ (r : Record) (sound : recordSound r ≡ true) where
+  stepped-sound : (n : ℕ) (reply : List ℕ) (s : Step) → SoundStep s → SoundVisit (stepped n reply r s)
+  stepped-sound n reply (step.Stays m) h = sound
+  stepped-sound n reply (step.Becomes next) h = h
+
+  told-sound : (reply : List ℕ) (h : Holder) → SoundVisit (told reply r h)
+  told-sound reply (holds.Stays m) = sound
+  told-sound reply (holds.Held msisdn) = sound
+
+  sent-step-sound : (number : FunctionalNumber) (buffer : List ℕ) (s : Step) → SoundStep s → SoundVisit (sentStep number buffer r s)
+  sent-step-sound number buffer (step.Stays m) h = sound
+  sent-step-sound number buffer (step.Becomes next) h = h
+
+  result-step-sound : (s : Resulted) → SoundResult s → SoundVisit (resultStep r s)
+  result-step-sound (Refused m) h = sound
+  result-step-sound (Delivered next) h = h
+  result-step-sound (Dropped next) h = h
+  result-step-sound (Again next) h = h
+
+  decides-sound : (o : Operation) (e : Erasing) (number : FunctionalNumber) (requester : Msisdn) (reply : List ℕ) → isNumber (requester .0) ≡ true
+      → SoundVisit (decides o e number requester reply r)
+  decides-sound Register e number requester reply n = stepped-sound 1 reply (steps.registered number requester r) (registered-sound r sound number requester n)
+  decides-sound Erase Empty number requester reply n = stepped-sound 2 reply (steps.erased requester r) (erased-sound r sound requester)
+  decides-sound Erase (Forced m) number requester reply n = stepped-sound 2 reply (steps.forced requester m r) (forced-sound r sound requester m n)
+  decides-sound Interrogate e number requester reply n = told-sound reply (steps.interrogated r)
+
+  request-sound : (flags : ℕ) (requester : Msisdn) (reply : List ℕ) (read : Option Request) → isNumber (requester .0) ≡ true
+      → SoundVisit (visitRequest flags requester reply read r)
+  unfolding decided
+  request-sound flags requester reply none n = sound
+  request-sound flags requester reply (some f) n =
+      decide-each SoundVisit
+      ((not (hasFollowMe flags), says 42 reply r) ∷ (isForced (f .erasing) && not (isSupervisor flags), says 22 reply r) ∷ [])
+      (decided f requester reply r) (sound, (sound, tt)) (decides-sound (f .operation) (f .erasing) (f .number) requester reply n)
+
+  -- a call that names a number leaves that number's record sound
+  pub visit-sound : (list : List ℕ) (delay : ℕ) (c : Call) (k : ℕ) → nameOf list c ≡ some k → SoundVisit (visit list delay c r)
+  visit-sound list delay (request requester scheme string reply) k e =
+      request-sound (flagsOf list (requester .0)) requester reply (requestOf string) (requester-number list reply requester scheme string k e)
+  visit-sound list delay (sending now number buffer) k e =
+      decide-each SoundVisit ((ltb (length buffer) bufferRoom, visited (refusal 1) buffer r) ∷ [])
+      (sentStep number buffer r (steps.sent delay (reading now) r)) (sound, tt)
+      (sent-step-sound number buffer (steps.sent delay (reading now) r) (sent-sound r sound delay (reading now)))
+  visit-sound list delay (result now number kind) k e =
+      result-step-sound (steps.resulted kind (reading now) r) (resulted-sound r sound kind (reading now) (omega arith))
+
+-- ---- a call leaves a sound table
+
+-- the table u is sound, and has the numbers of t in the rows of t
+pub record Kept (t u : List ℕ) : Type 0 where
+  pub sound : tableSound u ≡ true
+  pub long : length u ≡ length t
+  pub numbers : (i : ℕ) → numberAt u i ≡ numberAt t i
+
+kept-same : (t : List ℕ) → tableSound t ≡ true → Kept t t
+kept-same t s = record { sound = s; long = refl; numbers = λ i. refl }
+
+kept-twice : (t u v : List ℕ) → Kept t u → Kept u v → Kept t v
+kept-twice t u v p q = record { sound = q .sound; long = q .long ∙ p .long; numbers = λ i. q .numbers i ∙ p .numbers i }
+
+kept-stored : (t : List ℕ) (i : ℕ) (r : Record) → tableSound t ≡ true → i < rowsIn t → recordSound r ≡ true → Kept t (stored t i r)
+kept-stored t i r s l q = record { sound = table-stored t i r s l q; long = stored-length t i r; numbers = stored-number t i r }
+
+-- the row of a record that the table has, and that there is none for one that it does not have
+record-place : (t : List ℕ) (k : ℕ) (r : Record) → recordOf t k ≡ some r → (i : ℕ) × (rowOf t k ≡ At i) × (recordAt t i ≡ r)
+unfolding recordOf
+record-place t k r e = go (rowOf t k) refl e
+  where
+    go : (place : Found) → rowOf t k ≡ place → recordFound t place ≡ some r → (i : ℕ) × (rowOf t k ≡ At i) × (recordAt t i ≡ r)
+    go Nothing p e = not-some e
+    go (At i) p e = (i, p, cc)
+
+no-place : (t : List ℕ) (k : ℕ) → recordOf t k ≡ none → rowOf t k ≡ Nothing
+unfolding recordOf
+no-place t k e = go (rowOf t k) refl e
+  where
+    go : (place : Found) → rowOf t k ≡ place → recordFound t place ≡ none → rowOf t k ≡ Nothing
+    go Nothing p e = p
+    go (At i) p e = not-some (sym e)
+
+module _ (list : List ℕ) (delay : ℕ) (c : Call) (t : List ℕ) (sound : tableSound t ≡ true) where
+  abbrev went : Reply × List ℕ
+  went = call list delay c t
+
+  at-row : (k i : ℕ) → nameOf list c ≡ some k → rowOf t k ≡ At i → recordSound (visit list delay c (recordAt t i) .next) ≡ true
+  at-row k i n e = visit-sound (recordAt t i) (record-sound t i (found-sound t k i sound e)) list delay c k n
+
+  -- a sound table is left, with the same numbers in the same rows
+  pub call-keeps : Kept t (went .1)
+  call-keeps = named (nameOf list c) refl
+    where
+      placed : (k : ℕ) → nameOf list c ≡ some k → (place : Found) → rowOf t k ≡ place → Kept t (went .1)
+      placed k n Nothing e = rw (call-misses list delay t sound c k n e) (kept-same t sound)
+      placed k n (At i) e = rw (call-visits list delay t sound c k i n e) (kept-stored t i _ sound (row-found t k i e .0) (at-row k i n e))
+
+      named : (n : Option ℕ) → nameOf list c ≡ n → Kept t (went .1)
+      named none n = rw (call-stops list delay t sound c n) (kept-same t sound)
+      named (some k) n = placed k n (rowOf t k) refl
+
+  -- the record of the number that the call names decides, and becomes the next one
+  pub call-own : (k : ℕ) (r : Record) → nameOf list c ≡ some k → recordOf t k ≡ some r
+      → (went .0 ≡ visit list delay c r .reply) × (recordOf (went .1) k ≡ some (visit list delay c r .next))
+  call-own k r n e =
+      let (i, p, q) = record-place t k r e in
+      let v = call-visits list delay t sound c k i n p in (
+        ap (λ x. x .0) v ∙ ap (λ r. visit list delay c r .reply) q,
+        ap (λ x. recordOf (x .1) k) v ∙ own-record t i _ k p (at-row k i n p) ∙ ap (λ r. some (visit list delay c r .next)) q,
+      )
+
+  -- it is not in the table, and nothing changes
+  pub call-absent : (k : ℕ) → nameOf list c ≡ some k → recordOf t k ≡ none → went ≡ (missed list c, t)
+  call-absent k n e = call-misses list delay t sound c k n (no-place t k e)
+
+  -- the record of any other number stays
+  pub call-other : (k : ℕ) → names list c k ≡ false → recordOf (went .1) k ≡ recordOf t k
+  call-other k m = named (nameOf list c) refl
+    where
+      placed : (j : ℕ) → nameOf list c ≡ some j → (place : Found) → rowOf t j ≡ place → recordOf (went .1) k ≡ recordOf t k
+      placed j n Nothing e = rw (call-misses list delay t sound c j n e)
+      placed j n (At i) e =
+          ap (λ x. recordOf (x .1) k) (call-visits list delay t sound c j i n e)
+          ∙ other-record t i _ j e k (λ q. eqb-false j k (ap (λ o. isNamed o k) (sym n) ∙ m) (sym q))
+
+      named : (n : Option ℕ) → nameOf list c ≡ n → recordOf (went .1) k ≡ recordOf t k
+      named none n = rw (call-stops list delay t sound c n)
+      named (some j) n = placed j n (rowOf t j) refl
+
+-- a list of calls leaves a sound table, with the same numbers in the same rows
+pub end-keeps : (list : List ℕ) (delay : ℕ) (cs : List Call) (t : List ℕ) → tableSound t ≡ true → Kept t (end (call list delay) cs t)
+end-keeps list delay [] t sound = kept-same t sound
+end-keeps list delay (c ∷ cs) t sound =
+    let k = call-keeps list delay c t sound in
+    kept-twice t (call list delay c t .1) _ k (end-keeps list delay cs (call list delay c t .1) (k .sound))

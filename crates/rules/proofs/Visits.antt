@@ -1,0 +1,376 @@
+-- The second form of the rules equals the first: what each call comes to, by the record that it visits, by the row that it misses, or before it names a number. Assumes nothing.
+use mathlib.Core.Path.{_≡_, refl, sym, ap, _∙_}
+use mathlib.Core.Bool.{Bool, true, false, cond, not, _&&_, _||_}
+use mathlib.Core.Option.{Option, none, some}
+use mathlib.Core.List.{List, [], _∷_, map}
+use Prim.Native.Nat.{ℕ}
+use lib.ListN.{length}
+use lib.Dec.{eqb, ltb, leb}
+use borrow.Author.Tests.{eqb-true, not-false}
+use Rattle.answers.specs.Checks.{decide, isNone}
+use Rattle.answers.proofs.Tests.{no-path, or-neither, or-right}
+use Rattle.answers.proofs.Checks.{not-some}
+use Rattle.answers.proofs.Decide.{chosen, answering, decide-of}
+use Rattle.packing.specs.Packing.{readable, unpacked}
+use Rattle.numbers.specs.Numbers.{isNumber}
+use Rattle.numbers.specs.declared.FunctionalNumber.{FunctionalNumber}
+use Rattle.numbers.specs.declared.Msisdn.{Msisdn}
+use Rattle.strings.specs.declared.Operation.{Operation}
+use Rattle.strings.specs.declared.Operation.the-variants.{Register, Erase, Interrogate}
+use Rattle.strings.specs.declared.Erasing.{Erasing}
+use Rattle.strings.specs.declared.Erasing.the-variants.{Empty, Forced}
+use Rattle.strings.specs.Text.{Request, erasingSound}
+use Rattle.strings.specs.Reader.{fieldsOf}
+use Rattle.strings.specs.Outcomes.{requestOf}
+use Rattle.strings.proofs.Text.{sound-rules}
+use Rattle.strings.proofs.ReadBack.{read-only}
+use Rattle.records.specs.declared.Notice.the-variants.{Waiting}
+use Rattle.records.specs.declared.Record.{Record}
+use Rattle.records.specs.declared.Step.the-variants as step
+use Rattle.records.specs.declared.Holder.the-variants as holds
+use Rattle.records.specs.declared.Resulted.the-variants.{Refused, Delivered, Dropped, Again}
+use Rattle.records.specs.Steps as steps
+use Rattle.records.specs.Rows.{rowSound, recordAt, stored}
+use Rattle.records.proofs.Rows.{sound-row, words-stored}
+use Rattle.tables.specs.declared.Found.{Found}
+use Rattle.tables.specs.declared.Found.the-variants.{At, Nothing}
+use Rattle.tables.specs.Tables.{tableSound, rowOf, recordFound, recordOf, flagsOf}
+use Rattle.tables.proofs.Sound.{table-row}
+use Rattle.tables.proofs.Stored.{row-found}
+use Rattle.rules.specs.Answers.{Answer, refusal, error, delivered, dropped, again, Outcome, made, bufferRoom, refusing}
+use Rattle.rules.specs.Requests as requests
+use Rattle.rules.specs.Notices as notices
+use Rattle.rules.specs.Calls.{Call, request, sending, result, replied, reading, call, anyHolds, numberRead, nameOf}
+use Rattle.rules.specs.Visits.{visited, storing, leaving, says, stepped, told, decides, decided, sentStep, resultStep, visitSending, visitResult, visitRequest, visit, saying, missedSending, missedResult, missedRequest, missed, stopped}
+
+-- ---- checks
+
+module _ {A : Type 0} where
+  -- where none holds, what comes behind them decides
+  pub none-holds : (checks : List (Bool × A)) (done : A) → anyHolds checks ≡ false → decide checks done ≡ done
+  none-holds [] done h = refl
+  none-holds (check ∷ checks) done h = let b = or-neither (check .0) (anyHolds checks) h in rw (b .0) (none-holds checks done (b .1))
+
+  -- where one holds, what comes behind them does not matter
+  pub one-holds : (checks : List (Bool × A)) (done other : A) → anyHolds checks ≡ true → decide checks done ≡ decide checks other
+  one-holds [] done other h = no-path h
+  one-holds (check ∷ checks) done other h = go (check .0) h (one-holds checks done other)
+    where
+      go : (b : Bool) → (b || anyHolds checks) ≡ true → (anyHolds checks ≡ true → decide checks done ≡ decide checks other)
+          → cond b (check .1) (decide checks done) ≡ cond b (check .1) (decide checks other)
+      go true h rest = refl
+      go false h rest = rest h
+
+  -- none of them holds
+  abbrev pub AllPass : List (Bool × A) → Type 0
+  AllPass [] = Unit {0}
+  AllPass (check ∷ checks) = (check .0 ≡ false) × AllPass checks
+
+  pub all-pass : (checks : List (Bool × A)) → anyHolds checks ≡ false → AllPass checks
+  all-pass [] h = tt
+  all-pass (check ∷ checks) h = let b = or-neither (check .0) (anyHolds checks) h in (b .0, all-pass checks (b .1))
+
+  -- whether one holds has nothing to do with what it answers
+  any-answering : {B : Type 0} (g : A → B) (checks : List (Bool × A)) → anyHolds (map (answering g) checks) ≡ anyHolds checks
+  any-answering g [] = refl
+  any-answering g (check ∷ checks) = rw (any-answering g checks)
+
+-- ---- the row of a number in a sound table
+
+module _ (t : List ℕ) (k i : ℕ) (sound : tableSound t ≡ true) (e : rowOf t k ≡ At i) where
+  pub found-sound : rowSound t i ≡ true
+  found-sound = table-row t sound i (row-found t k i e .0)
+
+  pub found-number : isNumber k ≡ true
+  found-number = rw (← (row-found t k i e .1)) (sound-row t i found-sound .number)
+
+  -- storing the record that it has changes nothing
+  stored-back : stored t i (recordAt t i) ≡ t
+  stored-back = words-stored t i found-sound
+
+-- ---- requests
+
+-- what was read keeps the string's rules
+read-sound : (string : List ℕ) (f : Request) → requestOf string ≡ some f → erasingSound (f .operation) (f .erasing) ≡ true
+unfolding requestOf
+read-sound string f e = go (readable string) e
+  where
+    go : (b : Bool) → cond b (fieldsOf (unpacked string)) none ≡ some f → erasingSound (f .operation) (f .erasing) ≡ true
+    go true e = sound-rules f (read-only (unpacked string) e .0) .erasing
+    go false e = not-some e
+
+-- the rows of the table with an outcome, and what is done: by the fields read and the place of their number
+abbrev outcomes : List ℕ → List ℕ → List ℕ → Msisdn → Option Request → Found → Outcome
+outcomes t list reply requester read place =
+    decide (map (requests.negative t reply) (requests.outcomeChecks (flagsOf list (requester .0)) requester read (recordFound t place)))
+    (requests.carriedOutAt read place requester t reply)
+
+-- the checks of the requester's flags
+abbrev pub rightChecks : ℕ → Erasing → List (Bool × ℕ)
+rightChecks flags e = (not (requests.hasFollowMe flags), 42) ∷ (requests.isForced e && not (requests.isSupervisor flags), 22) ∷ []
+
+-- the checks of the record, by the operation
+abbrev pub recordChecks : Operation → Erasing → FunctionalNumber → Msisdn → Record → List (Bool × ℕ)
+recordChecks Register e number requester r =
+    (eqb (number .0) (requester .0), 67) ∷ (not (steps.isNobody (r .holder)) && not (steps.same (r .holder) requester), 61) ∷ []
+recordChecks Erase Empty number requester r = (steps.isNobody (r .holder), 62) ∷ (not (steps.same (r .holder) requester), 63) ∷ []
+recordChecks Erase (Forced m) number requester r =
+    (steps.isNobody (r .holder), 62)
+    ∷ (not (steps.same (r .holder) m), 63)
+    ∷ (not (steps.same (r .holder) requester) && not (steps.isAbsent (r .notice)), 68)
+    ∷ []
+recordChecks Interrogate e number requester r = (steps.isNobody (r .holder), 62) ∷ []
+
+module _ (t : List ℕ) (i : ℕ) (same : stored t i (recordAt t i) ≡ t) (list : List ℕ) (requester : Msisdn) (reply : List ℕ) where
+  abbrev it : Record
+  it = recordAt t i
+
+  abbrev flags : ℕ
+  flags = flagsOf list (requester .0)
+
+  abbrev outcome : ℕ → Outcome
+  outcome n = requests.saying n t reply
+
+  -- storing the record that row i has changes nothing
+  stays : (n : ℕ) → outcome n ≡ storing t i (says n reply it)
+  stays n = rw same
+
+  finds : (e : Erasing) → requests.carriedOut Interrogate e requester t i reply ≡ storing t i (told reply it (holds.Held (it .holder)))
+  finds e = rw same
+
+  -- the checks before a step
+  stepping :
+      (n : ℕ) (checks : List (Bool × ℕ)) (next : Record)
+      → decide (map (requests.negative t reply) checks) (requests.saying n (stored t i next) reply)
+      ≡ storing t i (stepped n reply it (decide (map (answering step.Stays) checks) (step.Becomes next)))
+  stepping n checks next = decide-of outcome (λ s. storing t i (stepped n reply it s)) step.Stays stays checks (step.Becomes next)
+
+  by-record :
+      (o : Operation) (e : Erasing) (number : FunctionalNumber)
+      → decide (map (requests.negative t reply) (recordChecks o e number requester it)) (requests.carriedOut o e requester t i reply)
+      ≡ storing t i (decides o e number requester reply it)
+  unfolding steps.registered steps.erased steps.forced steps.interrogated
+  by-record Register e number = stepping 1 (recordChecks Register e number requester it) (steps.heldBy requester it)
+  by-record Erase Empty number = stepping 2 (recordChecks Erase Empty number requester it) (steps.heldBy steps.nobody it)
+  by-record Erase (Forced m) number = stepping 2 (recordChecks Erase (Forced m) number requester it) (requests.afterErasure requester (Forced m) it)
+  by-record Interrogate e number =
+      ap (λ done. decide (map (requests.negative t reply) (recordChecks Interrogate e number requester it)) done) (finds e)
+      ∙ decide-of outcome (λ h. storing t i (told reply it h)) holds.Stays stays (recordChecks Interrogate e number requester it) (holds.Held (it .holder))
+
+  -- the checks that bear on an operation
+  in-order :
+      (o : Operation) (e : Erasing) (number : FunctionalNumber) (additional : List ℕ) → erasingSound o e ≡ true
+      → outcomes t list reply requester (some (record { operation = o; number = number; erasing = e; additional = additional })) (At i)
+      ≡ decide (map (requests.negative t reply) (rightChecks flags e))
+      (decide (map (requests.negative t reply) (recordChecks o e number requester it)) (requests.carriedOut o e requester t i reply))
+  in-order Register Empty number additional h = refl
+  in-order Register (Forced m) number additional h = no-path h
+  in-order Erase Empty number additional h = refl
+  in-order Erase (Forced m) number additional h = refl
+  in-order Interrogate Empty number additional h = refl
+  in-order Interrogate (Forced m) number additional h = no-path h
+
+  visits : (f : Request) → erasingSound (f .operation) (f .erasing) ≡ true
+      → outcomes t list reply requester (some f) (At i) ≡ storing t i (visitRequest flags requester reply (some f) it)
+  unfolding decided
+  visits f h =
+      in-order (f .operation) (f .erasing) (f .number) (f .additional) h
+      ∙ ap (λ done. decide (map (requests.negative t reply) (rightChecks flags (f .erasing))) done) (by-record (f .operation) (f .erasing) (f .number))
+      ∙ decide-of outcome (storing t i) (λ n. says n reply it) stays (rightChecks flags (f .erasing)) (decided f requester reply it)
+
+module _ (list reply : List ℕ) (requester : Msisdn) (scheme : ℕ) (string : List ℕ) where
+  abbrev refusals : List (Bool × Answer)
+  refusals = requests.refusalChecks true list reply requester scheme string
+
+  -- what a request that names k has: checks that all pass, and fields that are read
+  pub record Naming (k : ℕ) : Type 0 where
+    pub passed : anyHolds refusals ≡ false
+    pub fields : Request
+    pub reads : requestOf string ≡ some fields
+    pub names : fields .number .0 ≡ k
+
+  pub naming : (k : ℕ) → nameOf list (request requester scheme string reply) ≡ some k → Naming k
+  naming k e = go (anyHolds refusals) refl (requestOf string) refl e
+    where
+      go : (b : Bool) → anyHolds refusals ≡ b → (read : Option Request) → requestOf string ≡ read → cond b none (numberRead read) ≡ some k → Naming k
+      go true h read r e = not-some e
+      go false h none r e = not-some e
+      go false h (some f) r e = record { passed = h; fields = f; reads = r; names = cc }
+
+  -- its requester is a number
+  pub requester-number : (k : ℕ) → nameOf list (request requester scheme string reply) ≡ some k → isNumber (requester .0) ≡ true
+  requester-number k e = not-false (isNumber (requester .0)) (all-pass refusals (naming k e .passed) .1 .1 .1 .0)
+
+  -- a request that names none has a check that holds: a string that does not read is one
+  unnamed : nameOf list (request requester scheme string reply) ≡ none → anyHolds refusals ≡ true
+  unnamed e = go (anyHolds refusals) refl (requestOf string) refl e
+    where
+      go : (b : Bool) → anyHolds refusals ≡ b → (read : Option Request) → requestOf string ≡ read → cond b none (numberRead read) ≡ none → b ≡ true
+      go true h read r e = refl
+      go false h none r e =
+          let reads = or-neither (ltb requests.mostStringOctets (length string)) (isNone (requestOf string)) (all-pass refusals h .1 .1 .1 .1 .1 .1 .0) in
+          sym (reads .1) ∙ ap isNone r
+      go false h (some f) r e = not-some (sym e)
+
+  -- over a sound table
+  module _ (t : List ℕ) (sound : tableSound t ≡ true) where
+    abbrev behind : Outcome
+    behind = outcomes t list reply requester (requestOf string) (rowOf t (requests.numberIn (requestOf string) .0))
+
+    in-two : requests.request t list reply requester scheme string ≡ decide (refusing t reply refusals) behind
+    unfolding requests.request requests.requestChecks recordOf
+    in-two = rw sound
+
+    any-refuses : anyHolds (refusing t reply refusals) ≡ anyHolds refusals
+    any-refuses = any-answering (λ a. made a t reply) refusals
+
+    -- one is refused before it names a number
+    pub request-stops : anyHolds refusals ≡ true → requests.request t list reply requester scheme string ≡ made (decide refusals (error 36)) t reply
+    request-stops h =
+        in-two
+        ∙ one-holds (refusing t reply refusals) behind (made (error 36) t reply) (any-refuses ∙ h)
+        ∙ decide-of (λ a. made a t reply) (λ a. made a t reply) (λ a. a) (λ a. refl) refusals (error 36)
+
+    goes-on : anyHolds refusals ≡ false → requests.request t list reply requester scheme string ≡ behind
+    goes-on h = in-two ∙ none-holds (refusing t reply refusals) behind (any-refuses ∙ h)
+
+    module _ (f : Request) (passed : anyHolds refusals ≡ false) (reads : requestOf string ≡ some f) where
+      at-place : (place : Found) → rowOf t (f .number .0) ≡ place
+          → requests.request t list reply requester scheme string ≡ outcomes t list reply requester (some f) place
+      at-place place e =
+          goes-on passed
+          ∙ ap (λ q. outcomes t list reply requester q (rowOf t (requests.numberIn q .0))) reads
+          ∙ ap (outcomes t list reply requester (some f)) e
+
+      -- the number is in row i: that row's record decides
+      pub request-visits : (i : ℕ) → rowOf t (f .number .0) ≡ At i
+          → requests.request t list reply requester scheme string
+          ≡ storing t i (visitRequest (flagsOf list (requester .0)) requester reply (some f) (recordAt t i))
+      request-visits i e =
+          at-place (At i) e
+          ∙ visits t i (stored-back t (f .number .0) i sound e) list requester reply f (read-sound string f reads)
+
+      -- the number is not in the table
+      pub request-misses : rowOf t (f .number .0) ≡ Nothing
+          → requests.request t list reply requester scheme string ≡ leaving t (missedRequest (flagsOf list (requester .0)) reply (some f))
+      request-misses e =
+          at-place Nothing e
+          ∙ decide-of (λ n. requests.saying n t reply) (leaving t) (λ n. saying n reply) (λ n. refl)
+          (rightChecks (flagsOf list (requester .0)) (f .erasing)) (saying 41 reply)
+
+-- ---- sendings
+
+-- the checks of the record
+abbrev pub sentChecks : ℕ → ℕ → Record → List (Bool × ℕ)
+sentChecks delay clock r =
+    (not (steps.delayAllowed delay), 6) ∷ (not (steps.isWaiting (r .notice)), 4) ∷ (not (steps.isDue delay clock (r .notice)), 5) ∷ []
+
+module _ (t buffer : List ℕ) (number : FunctionalNumber) (delay clock : ℕ) (sound : tableSound t ≡ true) where
+  abbrev sendings : Bool → Found → Outcome
+  sendings soundTable place =
+      decide (refusing t buffer (notices.sendingChecks soundTable buffer (number .0) (recordFound t place) delay clock))
+      (notices.sentAt number place t buffer)
+
+  sending-at : (place : Found) → rowOf t (number .0) ≡ place → notices.sending t buffer number delay clock ≡ sendings true place
+  unfolding notices.sending recordOf
+  sending-at place e = ap (λ b. sendings b (rowOf t (number .0))) sound ∙ ap (sendings true) e
+
+  by-sending : (i : ℕ) → stored t i (recordAt t i) ≡ t → isNumber (number .0) ≡ true
+      → sendings true (At i) ≡ storing t i (visitSending delay clock number buffer (recordAt t i))
+  unfolding steps.sent
+  by-sending i same isOne = rw isOne
+      (chosen (storing t i) (ltb (length buffer) bufferRoom) (refuses (refusal 1))
+      (decide-of (λ n. made (refusal n) t buffer) (λ s. storing t i (sentStep number buffer it s)) step.Stays (λ n. refuses (refusal n))
+      (sentChecks delay clock it) (step.Becomes (steps.withNotice (steps.launched (it .notice)) it))))
+    where
+      it : Record
+      it = recordAt t i
+
+      refuses : (a : Answer) → made a t buffer ≡ storing t i (visited a buffer it)
+      refuses a = rw same
+
+  -- the number is in row i: that row's record decides
+  pub sending-visits : (i : ℕ) → rowOf t (number .0) ≡ At i
+      → notices.sending t buffer number delay clock ≡ storing t i (visitSending delay clock number buffer (recordAt t i))
+  sending-visits i e =
+      sending-at (At i) e ∙ by-sending i (stored-back t (number .0) i sound e) (found-number t (number .0) i sound e)
+
+  -- the number is not in the table
+  pub sending-misses : rowOf t (number .0) ≡ Nothing → notices.sending t buffer number delay clock ≡ leaving t (missedSending buffer)
+  sending-misses e =
+      sending-at Nothing e ∙ rw (or-right (not (isNumber (number .0))) true refl) (chosen (leaving t) (ltb (length buffer) bufferRoom) refl refl)
+
+-- ---- results
+
+-- the checks of the kind and the record
+abbrev resultChecks : ℕ → Record → List (Bool × ℕ)
+resultChecks kind r = (ltb steps.lastKind kind, 3) ∷ (not (steps.isInFlight (r .notice)), 4) ∷ []
+
+module _ (t : List ℕ) (number : FunctionalNumber) (kind clock : ℕ) (sound : tableSound t ≡ true) where
+  abbrev results : Bool → Found → Outcome
+  results soundTable place =
+      decide (refusing t [] (notices.resultChecks soundTable (number .0) (recordFound t place) kind)) (notices.resultAt kind clock place t)
+
+  result-at : (place : Found) → rowOf t (number .0) ≡ place → notices.result t number kind clock ≡ results true place
+  unfolding notices.result recordOf
+  result-at place e = ap (λ b. results b (rowOf t (number .0))) sound ∙ ap (results true) e
+
+  -- what is returned and left where no check holds; kind 0 clears, since it is below 5
+  returns : (i : ℕ) (zero below last : Bool) → (zero ≡ true → below ≡ true)
+      → let it = recordAt t i in
+      let failed = steps.withNotice (Waiting (steps.sendingsDone (it .notice)) clock) it in
+      made (cond zero delivered (cond (below || last) dropped again)) (stored t i (cond (below || last) (steps.cleared it) failed)) []
+      ≡ storing t i (resultStep it
+      (decide ((zero, Delivered (steps.cleared it)) ∷ (below, Dropped (steps.cleared it)) ∷ (last, Dropped (steps.cleared it)) ∷ []) (Again failed)))
+  returns i true true last h = refl
+  returns i true false last h = no-path (h refl)
+  returns i false true last h = refl
+  returns i false false true h = refl
+  returns i false false false h = refl
+
+  by-result : (i : ℕ) → stored t i (recordAt t i) ≡ t → isNumber (number .0) ≡ true
+      → results true (At i) ≡ storing t i (visitResult kind clock (recordAt t i))
+  unfolding steps.resulted
+  by-result i same isOne = rw isOne
+      (ap (λ done. decide (refusing t [] (map (answering refusal) (resultChecks kind it))) done)
+      (returns i (eqb kind 0) (ltb kind steps.lastKind) (leb steps.mostSendings (steps.sendingsDone (it .notice))) (λ e. rw (eqb-true kind 0 e)))
+      ∙ decide-of (λ n. made (refusal n) t []) (λ s. storing t i (resultStep it s)) Refused (λ n. rw same) (resultChecks kind it) _)
+    where
+      it : Record
+      it = recordAt t i
+
+  -- the number is in row i: that row's record decides
+  pub result-visits : (i : ℕ) → rowOf t (number .0) ≡ At i → notices.result t number kind clock ≡ storing t i (visitResult kind clock (recordAt t i))
+  result-visits i e =
+      result-at (At i) e ∙ by-result i (stored-back t (number .0) i sound e) (found-number t (number .0) i sound e)
+
+  -- the number is not in the table
+  pub result-misses : rowOf t (number .0) ≡ Nothing → notices.result t number kind clock ≡ leaving t missedResult
+  result-misses e = result-at Nothing e ∙ rw (or-right (not (isNumber (number .0))) true refl)
+
+-- ---- calls
+
+module _ (list : List ℕ) (delay : ℕ) (t : List ℕ) (sound : tableSound t ≡ true) where
+  -- the number that the call names is in row i: that row's record decides
+  pub call-visits : (c : Call) (k i : ℕ) → nameOf list c ≡ some k → rowOf t k ≡ At i
+      → call list delay c t ≡ (visit list delay c (recordAt t i) .reply, stored t i (visit list delay c (recordAt t i) .next))
+  call-visits (request requester scheme string reply) k i n e =
+      let x = naming list reply requester scheme string k n in
+      ap replied (request-visits list reply requester scheme string t sound (x .fields) (x .passed) (x .reads) i (rw (x .names) e) ∙ rw (x .reads))
+  call-visits (sending now number buffer) k i n e = ap replied (sending-visits t buffer number delay (reading now) sound i (cc))
+  call-visits (result now number kind) k i n e = ap replied (result-visits t number kind (reading now) sound i (cc))
+
+  -- it is not in the table
+  pub call-misses : (c : Call) (k : ℕ) → nameOf list c ≡ some k → rowOf t k ≡ Nothing → call list delay c t ≡ (missed list c, t)
+  call-misses (request requester scheme string reply) k n e =
+      let x = naming list reply requester scheme string k n in
+      ap replied (request-misses list reply requester scheme string t sound (x .fields) (x .passed) (x .reads) (rw (x .names) e) ∙ rw (x .reads))
+  call-misses (sending now number buffer) k n e = ap replied (sending-misses t buffer number delay (reading now) sound (cc))
+  call-misses (result now number kind) k n e = ap replied (result-misses t number kind (reading now) sound (cc))
+
+  -- the call names none
+  pub call-stops : (c : Call) → nameOf list c ≡ none → call list delay c t ≡ (stopped list c, t)
+  call-stops (request requester scheme string reply) n =
+      ap replied (request-stops list reply requester scheme string t sound (unnamed list reply requester scheme string n))
+  call-stops (sending now number buffer) n = not-some (sym n)
+  call-stops (result now number kind) n = not-some (sym n)

@@ -1,0 +1,234 @@
+-- `strings::read_fields` meets its contract: each field is found in the rest behind the one before, and the first that is not ends the reading. Assumes nothing.
+use mathlib.Core.Path.{_≡_, sym, _∙_}
+use mathlib.Core.List.{List}
+use Prim.Native.Nat.{ℕ, _+_}
+use native.Mathlib.Omega.{arith}
+use lib.ListN.{length-drop}
+use borrow.Author.Needs.{needs}
+use Rattle.answers.proofs.Parts.{rest-of}
+use Rattle.strings.specs.Reader.{operationAt, numberFieldAt, erasingAt, additionalAt}
+use Rattle.strings.specs.Found.{Found, Served}
+use Rattle.strings.proofs.Cursor.{found-at, served-at, ended, no-operation, no-service, no-number, no-erasing, no-additional, all-read, told-read}
+use Rattle.strings.proofs.read_fields.Statement.{statement}
+use Rattle.strings.proofs.read_fields.Tie as tie
+use Rattle.strings.proofs.read_fields.Reads as reads
+use Rattle.strings.proofs.read_fields.Lts as lts
+use Rattle.strings.proofs.read_additional.Reads as read-additional-reads
+use Rattle.strings.proofs.read_erasing.Reads as read-erasing-reads
+use Rattle.strings.proofs.read_number_field.Reads as read-number-field-reads
+use Rattle.strings.proofs.read_operation.Reads as read-operation-reads
+use Rattle.strings.proofs.read_service.Reads as read-service-reads
+
+read-operation-requires : tie.Need-read-operation-requires
+read-operation-requires c κs = search needs
+
+enum-known-operation : tie.Need-enum-known-operation
+enum-known-operation c = search needs
+
+enum-told : tie.Need-enum-told
+enum-told c = search needs
+
+returns : tie.Need-returns
+returns c = ended _ (no-operation _ (rw (c .enum-told .given .1) at (c .before .before .read-operation .ensures)))
+
+-- ---- the way back from each field to the one before, the text, and the cursor behind each field
+
+abbrev text : tie.After-operation → List ℕ
+text c = c .before .before .before .before .args .text .now
+
+abbrev past-service : tie.After-n → tie.After-operation
+past-service c = c .before .before .before .before .before
+
+abbrev past-number : tie.After-word → tie.After-n
+past-number c = c .before .before .before .before .before
+
+abbrev past-erasing : tie.After-erasing → tie.After-word
+past-erasing c = c .before .before .before .before .before
+
+abbrev cursor1 : tie.After-operation → ℕ
+cursor1 c = c .operation .given .0 .1 .0
+
+abbrev cursor2 : tie.After-n → ℕ
+cursor2 c = cursor1 (past-service c) + c .n .given .0 .0
+
+abbrev cursor3 : tie.After-word → ℕ
+cursor3 c = cursor2 (past-number c) + c .word .given .0 .1 .0
+
+abbrev cursor4 : tie.After-erasing → ℕ
+cursor4 c = cursor3 (past-erasing c) + c .erasing .given .0 .1 .0
+
+-- ---- the fields found
+
+operation : (c : tie.After-operation) → Found operationAt (text c) 0 (c .operation .given .0 .0) (cursor1 c)
+operation c = rw (c .operation .given .1) at (c .before .before .read-operation .ensures)
+
+service : (c : tie.After-n) → Served (text (past-service c)) (cursor1 (past-service c)) (cursor2 c)
+service c = served-at _ _ _ (operation (past-service c) .within) (rw (c .n .given .1) at (c .before .before .read-service .ensures))
+
+number :
+    (c : tie.After-word)
+    → Found numberFieldAt (text (past-service (past-number c))) (cursor2 (past-number c)) (c .word .given .0 .0) (cursor3 c)
+number c = found-at numberFieldAt _ _ _ _ (service (past-number c) .within) (rw (c .word .given .1) at (c .before .before .read-number-field .ensures))
+
+erasing :
+    (c : tie.After-erasing)
+    → Found (erasingAt (past-service (past-number (past-erasing c)) .operation .given .0 .0)) (text (past-service (past-number (past-erasing c)))) (cursor3 (past-erasing c)) (c .erasing .given .0 .0) (cursor4 c)
+erasing c = found-at (erasingAt _) _ _ _ _ (number (past-erasing c) .within) (rw (c .erasing .given .1) at (c .before .before .read-erasing .ensures))
+
+-- ---- the needs
+
+sub-read-service : tie.Need-sub-read-service
+sub-read-service c = operation (c .before) .within
+
+part-read-service-start : tie.Need-part-read-service-start
+part-read-service-start c = operation (c .before) .within
+
+part-read-service-end : tie.Need-part-read-service-end
+part-read-service-end c = search needs
+
+read-service-requires : tie.Need-read-service-requires
+read-service-requires c κs = search needs
+
+enum-known-n : tie.Need-enum-known-n
+enum-known-n c = search needs
+
+enum-told-2 : tie.Need-enum-told-2
+enum-told-2 c = search needs
+
+returns-2 : tie.Need-returns-2
+returns-2 c =
+    let o = c .before .before .before .before .before in
+    ended _ (no-service _ _ _ (operation o) (rw rest-of at (rw (c .enum-told2 .given .1) at (c .before .before .read-service .ensures))))
+
+add-cursor : tie.Need-add-cursor
+add-cursor c = omega (arith, service (c .before) .within)
+
+sub-read-number-field : tie.Need-sub-read-number-field
+sub-read-number-field c = service (c .before) .within
+
+part-read-number-field-start : tie.Need-part-read-number-field-start
+part-read-number-field-start c = service (c .before) .within
+
+part-read-number-field-end : tie.Need-part-read-number-field-end
+part-read-number-field-end c = search needs
+
+read-number-field-requires : tie.Need-read-number-field-requires
+read-number-field-requires c κs = search needs
+
+enum-known-word : tie.Need-enum-known-word
+enum-known-word c = search needs
+
+enum-told-3 : tie.Need-enum-told-3
+enum-told-3 c = search needs
+
+returns-3 : tie.Need-returns-3
+returns-3 c =
+    let s = c .before .before .before .before .before in
+    ended _ (no-number _ _ _ (operation (past-service s)) _ (service s) (rw rest-of at (rw (c .enum-told3 .given .1) at (c .before .before .read-number-field .ensures))))
+
+add-cursor-2 : tie.Need-add-cursor-2
+add-cursor-2 c = omega (arith, number (c .before) .within)
+
+sub-read-erasing : tie.Need-sub-read-erasing
+sub-read-erasing c = number (c .before) .within
+
+part-read-erasing-start : tie.Need-part-read-erasing-start
+part-read-erasing-start c = number (c .before) .within
+
+part-read-erasing-end : tie.Need-part-read-erasing-end
+part-read-erasing-end c = search needs
+
+read-erasing-requires : tie.Need-read-erasing-requires
+read-erasing-requires c κs = search needs
+
+enum-known-erasing : tie.Need-enum-known-erasing
+enum-known-erasing c = search needs
+
+enum-told-4 : tie.Need-enum-told-4
+enum-told-4 c = search needs
+
+returns-4 : tie.Need-returns-4
+returns-4 c =
+    let n = c .before .before .before .before .before in
+    let s = past-number n in
+    ended _ (no-erasing _ _ _ (operation (past-service s)) _ (service s) _ _ (number n) (rw rest-of at (rw (c .enum-told4 .given .1) at (c .before .before .read-erasing .ensures))))
+
+add-start : tie.Need-add-start
+add-start c = omega (arith, erasing (c .before) .within)
+
+sub-read-additional : tie.Need-sub-read-additional
+sub-read-additional c = erasing (c .before) .within
+
+part-read-additional-start : tie.Need-part-read-additional-start
+part-read-additional-start c = erasing (c .before) .within
+
+part-read-additional-end : tie.Need-part-read-additional-end
+part-read-additional-end c = search needs
+
+read-additional-requires : tie.Need-read-additional-requires
+read-additional-requires c κs = search needs
+
+enum-known-count : tie.Need-enum-known-count
+enum-known-count c = search needs
+
+enum-told-5 : tie.Need-enum-told-5
+enum-told-5 c = search needs
+
+returns-5 : tie.Need-returns-5
+returns-5 c =
+    let e = c .before .before .before .before .before in
+    let n = past-erasing e in
+    let s = past-number n in
+    ended _ (no-additional _ _ _ (operation (past-service s)) _ (service s) _ _ (number n) _ _ (erasing e) (rw rest-of at (rw (c .enum-told5 .given .1) at (c .before .before .read-additional .ensures))))
+
+returns-6 : tie.Need-returns-6
+returns-6 c =
+    let e = c .before .before .before .before .before .before in
+    let n = past-erasing e in
+    let s = past-number n in
+    let o = past-service s in
+    let a = rw rest-of at (rw (c .before .count .given .1) at (c .before .before .before .read-additional .ensures)) in
+    told-read (text o) (record { operation = o .operation .given .0 .0; number = record { 0 = n .word .given .0 .0 }; erasing = e .erasing .given .0 .0; start = cursor4 e; count = c .before .count .given .0 .0 })
+    (all-read _ _ _ (operation o) _ (service s) _ _ (number n) _ _ (erasing e) _ (a .1))
+    (omega (arith, a .0, length-drop (cursor4 e) (text o), erasing e .within))
+
+pub read-fields-spec : {M : Type 1} → statement M
+read-fields-spec =
+    tie.close
+    (tie.spec
+    read-operation-requires
+    enum-known-operation
+    enum-told
+    returns
+    sub-read-service
+    part-read-service-start
+    part-read-service-end
+    read-service-requires
+    enum-known-n
+    enum-told-2
+    returns-2
+    add-cursor
+    sub-read-number-field
+    part-read-number-field-start
+    part-read-number-field-end
+    read-number-field-requires
+    enum-known-word
+    enum-told-3
+    returns-3
+    add-cursor-2
+    sub-read-erasing
+    part-read-erasing-start
+    part-read-erasing-end
+    read-erasing-requires
+    enum-known-erasing
+    enum-told-4
+    returns-4
+    add-start
+    sub-read-additional
+    part-read-additional-start
+    part-read-additional-end
+    read-additional-requires
+    enum-known-count
+    enum-told-5
+    returns-5
+    returns-6)

@@ -1,0 +1,69 @@
+-- `strings::read_operation` meets its contract: its tests are the definition's, in the same order. Assumes nothing.
+use mathlib.Core.Path.{_≡_, sym, _∙_}
+use borrow.Author.Needs.{needs}
+use Rattle.strings.specs.Reader.{operationAt}
+use Rattle.strings.proofs.Begins.{begins-within}
+use Rattle.strings.proofs.read_operation.Statement.{statement}
+use Rattle.strings.proofs.read_operation.Tie as tie
+
+slice-aggregate-begins-with : tie.Need-slice-aggregate-begins-with
+slice-aggregate-begins-with c = search needs
+
+begins-with-requires : tie.Need-begins-with-requires
+begins-with-requires c κs = search needs
+
+returns : tie.Need-returns
+unfolding operationAt
+returns c =
+    let t = sym (c .before .begins-with .ensures) ∙ c .if1 .taken in
+    record { within = begins-within _ _ t; found = rw t }
+
+slice-aggregate-begins-with-2 : tie.Need-slice-aggregate-begins-with-2
+slice-aggregate-begins-with-2 c = search needs
+
+begins-with-requires-2 : tie.Need-begins-with-requires-2
+begins-with-requires-2 c κs = search needs
+
+returns-2 : tie.Need-returns-2
+unfolding operationAt
+returns-2 c =
+    let n = sym (c .before .before .before .before .begins-with .ensures) ∙ c .before .before .before .if1 .left in
+    let t = sym (c .before .begins-with2 .ensures) ∙ c .if2 .taken in
+    record { within = begins-within _ _ t; found = rw (n, t) }
+
+slice-aggregate-begins-with-3 : tie.Need-slice-aggregate-begins-with-3
+slice-aggregate-begins-with-3 c = search needs
+
+begins-with-requires-3 : tie.Need-begins-with-requires-3
+begins-with-requires-3 c κs = search needs
+
+returns-3 : tie.Need-returns-3
+unfolding operationAt
+returns-3 c =
+    let n = sym (c .before .before .before .before .before .before .before .begins-with .ensures) ∙ c .before .before .before .before .before .before .if1 .left in
+    let m = sym (c .before .before .before .before .begins-with2 .ensures) ∙ c .before .before .before .if2 .left in
+    let t = sym (c .before .begins-with3 .ensures) ∙ c .if3 .taken in
+    record { within = begins-within _ _ t; found = rw (n, m, t) }
+
+returns-4 : tie.Need-returns-4
+unfolding operationAt
+returns-4 c =
+    let n = sym (c .before .before .before .before .before .before .before .begins-with .ensures) ∙ c .before .before .before .before .before .before .if1 .left in
+    let m = sym (c .before .before .before .before .begins-with2 .ensures) ∙ c .before .before .before .if2 .left in
+    let l = sym (c .before .begins-with3 .ensures) ∙ c .if3 .left in
+    rw (n, m, l)
+
+pub read-operation-spec : {M : Type 1} → statement M
+read-operation-spec =
+    tie.close
+    (tie.spec
+    slice-aggregate-begins-with
+    begins-with-requires
+    returns
+    slice-aggregate-begins-with-2
+    begins-with-requires-2
+    returns-2
+    slice-aggregate-begins-with-3
+    begins-with-requires-3
+    returns-3
+    returns-4)

@@ -1,0 +1,4 @@
+pub mod Keys
+pub mod Sound
+pub mod Stored
+pub mod Alone
