@@ -52,34 +52,27 @@ room = replicate 80 0
 abbrev pub asks : ℕ → List ℕ → Call
 asks msisdn text = request (record { 0 = msisdn }) 0x0F (packed text) room
 
--- 0492123401, 492123401, 4915100001 and 4915100002 in characters
-abbrev pub fText : List ℕ
-fText = 48 ∷ 52 ∷ 57 ∷ 50 ∷ 49 ∷ 50 ∷ 51 ∷ 52 ∷ 48 ∷ 49 ∷ []
+-- the request strings of the examples
+abbrev pub registersF : List ℕ
+registersF = ascii "**214*0492123401***#"
 
-abbrev pub gText : List ℕ
-gText = 52 ∷ 57 ∷ 50 ∷ 49 ∷ 50 ∷ 51 ∷ 52 ∷ 48 ∷ 49 ∷ []
+abbrev pub registersWithoutZero : List ℕ
+registersWithoutZero = ascii "**214*492123401***#"
 
-abbrev pub aText : List ℕ
-aText = 52 ∷ 57 ∷ 49 ∷ 53 ∷ 49 ∷ 48 ∷ 48 ∷ 48 ∷ 48 ∷ 49 ∷ []
+abbrev pub erasesF : List ℕ
+erasesF = ascii "##214*0492123401***#"
 
-abbrev pub bText : List ℕ
-bText = 52 ∷ 57 ∷ 49 ∷ 53 ∷ 49 ∷ 48 ∷ 48 ∷ 48 ∷ 48 ∷ 50 ∷ []
+abbrev pub forcesA : List ℕ
+forcesA = ascii "##214*0492123401*88*4915100001*#"
 
--- `**214*F***#`, the same of 492123401, `##214*F***#`, `##214*F*88*A*#`, `*#214*F***#` and `**214*F*88**#`
-abbrev pub registering : List ℕ → List ℕ
-registering n = 42 ∷ 42 ∷ 50 ∷ 49 ∷ 52 ∷ 42 ∷ n ++ (42 ∷ 42 ∷ 42 ∷ 35 ∷ [])
+abbrev pub forcesB : List ℕ
+forcesB = ascii "##214*0492123401*88*4915100002*#"
 
-abbrev pub erasing : List ℕ
-erasing = 35 ∷ 35 ∷ 50 ∷ 49 ∷ 52 ∷ 42 ∷ fText ++ (42 ∷ 42 ∷ 42 ∷ 35 ∷ [])
-
-abbrev pub forcing : List ℕ → List ℕ
-forcing msisdn = 35 ∷ 35 ∷ 50 ∷ 49 ∷ 52 ∷ 42 ∷ fText ++ (42 ∷ 56 ∷ 56 ∷ 42 ∷ msisdn ++ (42 ∷ 35 ∷ []))
-
-abbrev pub interrogating : List ℕ
-interrogating = 42 ∷ 35 ∷ 50 ∷ 49 ∷ 52 ∷ 42 ∷ fText ++ (42 ∷ 42 ∷ 42 ∷ 35 ∷ [])
+abbrev pub interrogatesF : List ℕ
+interrogatesF = ascii "*#214*0492123401***#"
 
 abbrev pub halfForced : List ℕ
-halfForced = 42 ∷ 42 ∷ 50 ∷ 49 ∷ 52 ∷ 42 ∷ fText ++ (42 ∷ 56 ∷ 56 ∷ 42 ∷ 42 ∷ 35 ∷ [])
+halfForced = ascii "**214*0492123401*88**#"
 
 -- characters and their octets; octets and what they read as; a table, calls over it, the last call's answer and the table then
 pub data Example : Type 0 where
@@ -105,26 +98,26 @@ pub data All : List Example → Type 0 where
 
 abbrev pub examples : List Example
 examples =
-    packs (42 ∷ 35 ∷ []) (0xAA ∷ 0x11 ∷ [])
-    ∷ packs (49 ∷ 50 ∷ 51 ∷ 52 ∷ 53 ∷ 54 ∷ 55 ∷ []) (0x31 ∷ 0xD9 ∷ 0x8C ∷ 0x56 ∷ 0xB3 ∷ 0xDD ∷ 0x1A ∷ [])
-    ∷ packs (49 ∷ 50 ∷ 51 ∷ 52 ∷ 53 ∷ 54 ∷ 55 ∷ 56 ∷ []) (0x31 ∷ 0xD9 ∷ 0x8C ∷ 0x56 ∷ 0xB3 ∷ 0xDD ∷ 0x70 ∷ [])
-    ∷ reads (0x31 ∷ 0xD9 ∷ 0x8C ∷ 0x56 ∷ 0xB3 ∷ 0xDD ∷ 0x00 ∷ []) (49 ∷ 50 ∷ 51 ∷ 52 ∷ 53 ∷ 54 ∷ 55 ∷ 0 ∷ [])
+    packs (ascii "*#") (0xAA ∷ 0x11 ∷ [])
+    ∷ packs (ascii "1234567") (0x31 ∷ 0xD9 ∷ 0x8C ∷ 0x56 ∷ 0xB3 ∷ 0xDD ∷ 0x1A ∷ [])
+    ∷ packs (ascii "12345678") (0x31 ∷ 0xD9 ∷ 0x8C ∷ 0x56 ∷ 0xB3 ∷ 0xDD ∷ 0x70 ∷ [])
+    ∷ reads (0x31 ∷ 0xD9 ∷ 0x8C ∷ 0x56 ∷ 0xB3 ∷ 0xDD ∷ 0x00 ∷ []) (ascii "1234567" ++ (0 ∷ []))
     -- P5
-    ∷ answers free (asks A (registering fText) ∷ []) (outcome 1 2) (held A)
+    ∷ answers free (asks A registersF ∷ []) (outcome 1 2) (held A)
     -- P6
-    ∷ answers (held A) (asks B (registering fText) ∷ []) (outcome 61 2) (held A)
-    ∷ answers (held A) (asks A (registering fText) ∷ []) (outcome 1 2) (held A)
+    ∷ answers (held A) (asks B registersF ∷ []) (outcome 61 2) (held A)
+    ∷ answers (held A) (asks A registersF ∷ []) (outcome 1 2) (held A)
     -- P7
-    ∷ answers (held A) (asks B erasing ∷ []) (outcome 63 2) (held A)
+    ∷ answers (held A) (asks B erasesF ∷ []) (outcome 63 2) (held A)
     -- P8
-    ∷ answers (held A) (asks B (forcing bText) ∷ []) (outcome 63 2) (held A)
-    ∷ answers (held A) (asks B (forcing aText) ∷ []) (outcome 2 2) (noticed 0 1 0)
+    ∷ answers (held A) (asks B forcesB ∷ []) (outcome 63 2) (held A)
+    ∷ answers (held A) (asks B forcesA ∷ []) (outcome 2 2) (noticed 0 1 0)
     -- P9
-    ∷ answers (held A) (asks A (forcing aText) ∷ []) (outcome 22 2) (held A)
+    ∷ answers (held A) (asks A forcesA ∷ []) (outcome 22 2) (held A)
     -- P10
-    ∷ answers (held A) (asks C interrogating ∷ []) (outcome 42 2) (held A)
+    ∷ answers (held A) (asks C interrogatesF ∷ []) (outcome 42 2) (held A)
     -- P11
-    ∷ answers free (asks A (registering gText) ∷ []) (outcome 41 2) free
+    ∷ answers free (asks A registersWithoutZero ∷ []) (outcome 41 2) free
     -- P12
     ∷ answers free (asks A halfForced ∷ []) (error 36) free
     -- P13
@@ -134,10 +127,10 @@ examples =
     ∷ answers (noticed 0 8 0) (result 7 (record { 0 = F }) 5 ∷ []) again (noticed 0 9 7)
     ∷ answers (noticed 0 10 0) (result 7 (record { 0 = F }) 5 ∷ []) dropped free
     -- P15
-    ∷ answers free (asks A (registering fText) ∷ asks B (forcing aText) ∷ asks A (registering fText) ∷ asks B (forcing aText) ∷ []) (outcome 68 2) (noticed A 1 0)
+    ∷ answers free (asks A registersF ∷ asks B forcesA ∷ asks A registersF ∷ asks B forcesA ∷ []) (outcome 68 2) (noticed A 1 0)
     ∷ []
 
 pub p1-to-p15 : All examples
-unfolding number digits octetsFor charsIn padded packed characters readable filled kept unpacked isDigit pushed stored isNumber digitsUpTo digitsOf leadingDigits numberAt isAdditional textOf noticeOf begins operationAt serviceAt numberFieldAt erasingAt leadingAdditional additionalAt fieldsOf requestOf elapsed delayOf delayAllowed rows.noticeSound rows.rowSound rows.noticeOf rows.recordAt rows.stored placeOf tableSound rowOf recordOf listSound flagsOf requests.requestChecks requests.request notices.sending notices.result
+unfolding number digits octetsFor charsIn padded packed characters readable filled kept unpacked isDigit pushed stored isNumber digitsUpTo digitsOf leadingDigits numberAt isAdditional textOf noticeOf begins begins operationAt serviceAt numberFieldAt forcedAt erasingAt leadingAdditional additionalAt fieldsOf requestOf elapsed delayOf delayAllowed rows.noticeSound rows.rowSound rows.noticeOf rows.recordAt rows.stored placeOf tableSound rowOf recordOf listSound flagsOf requests.requestChecks requests.request notices.sending notices.result
 p1-to-p15 =
     refl and refl and refl and refl and refl and refl and refl and refl and refl and refl and refl and refl and refl and refl and refl and refl and refl and refl and refl and done
