@@ -1,10 +1,11 @@
 -- Document 01, "The program": its whole input and its whole output, computed. Assumes nothing.
 use mathlib.Core.Path.{_≡_, refl}
 use Prim.Native.String.{String}
+use Rattle.answers.specs.Ascii.{ascii}
 use Rattle.packing.specs.Packing.{number, digits, octetsFor, charsIn, taken, takes, padded, packed, characters, readable, filled, kept, unpacked}
 use Rattle.numbers.specs.Numbers.{isDigit, areDigits, pushed, stored, isNumber, digitsUpTo, digitsOf, leadingDigits, numberAt}
 use Rattle.strings.specs.Text.{isAdditional, textOf, noticeOf}
-use Rattle.strings.specs.Reader.{operationAt, serviceAt, numberFieldAt, erasingAt, leadingAdditional, additionalAt, fieldsOf}
+use Rattle.strings.specs.Reader.{begins, operationAt, serviceAt, numberFieldAt, forcedAt, erasingAt, leadingAdditional, additionalAt, fieldsOf}
 use Rattle.strings.specs.Outcomes.{requestOf}
 use Rattle.records.specs.Steps.{elapsed, delayOf, delayAllowed}
 use Rattle.records.specs.Rows as rows
@@ -13,7 +14,6 @@ use Rattle.tables.specs.Tables.{tableSound, rowOf, recordOf, listSound, flagsOf
 use Rattle.rules.specs.Requests as requests
 use Rattle.rules.specs.Notices as notices
 use Rattle.lines.specs.Lines as lines
-use Rattle.lines.specs.Lines.{octets}
 use Rattle.lines.specs.Program as program
 use Rattle.lines.specs.Program.{outputOf}
 
@@ -25,6 +25,6 @@ abbrev wholeOutput : String
 wholeOutput =
     "R 01\nR 02\nT 4915100001 ##214*0492123401*88*4915100002*#\nD again\nT refused 5\nT 4915100001 ##214*0492123401*88*4915100002*#\nD delivered\n"
 
-pub listing : outputOf (octets wholeInput) ≡ octets wholeOutput
-unfolding number digits octetsFor charsIn taken takes padded packed characters readable filled kept unpacked isDigit areDigits pushed stored isNumber digitsUpTo digitsOf leadingDigits numberAt isAdditional textOf noticeOf operationAt serviceAt numberFieldAt erasingAt leadingAdditional additionalAt fieldsOf requestOf elapsed delayOf delayAllowed rows.noticeSound rows.rowSound rows.noticeOf rows.recordAt rows.stored placeOf tableSound rowOf recordOf listSound flagsOf requests.requestChecks requests.request notices.sending notices.result lines.linesOf lines.fieldAt lines.behindField lines.isDigits lines.numberOf lines.askedOf lines.valueBelow lines.numberForm lines.subscriberForm lines.requestForm lines.sendingForm lines.resultAt lines.resultForm lines.lettered lines.formOf program.numbered program.subscribed program.requested program.dispatched program.reported program.lineEffect program.linesEffect program.programEffect program.outputOf
+pub listing : outputOf (ascii wholeInput) ≡ ascii wholeOutput
+unfolding number digits octetsFor charsIn taken takes padded packed characters readable filled kept unpacked isDigit areDigits pushed stored isNumber digitsUpTo digitsOf leadingDigits numberAt isAdditional textOf noticeOf begins operationAt serviceAt numberFieldAt forcedAt erasingAt leadingAdditional additionalAt fieldsOf requestOf elapsed delayOf delayAllowed rows.noticeSound rows.rowSound rows.noticeOf rows.recordAt rows.stored placeOf tableSound rowOf recordOf listSound flagsOf requests.requestChecks requests.request notices.sending notices.result lines.linesOf lines.fieldAt lines.behindField lines.isDigits lines.numberOf lines.askedOf lines.valueBelow lines.numberForm lines.subscriberForm lines.requestForm lines.sendingForm lines.resultAt lines.resultForm lines.lettered lines.formOf program.numbered program.subscribed program.requested program.dispatched program.reported program.lineEffect program.linesEffect program.programEffect program.outputOf
 listing = refl

@@ -3,10 +3,10 @@ use mathlib.Core.Path.{_≡_, refl, ap, _∙_}
 use mathlib.Core.Bool.{Bool, true, false, cond}
 use mathlib.Core.Option.{Option, none, some}
 use mathlib.Core.List.{List, [], _∷_}
-use Prim.Native.Nat.{ℕ, suc, _+_, _-_, _≤_, _<_}
+use Prim.Native.Nat.{ℕ, suc, _+_, _≤_, _<_}
 use native.Mathlib.Numerals.{add-one}
 use native.Mathlib.Omega.{arith}
-use lib.ListN.{length, take, drop, length-drop}
+use lib.ListN.{length, take, drop}
 use lib.Seq.{take-all}
 use lib.Dec.{eqb}
 use Rattle.bytes.specs.Bytes.{indexOf, indexAfter, slice}
@@ -15,10 +15,6 @@ use Rattle.lines.specs.Lines.{lineFeed, onFirst, linesOf, space, fieldAt
 pub whole-slice : (s : List ℕ) → slice 0 (length s) s ≡ s
 unfolding slice
 whole-slice s = take-all (length s) s (omega arith)
-
--- the part from a place to the end, as it is lent
-pub rest-of : (n : ℕ) (s : List ℕ) → take (length s - n) (drop n s) ≡ drop n s
-rest-of n s = take-all (length s - n) (drop n s) (omega (arith, length-drop n s))
 
 pub field-front : (s : List ℕ) → fieldAt s ≡ take (indexOf space s) s
 unfolding indexOf indexAfter fieldAt

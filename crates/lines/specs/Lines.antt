@@ -1,8 +1,6 @@
 -- Document 01, "The program": the lines of an input, the fields of a line, and the forms that a line can have. Assumes nothing.
 use Prim.Native.Nat.{ℕ, suc, _^_}
 use Prim.Native.Char.{code}
-use Prim.Native.String as text
-use Prim.Native.String.{String}
 use mathlib.Core.Bool.{Bool, false, cond, _&&_}
 use mathlib.Core.Option.{Option, none, some}
 use mathlib.Core.List.{List, [], _∷_}
@@ -13,11 +11,6 @@ use Rattle.numbers.specs.Numbers.{fewestDigits, mostDigits, areDigits, pushed, 
 use Rattle.numbers.specs.declared.FunctionalNumber.{FunctionalNumber}
 use Rattle.numbers.specs.declared.Msisdn.{Msisdn}
 use Rattle.tables.specs.Tables.{mostFlags}
-
--- the octets of a text in ASCII
-abbrev pub octets : String → List ℕ
-octets text.[] = []
-octets (text._∷_ c cs) = code c ∷ octets cs
 
 -- ---- lines
 

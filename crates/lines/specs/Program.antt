@@ -6,6 +6,7 @@ use mathlib.Core.Option.{Option, none, some}
 use mathlib.Core.List.{List, [], _∷_, _++_}
 use lib.ListN.{length, take, getD, replicate}
 use lib.Dec.{ltb}
+use Rattle.answers.specs.Ascii.{ascii}
 use Rattle.packing.specs.Packing.{takes, packed, unpacked}
 use Rattle.numbers.specs.Numbers.{digitsOf}
 use Rattle.numbers.specs.declared.FunctionalNumber.{FunctionalNumber}
@@ -15,7 +16,7 @@ use Rattle.tables.specs.Tables.{mostNumbers, subscriberWords, mostSubscribers}
 use Rattle.rules.specs.Answers.{Answer, refusal, error, outcome, holder, sent, delivered, dropped, again, found, noneDue, Outcome, made, bufferRoom, twoDigits}
 use Rattle.rules.specs.Requests as requests
 use Rattle.rules.specs.Notices as notices
-use Rattle.lines.specs.Lines.{octets, lineFeed, space, linesOf, Form, number, subscriber, request, sending, result, formOf}
+use Rattle.lines.specs.Lines.{lineFeed, space, linesOf, Form, number, subscriber, request, sending, result, formOf}
 
 -- the words of the table and of the list, and whether they are still being filled
 pub record Program : Type 0 where
@@ -33,7 +34,7 @@ pub record Effect : Type 0 where
 
 -- "Any other line … prints `?` and changes nothing"
 abbrev pub questioned : Program → Effect
-questioned p = record { prints = octets "?\n"; leaves = p }
+questioned p = record { prints = ascii "?\n"; leaves = p }
 
 -- ---- filling
 
@@ -74,14 +75,14 @@ textIn count buffer = unpacked (take count buffer)
 
 -- what follows the letter: "the reply text"; "addressee, notice"; "`D delivered`, `D dropped` or `D again`"; "Otherwise `error n` or `refused n`"
 abbrev pub said : Answer → List ℕ → List ℕ
-said (refusal n) buffer = octets "refused " ++ numeral n
-said (error n) buffer = octets "error " ++ numeral n
+said (refusal n) buffer = ascii "refused " ++ numeral n
+said (error n) buffer = ascii "error " ++ numeral n
 said (outcome n count) buffer = textIn count buffer
 said (holder msisdn count) buffer = textIn count buffer
 said (sent addressee count) buffer = digitsOf addressee ++ (space ∷ textIn count buffer)
-said delivered buffer = octets "delivered"
-said dropped buffer = octets "dropped"
-said again buffer = octets "again"
+said delivered buffer = ascii "delivered"
+said dropped buffer = ascii "dropped"
+said again buffer = ascii "again"
 said (found n) buffer = []
 said noneDue buffer = []
 

@@ -3,7 +3,8 @@ use mathlib.Core.Path.{sym}
 use native.Mathlib.Omega.{arith}
 use lib.Seq.{length-take-le}
 use Rattle.lines.specs.Lines.{subscriberForm}
-use Rattle.lines.proofs.Places.{rest-of, Split, split, unsplit}
+use Rattle.answers.proofs.Parts.{rest-of}
+use Rattle.lines.proofs.Places.{Split, split, unsplit}
 use Rattle.lines.proofs.Reading.{is-value, is-none, value-fits}
 use borrow.Author.Needs.{needs}
 use Rattle.lines.proofs.read_subscriber.Statement.{statement}
