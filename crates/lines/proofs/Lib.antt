@@ -2,4 +2,5 @@
 pub mod Places
 pub mod Digits
 pub mod Reading
+pub mod Writing
 pub mod Examples

@@ -1,8 +1,9 @@
 -- What the code's answers say, and the program in the memory that the code is lent. Assumes nothing.
+use mathlib.Core.Path.{_≡_}
 use Prim.Native.Nat.{ℕ}
 use mathlib.Core.Option.{Option, none, some}
-use mathlib.Core.List.{List}
-use lib.ListN.{drop}
+use mathlib.Core.List.{List, _++_}
+use lib.ListN.{length, drop}
 use Rattle.lines.specs.declared.FieldRead.{FieldRead}
 use Rattle.lines.specs.declared.FieldRead.the-variants.{Value, Unreadable}
 use Rattle.lines.specs.declared.Line.{Line}
@@ -22,3 +23,8 @@ formIn rest (line.Request m start) = some (request m (drop start rest))
 formIn rest (line.Sending now n) = some (sending now n)
 formIn rest (line.Result now n kind) = some (result now n kind)
 formIn rest line.Other = none
+
+-- a text put over the front of a buffer, with its count; what lies beyond stays
+pub record Put (text old new : List ℕ) (n : ℕ) : Type 0 where
+  pub count : n ≡ length text
+  pub buffer : new ≡ text ++ drop n old

@@ -1,14 +1,19 @@
 // What a line of the program comes to: its form is read, carried out over the lent table and list, and what it prints is written.
+use answers::Written;
 use numbers::FunctionalNumber;
 use numbers::Msisdn;
 use numbers::NumberRead;
 ghost use mathlib.Core.Path.{_≡_};
-ghost use mathlib.Core.List.{List};
-ghost use Prim.Native.Nat.{ℕ, _^_, _≤_, _<_};
+ghost use mathlib.Core.Bool.{true};
+ghost use mathlib.Core.List.{List, [], _∷_, _++_};
+ghost use Prim.Native.Nat.{ℕ, _+_, _^_, _≤_, _<_};
 ghost use lib.ListN.{length};
+ghost use Rattle.packing.specs.Packing.{charsIn, readable, unpacked};
+ghost use Rattle.numbers.specs.Numbers.{isNumber, digitsOf};
 ghost use Rattle.bytes.specs.Bytes.{indexOf};
-ghost use Rattle.lines.specs.Lines.{isDigits, numberOf, askedOf, valueBelow, numberForm, subscriberForm, requestForm, sendingForm, resultAt, resultForm, lettered};
-ghost use Rattle.lines.specs.Memory.{valueIn, formIn};
+ghost use Rattle.lines.specs.Lines.{space, isDigits, numberOf, askedOf, valueBelow, numberForm, subscriberForm, requestForm, sendingForm, resultAt, resultForm, lettered};
+ghost use Rattle.lines.specs.Program.{numeral};
+ghost use Rattle.lines.specs.Memory.{valueIn, formIn, Put};
 
 // Flags, and now and kind, are below these.
 const FLAGS: u64 = 4;
@@ -216,4 +221,59 @@ fn read_form(letter: u8, rest: &[u8]) -> Line
         b'D' => read_result(rest),
         _ => Line::Other,
     }
+}
+
+// Writes characters over the front of a part.
+fn put(text: &[u8], out: &mut [u8]) -> usize
+    requires { ⌜ length (now text) ≤ length (now out) ⌝ }
+    ensures { λ r. ⌜ Put (now (text .entry)) (now (out .entry)) (now (out .exit)) r ⌝ }
+{
+    bytes::copy(text, out)
+}
+
+// Writes the number of an error or a refusal.
+fn put_numeral(n: u8, out: &mut [u8]) -> usize
+    requires { ⌜ 2 ≤ length (now out) ⌝ }
+    ensures { λ r. ⌜ Put (numeral n) (now (out .entry)) (now (out .exit)) r ⌝ }
+{
+    if n < 10 {
+        out[0] = b'0' + n;
+        return 1;
+    }
+    out[0] = b'0' + n / 10;
+    out[1] = b'0' + n % 10;
+    2
+}
+
+// Writes `error ` or `refused ` and the number.
+fn put_numbered(words: &[u8], n: u8, out: &mut [u8]) -> usize
+    requires { ⌜ length (now words) + 2 ≤ length (now out) ⌝ }
+    ensures { λ r. ⌜ Put (now (words .entry) ++ numeral n) (now (out .entry)) (now (out .exit)) r ⌝ }
+{
+    let at = put(words, out);
+    at + put_numeral(n, &mut out[at..])
+}
+
+// Writes the characters that readable octets are.
+fn put_text(octets: &[u8], out: &mut [u8]) -> usize
+    requires { ⌜ (readable (now octets) ≡ true) × (charsIn (length (now octets)) ≤ length (now out)) ⌝ }
+    ensures { λ r. ⌜ Put (unpacked (now (octets .entry))) (now (out .entry)) (now (out .exit)) r ⌝ }
+{
+    let written = packing::unpack(octets, out);
+    let Written::Count(n) = written else {
+        return 0;
+    };
+    n
+}
+
+// Writes an addressee's digits and the space behind them.
+fn put_addressee(addressee: Msisdn, out: &mut [u8]) -> usize
+    requires { ⌜ (isNumber (addressee .0) ≡ true) × (16 ≤ length (now out)) ⌝ }
+    ensures { λ r. ⌜ Put (digitsOf (addressee .0) ++ (space ∷ [])) (now (out .entry)) (now (out .exit)) r ⌝ }
+{
+    let written = numbers::write_digits(addressee.0, out);
+    let Written::Count(at) = written else {
+        return 0;
+    };
+    at + put(b" ", &mut out[at..])
 }

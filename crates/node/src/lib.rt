@@ -2,8 +2,12 @@
 use answers::Written;
 use numbers::FunctionalNumber;
 use numbers::Msisdn;
-use records::{Holder, Record, Step};
-use strings::{Erasing, Fields, Operation};
+use records::Holder;
+use records::Record;
+use records::Step;
+use strings::Erasing;
+use strings::Fields;
+use strings::Operation;
 use tables::Found;
 ghost use mathlib.Core.Path.{_≡_};
 ghost use mathlib.Core.Bool.{true, not, _&&_};
@@ -134,7 +138,13 @@ fn answer_holder(held: Record, reply: &mut [u8]) -> RequestAnswer
 }
 
 // What the record of a row decides, by the operation.
-fn decide_at(table: &mut [u64], row: usize, reply: &mut [u8], requester: Msisdn, fields: Fields) -> RequestAnswer
+fn decide_at(
+    table: &mut [u64],
+    row: usize,
+    reply: &mut [u8],
+    requester: Msisdn,
+    fields: Fields,
+) -> RequestAnswer
     requires { ⌜ (row < rowsIn (now table)) × (rowSound (now table) row ≡ true) × (bufferRoom ≤ length (now reply)) ⌝ }
     ensures { λ r. ⌜ made (saidRequest r) (now (table .exit)) (now (reply .exit)) ≡ placed (now (table .entry)) row (decided (deciding fields) requester (now (reply .entry)) (recordAt (now (table .entry)) row)) ⌝ }
 {
@@ -166,7 +176,13 @@ fn is_forbidden(erasing: Erasing, flags: u64) -> bool
 }
 
 // A request whose string was read: the requester's flags, the number's row, and what its record decides.
-fn ask(table: &mut [u64], list: &[u64], reply: &mut [u8], requester: Msisdn, fields: Fields) -> RequestAnswer
+fn ask(
+    table: &mut [u64],
+    list: &[u64],
+    reply: &mut [u8],
+    requester: Msisdn,
+    fields: Fields,
+) -> RequestAnswer
     requires { ⌜ (tableSound (now table) ≡ true) × (listSound (now list) ≡ true) × (bufferRoom ≤ length (now reply)) ⌝ }
     ensures { λ r. ⌜ made (saidRequest r) (now (table .exit)) (now (reply .exit)) ≡ asked (now (table .entry)) (flagsOf (now (list .entry)) (requester .0)) (now (reply .entry)) requester (deciding fields) (rowOf (now (table .entry)) (fields .number .0)) ⌝ }
 {
