@@ -3,12 +3,13 @@ use mathlib.Core.Path.{_≡_, refl, sym, ap, _∙_}
 use mathlib.Core.Bool.{Bool, true, false, cond}
 use mathlib.Core.List.{List, [], _∷_, _++_}
 use Prim.Native.Nat.{ℕ, _+_, _-_, _≤_}
+use native.Mathlib.Nat.{le-trans}
 use native.Mathlib.Omega.{arith}
 use types.Run.{OneOf}
 use denote.Enum.Declared.{tagOf}
 use borrow.Rule.Slice.PartMut.{putMid}
 use lib.ListN.{length, take, drop}
-use lib.Seq.{take-length}
+use lib.Seq.{take-length, length-take-le}
 use lib.Dec.{ltb}
 use Rattle.answers.proofs.Written.{the-type}
 use Rattle.answers.specs.Writing.{made, wrote}
@@ -18,12 +19,13 @@ use Rattle.answers.proofs.Writing.{made-one, wrote-count, all-good}
 use Rattle.answers.proofs.Parts.{count-wrote, wrote-behind}
 use Rattle.packing.specs.Packing.{charsIn, readable, unpacked}
 use Rattle.packing.specs.Outcomes.{unpacking}
+use Rattle.packing.proofs.Laws.{length-unpacked-le}
 use Rattle.packing.proofs.Outcomes.{unpacking-good}
 use Rattle.numbers.specs.Numbers.{mostDigits, isNumber, digitsOf, writingDigits}
 use Rattle.rules.specs.Answers.{twoDigits}
 use Rattle.node.proofs.Texts.{counts-only}
 use Rattle.lines.specs.Program.{numeral}
-use Rattle.lines.specs.Memory.{Put}
+use Rattle.lines.specs.Memory.{Put, Text}
 
 -- ---- a text, and another behind it
 
@@ -72,3 +74,16 @@ numeral-short n = go (ltb n 10)
     go : (b : Bool) → length (cond b ((48 + n) ∷ []) (twoDigits n)) ≤ 2
     go true = omega arith
     go false = omega arith
+
+-- ---- the text of an answer
+
+pub text-count : {count : ℕ} {buffer : List ℕ} → Text count buffer → count ≡ length (take count buffer)
+text-count {count} {buffer} t = sym (length-take-le count buffer (t .within))
+
+-- room for 42 characters
+pub text-room : {count : ℕ} {buffer : List ℕ} (room : ℕ) → Text count buffer → 42 ≤ room → charsIn (length (take count buffer)) ≤ room
+unfolding charsIn
+text-room {count} {buffer} room t h = rw (length-take-le count buffer (t .within)) (omega (arith, t .short))
+
+pub text-most : {count : ℕ} {buffer : List ℕ} → Text count buffer → length (unpacked (take count buffer)) ≤ 42
+text-most {count} {buffer} t = le-trans (length-unpacked-le (take count buffer)) (text-room 42 t (omega arith))

@@ -1,9 +1,13 @@
 -- What the code's answers say, and the program in the memory that the code is lent. Assumes nothing.
 use mathlib.Core.Path.{_≡_}
-use Prim.Native.Nat.{ℕ}
+use Prim.Native.Nat.{ℕ, _≤_}
+use mathlib.Core.Bool.{true}
 use mathlib.Core.Option.{Option, none, some}
 use mathlib.Core.List.{List, _++_}
-use lib.ListN.{length, drop}
+use lib.ListN.{length, take, drop}
+use Rattle.packing.specs.Packing.{readable}
+use Rattle.numbers.specs.Numbers.{isNumber}
+use Rattle.rules.specs.Answers.{Answer, refusal, error, outcome, holder, sent, delivered, dropped, again, found, noneDue}
 use Rattle.lines.specs.declared.FieldRead.{FieldRead}
 use Rattle.lines.specs.declared.FieldRead.the-variants.{Value, Unreadable}
 use Rattle.lines.specs.declared.Line.{Line}
@@ -28,3 +32,30 @@ formIn rest line.Other = none
 pub record Put (text old new : List ℕ) (n : ℕ) : Type 0 where
   pub count : n ≡ length text
   pub buffer : new ≡ text ++ drop n old
+
+-- `##214*` number `*88*` supervisor `*#` has at most 42 characters, 37 octets
+abbrev pub mostNoticeOctets : ℕ
+mostNoticeOctets = 37
+
+-- an addressee's 15 digits, the space and 42 characters
+abbrev pub answerRoom : ℕ
+answerRoom = 58
+
+-- the first octets of a buffer are packed characters, no more than those of the longest notice
+pub record Text (count : ℕ) (buffer : List ℕ) : Type 0 where
+  pub within : count ≤ length buffer
+  pub short : count ≤ mostNoticeOctets
+  pub reads : readable (take count buffer) ≡ true
+
+-- an answer that can be printed: its octets are a text, and its addressee is a number
+abbrev pub Printable : Answer → List ℕ → Type 0
+Printable (refusal n) buffer = Unit {0}
+Printable (error n) buffer = Unit {0}
+Printable (outcome n count) buffer = Text count buffer
+Printable (holder msisdn count) buffer = Text count buffer
+Printable (sent addressee count) buffer = (isNumber addressee ≡ true) × Text count buffer
+Printable delivered buffer = Unit {0}
+Printable dropped buffer = Unit {0}
+Printable again buffer = Unit {0}
+Printable (found n) buffer = Unit {0}
+Printable noneDue buffer = Unit {0}

@@ -1,5 +1,8 @@
 // What a line of the program comes to: its form is read, carried out over the lent table and list, and what it prints is written.
 use answers::Written;
+use node::RequestAnswer;
+use node::ResultAnswer;
+use node::SendingAnswer;
 use numbers::FunctionalNumber;
 use numbers::Msisdn;
 use numbers::NumberRead;
@@ -10,10 +13,11 @@ ghost use Prim.Native.Nat.{ℕ, _+_, _^_, _≤_, _<_};
 ghost use lib.ListN.{length};
 ghost use Rattle.packing.specs.Packing.{charsIn, readable, unpacked};
 ghost use Rattle.numbers.specs.Numbers.{isNumber, digitsOf};
+ghost use Rattle.node.specs.Said.{saidRequest, saidSending, saidResult};
 ghost use Rattle.bytes.specs.Bytes.{indexOf};
 ghost use Rattle.lines.specs.Lines.{space, isDigits, numberOf, askedOf, valueBelow, numberForm, subscriberForm, requestForm, sendingForm, resultAt, resultForm, lettered};
-ghost use Rattle.lines.specs.Program.{numeral};
-ghost use Rattle.lines.specs.Memory.{valueIn, formIn, Put};
+ghost use Rattle.lines.specs.Program.{numeral, said};
+ghost use Rattle.lines.specs.Memory.{valueIn, formIn, Put, Printable, answerRoom};
 
 // Flags, and now and kind, are below these.
 const FLAGS: u64 = 4;
@@ -276,4 +280,46 @@ fn put_addressee(addressee: Msisdn, out: &mut [u8]) -> usize
         return 0;
     };
     at + put(b" ", &mut out[at..])
+}
+
+// Writes what follows an `R`.
+fn put_request_answer(answer: RequestAnswer, reply: &[u8], out: &mut [u8]) -> usize
+    requires { ⌜ Printable (saidRequest answer) (now reply) ⌝ }
+    requires { ⌜ answerRoom ≤ length (now out) ⌝ }
+    ensures { λ r. ⌜ Put (said (saidRequest answer) (now (reply .entry))) (now (out .entry)) (now (out .exit)) r ⌝ }
+{
+    match answer {
+        RequestAnswer::Refused(n) => put_numbered(b"refused ", n, out),
+        RequestAnswer::Error(n) => put_numbered(b"error ", n, out),
+        RequestAnswer::Outcome(_, count) => put_text(&reply[..count], out),
+        RequestAnswer::Held(_, count) => put_text(&reply[..count], out),
+    }
+}
+
+// Writes what follows a `T`.
+fn put_sending_answer(answer: SendingAnswer, notice: &[u8], out: &mut [u8]) -> usize
+    requires { ⌜ Printable (saidSending answer) (now notice) ⌝ }
+    requires { ⌜ answerRoom ≤ length (now out) ⌝ }
+    ensures { λ r. ⌜ Put (said (saidSending answer) (now (notice .entry))) (now (out .entry)) (now (out .exit)) r ⌝ }
+{
+    match answer {
+        SendingAnswer::Refused(n) => put_numbered(b"refused ", n, out),
+        SendingAnswer::Sent(addressee, count) => {
+            let at = put_addressee(addressee, out);
+            at + put_text(&notice[..count], &mut out[at..])
+        }
+    }
+}
+
+// Writes what follows a `D`.
+fn put_result_answer(answer: ResultAnswer, out: &mut [u8]) -> usize
+    requires { ⌜ answerRoom ≤ length (now out) ⌝ }
+    ensures { λ r. ⌜ Put (said (saidResult answer) []) (now (out .entry)) (now (out .exit)) r ⌝ }
+{
+    match answer {
+        ResultAnswer::Refused(n) => put_numbered(b"refused ", n, out),
+        ResultAnswer::Delivered => put(b"delivered", out),
+        ResultAnswer::Dropped => put(b"dropped", out),
+        ResultAnswer::Again => put(b"again", out),
+    }
 }
