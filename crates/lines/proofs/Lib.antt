@@ -3,4 +3,5 @@ pub mod Places
 pub mod Digits
 pub mod Reading
 pub mod Writing
+pub mod Printing
 pub mod Examples

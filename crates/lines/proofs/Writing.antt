@@ -3,7 +3,7 @@ use mathlib.Core.Path.{_≡_, refl, sym, ap, _∙_}
 use mathlib.Core.Bool.{Bool, true, false, cond}
 use mathlib.Core.List.{List, [], _∷_, _++_}
 use Prim.Native.Nat.{ℕ, _+_, _-_, _≤_}
-use native.Mathlib.Nat.{le-trans}
+use native.Mathlib.Nat.{le-refl, le-trans}
 use native.Mathlib.Omega.{arith}
 use types.Run.{OneOf}
 use denote.Enum.Declared.{tagOf}
@@ -77,13 +77,12 @@ numeral-short n = go (ltb n 10)
 
 -- ---- the text of an answer
 
-pub text-count : {count : ℕ} {buffer : List ℕ} → Text count buffer → count ≡ length (take count buffer)
-text-count {count} {buffer} t = sym (length-take-le count buffer (t .within))
+pub text-count : {most count : ℕ} {buffer : List ℕ} → Text most count buffer → count ≡ length (take count buffer)
+text-count {count = count} {buffer} t = sym (length-take-le count buffer (t .within))
 
--- room for 42 characters
-pub text-room : {count : ℕ} {buffer : List ℕ} (room : ℕ) → Text count buffer → 42 ≤ room → charsIn (length (take count buffer)) ≤ room
+pub text-room : {most count : ℕ} {buffer : List ℕ} (room : ℕ) → Text most count buffer → charsIn most ≤ room → charsIn (length (take count buffer)) ≤ room
 unfolding charsIn
-text-room {count} {buffer} room t h = rw (length-take-le count buffer (t .within)) (omega (arith, t .short))
+text-room {count = count} {buffer} room t h = rw (length-take-le count buffer (t .within)) (omega (arith, t .short))
 
-pub text-most : {count : ℕ} {buffer : List ℕ} → Text count buffer → length (unpacked (take count buffer)) ≤ 42
-text-most {count} {buffer} t = le-trans (length-unpacked-le (take count buffer)) (text-room 42 t (omega arith))
+pub text-most : {most count : ℕ} {buffer : List ℕ} → Text most count buffer → length (unpacked (take count buffer)) ≤ charsIn most
+text-most {most} {count} {buffer} t = le-trans (length-unpacked-le (take count buffer)) (text-room (charsIn most) t (le-refl _))

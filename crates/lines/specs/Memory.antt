@@ -33,27 +33,30 @@ pub record Put (text old new : List ℕ) (n : ℕ) : Type 0 where
   pub count : n ≡ length text
   pub buffer : new ≡ text ++ drop n old
 
--- `##214*` number `*88*` supervisor `*#` has at most 42 characters, 37 octets
-abbrev pub mostNoticeOctets : ℕ
-mostNoticeOctets = 37
-
--- an addressee's 15 digits, the space and 42 characters
+-- an addressee's 15 digits, the space and the 42 characters of the longest notice
 abbrev pub answerRoom : ℕ
 answerRoom = 58
 
--- the first octets of a buffer are packed characters, no more than those of the longest notice
-pub record Text (count : ℕ) (buffer : List ℕ) : Type 0 where
+-- the first octets of a buffer, at most so many, are packed characters
+pub record Text (most count : ℕ) (buffer : List ℕ) : Type 0 where
   pub within : count ≤ length buffer
-  pub short : count ≤ mostNoticeOctets
+  pub short : count ≤ most
   pub reads : readable (take count buffer) ≡ true
+
+-- `03`, a space and 15 digits; `##214*`, 15 digits, `*88*`, 15 digits and `*#`: 18 and 42 characters
+abbrev pub mostReplyOctets : ℕ
+mostReplyOctets = 16
+
+abbrev pub mostNoticeOctets : ℕ
+mostNoticeOctets = 37
 
 -- an answer that can be printed: its octets are a text, and its addressee is a number
 abbrev pub Printable : Answer → List ℕ → Type 0
 Printable (refusal n) buffer = Unit {0}
 Printable (error n) buffer = Unit {0}
-Printable (outcome n count) buffer = Text count buffer
-Printable (holder msisdn count) buffer = Text count buffer
-Printable (sent addressee count) buffer = (isNumber addressee ≡ true) × Text count buffer
+Printable (outcome n count) buffer = Text mostReplyOctets count buffer
+Printable (holder msisdn count) buffer = Text mostReplyOctets count buffer
+Printable (sent addressee count) buffer = (isNumber addressee ≡ true) × Text mostNoticeOctets count buffer
 Printable delivered buffer = Unit {0}
 Printable dropped buffer = Unit {0}
 Printable again buffer = Unit {0}

@@ -2,16 +2,17 @@
 use mathlib.Core.Path.{sym}
 use native.Mathlib.Omega.{arith}
 use lib.ListN.{length}
-use Rattle.lines.specs.Memory.{Text}
+use Rattle.packing.specs.Packing.{charsIn}
+use Rattle.lines.specs.Memory.{Text, mostReplyOctets}
 use Rattle.lines.proofs.Writing.{text-count, text-room}
 use borrow.Author.Needs.{needs}
 use Rattle.lines.proofs.put_request_answer.Statement.{statement}
 use Rattle.lines.proofs.put_request_answer.Tie as tie
 
-text : (c : tie.After-known-told3) → Text (c .before .answer3 .given .0 .1 .0) (c .before .before .before .before .before .args .reply .now)
+text : (c : tie.After-known-told3) → Text mostReplyOctets (c .before .answer3 .given .0 .1 .0) (c .before .before .before .before .before .args .reply .now)
 text c = rw (c .before .answer3 .given .1) at (c .before .before .before .before .before .pre .0)
 
-text-2 : (c : tie.After-known-told4) → Text (c .before .answer4 .given .0 .1 .0) (c .before .before .before .before .before .args .reply .now)
+text-2 : (c : tie.After-known-told4) → Text mostReplyOctets (c .before .answer4 .given .0 .1 .0) (c .before .before .before .before .before .args .reply .now)
 text-2 c = rw (c .before .answer4 .given .1) at (c .before .before .before .before .before .pre .0)
 
 enum-known-answer : tie.Need-enum-known-answer
@@ -39,6 +40,7 @@ slice-aggregate-put-text : tie.Need-slice-aggregate-put-text
 slice-aggregate-put-text c = text-count (text (c .before))
 
 put-text-requires : tie.Need-put-text-requires
+unfolding charsIn
 put-text-requires c κs = let t = text (c .before .before) in (t .reads, text-room _ t (omega arith))
 
 enum-known-answer-4 : tie.Need-enum-known-answer-4
@@ -48,6 +50,7 @@ slice-aggregate-put-text-2 : tie.Need-slice-aggregate-put-text-2
 slice-aggregate-put-text-2 c = text-count (text-2 (c .before))
 
 put-text-requires-2 : tie.Need-put-text-requires-2
+unfolding charsIn
 put-text-requires-2 c κs = let t = text-2 (c .before .before) in (t .reads, text-room _ t (omega arith))
 
 same-length : tie.Need-same-length

@@ -8,7 +8,8 @@ use lib.ListN.{length, length-append, length-take, length-drop}
 use Rattle.numbers.specs.Numbers.{isNumber, digitsOf}
 use Rattle.numbers.proofs.Digits.{digits-most}
 use Rattle.lines.specs.Lines.{space}
-use Rattle.lines.specs.Memory.{Text}
+use Rattle.packing.specs.Packing.{charsIn}
+use Rattle.lines.specs.Memory.{Text, mostNoticeOctets}
 use Rattle.lines.proofs.Writing.{put-behind, text-count, text-room, text-most}
 use borrow.Author.Needs.{needs}
 use Rattle.lines.proofs.put_sending_answer.Statement.{statement}
@@ -16,7 +17,7 @@ use Rattle.lines.proofs.put_sending_answer.Tie as tie
 
 sendable :
     (c : tie.After-known-told2)
-    → (isNumber (c .before .answer2 .given .0 .0 .0) ≡ true) × Text (c .before .answer2 .given .0 .1 .0) (c .before .before .before .before .before .args .notice .now)
+    → (isNumber (c .before .answer2 .given .0 .0 .0) ≡ true) × Text mostNoticeOctets (c .before .answer2 .given .0 .1 .0) (c .before .before .before .before .before .args .notice .now)
 sendable c = rw (c .before .answer2 .given .1) at (c .before .before .before .before .before .pre .0)
 
 -- an addressee's 15 digits and the space
@@ -54,9 +55,11 @@ part-put-text-end : tie.Need-part-put-text-end
 part-put-text-end c = search needs
 
 put-text-requires : tie.Need-put-text-requires
+unfolding charsIn
 put-text-requires c κs = let t = sendable (c .before .before .before .before .before .before) .1 in (t .reads, text-room _ t (simp (length-take, length-drop) (omega (arith, few (c .before .before .before .before)))))
 
 add-result : tie.Need-add-result
+unfolding charsIn
 add-result c =
     let q = c .before .before in
     let p = q .before .before .before .before .before in

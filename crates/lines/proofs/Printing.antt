@@ -1,0 +1,174 @@
+-- Every answer of a request or a sending can be printed: its octets are packed characters, and its addressee is a number. Assumes nothing.
+use mathlib.Core.Path.{_≡_, refl, sym, ap, subst, _∙_}
+use mathlib.Core.Bool.{Bool, true, false, not, cond}
+use mathlib.Core.Option.{Option, none, some}
+use mathlib.Core.List.{List, [], _∷_, _++_}
+use Prim.Native.Nat.{ℕ, zero, suc, _+_, _/_, _%_, _≤_, _<_, zero-le}
+use native.Mathlib.Nat.{le-refl, le-trans}
+use native.Mathlib.Omega.{arith}
+use lib.ListN.{length, take, drop, length-append}
+use lib.Seq.{take-append-seam}
+use lib.Dec.{ltb}
+use borrow.Author.Tests.{not-false}
+use Rattle.answers.specs.Ascii.{ascii}
+use Rattle.answers.specs.Checks.{decide}
+use Rattle.answers.proofs.Tests.{no-path}
+use Rattle.answers.proofs.Decide.{Each, decide-each}
+use Rattle.packing.specs.Packing.{octetsFor, taken, takes, packed, readable}
+use Rattle.packing.proofs.Laws.{length-packed, takes-append, takes-cons}
+use Rattle.packing.proofs.RoundTrip.{packed-reads}
+use Rattle.numbers.specs.Numbers.{isNumber, digitsUpTo, digitsOf}
+use Rattle.numbers.specs.declared.FunctionalNumber.{FunctionalNumber}
+use Rattle.numbers.specs.declared.Msisdn.{Msisdn}
+use Rattle.strings.specs.declared.Operation.{Operation}
+use Rattle.strings.specs.declared.Operation.the-variants.{Register, Erase, Interrogate}
+use Rattle.strings.specs.Text.{Request, textOf, noticeOf}
+use Rattle.strings.specs.Outcomes.{requestOf}
+use Rattle.tables.specs.declared.Found.{Found}
+use Rattle.tables.specs.declared.Found.the-variants.{At, Nothing}
+use Rattle.records.specs.declared.Notice.{Notice}
+use Rattle.records.specs.declared.Notice.the-variants.{Absent, Waiting, InFlight}
+use Rattle.records.specs.Steps.{isAbsent, isWaiting}
+use Rattle.records.specs.Rows.{recordAt}
+use Rattle.records.proofs.Rows.{record-sound}
+use Rattle.records.proofs.Kept.{pending-words}
+use Rattle.tables.specs.Tables.{tableSound, rowOf, recordOf}
+use Rattle.tables.proofs.Stored.{record-found}
+use Rattle.rules.specs.Answers.{Answer, refusal, error, outcome, holder, sent, delivered, dropped, again, found, noneDue, Outcome, made, twoDigits, holderText, over, octetCount, refusing}
+use Rattle.rules.specs.Requests as requests
+use Rattle.rules.specs.Notices as notices
+use Rattle.rules.specs.Calls.{anyHolds}
+use Rattle.rules.proofs.Visits.{none-holds, one-holds, AllPass, all-pass, found-sound, found-number}
+use Rattle.node.proofs.Texts.{takes-two}
+use Rattle.lines.specs.Memory.{Text, mostReplyOctets, mostNoticeOctets, Printable}
+
+-- ---- digits, of any word
+
+pub digits-short : (room w : ℕ) → length (digitsUpTo room w) ≤ room
+unfolding digitsUpTo
+digits-short zero w = zero-le
+digits-short (suc room) w = go (ltb w 10) (digits-short room (w / 10))
+  where
+    go : (b : Bool) → length (digitsUpTo room (w / 10)) ≤ room → length (cond b [] (digitsUpTo room (w / 10) ++ ((48 + w % 10) ∷ []))) ≤ suc room
+    go true h = zero-le
+    go false h = omega (arith, length-append (digitsUpTo room (w / 10)) ((48 + w % 10) ∷ []))
+
+takes-digits : (room w : ℕ) → takes (digitsUpTo room w) ≡ true
+unfolding digitsUpTo
+takes-digits zero w = unfold takes in refl
+takes-digits (suc room) w = go (ltb w 10) (takes-digits room (w / 10))
+  where
+    go : (b : Bool) → takes (digitsUpTo room (w / 10)) ≡ true → takes (cond b [] (digitsUpTo room (w / 10) ++ ((48 + w % 10) ∷ []))) ≡ true
+    go true h = unfold takes in refl
+    go false h = takes-append (digitsUpTo room (w / 10)) ((48 + w % 10) ∷ []) ∙ rw h (takes-cons (48 + w % 10) [] (omega arith) (λ e. omega arith) (unfold takes in refl))
+
+-- ---- a packed text at the front of a buffer
+
+text-stands : (most : ℕ) (text buffer : List ℕ) → takes text ≡ true → octetsFor (length text) ≤ most → Text most (octetCount text) (over text buffer)
+text-stands most text buffer t h = record {
+  within = omega (arith, length-append (packed text) (drop (length (packed text)) buffer));
+  short = rw length-packed h;
+  reads = rw take-append-seam (packed-reads text t);
+}
+
+-- ---- a request
+
+said-stands : (n : ℕ) (reply : List ℕ) → n < 256 → Text mostReplyOctets (octetCount (twoDigits n)) (over (twoDigits n) reply)
+unfolding octetsFor
+said-stands n reply h = text-stands mostReplyOctets (twoDigits n) reply (takes-two n h) (omega arith)
+
+held-stands : (w : ℕ) (reply : List ℕ) → Text mostReplyOctets (octetCount (holderText w)) (over (holderText w) reply)
+unfolding octetsFor takes taken digitsOf
+held-stands w reply = text-stands mostReplyOctets (holderText w) reply (takes-digits 15 w) (omega (arith, digits-short 15 w))
+
+-- what an outcome says can be printed
+abbrev Prints : Outcome → Type 0
+Prints o = Printable (o .answer) (o .buffer)
+
+module _ (table list reply : List ℕ) (requester : Msisdn) (scheme : ℕ) (string : List ℕ) where
+  carried-prints : (o : Operation) (f : Request) (i : ℕ) → Prints (requests.carriedOut o (f .erasing) requester table i reply)
+  carried-prints Register f i = said-stands 1 reply (omega arith)
+  carried-prints Erase f i = said-stands 2 reply (omega arith)
+  carried-prints Interrogate f i = held-stands _ reply
+
+  done-prints : (q : Option Request) (place : Found) → Prints (requests.carriedOutAt q place requester table reply)
+  done-prints none place = tt
+  done-prints (some f) Nothing = said-stands 41 reply (omega arith)
+  done-prints (some f) (At i) = carried-prints (f .operation) f i
+
+  pub request-prints : Prints (requests.request table list reply requester scheme string)
+  unfolding requests.requestChecks requests.request
+  request-prints =
+      decide-each Prints (requests.requestChecks table list reply requester scheme string) _
+      (tt, (tt, (tt, (tt, (tt, (tt, (tt,
+      (said-stands 42 reply (omega arith), (said-stands 22 reply (omega arith), (said-stands 41 reply (omega arith), (said-stands 67 reply (omega arith),
+      (said-stands 61 reply (omega arith), (said-stands 62 reply (omega arith), (said-stands 63 reply (omega arith), (said-stands 68 reply (omega arith), tt)))))))))))))))
+      (done-prints (requestOf string) (rowOf table (requests.numberIn (requestOf string) .0)))
+
+-- ---- a sending
+
+-- `##214*` number `*88*` supervisor `*#`, the two by their digits
+abbrev notice : List ℕ → List ℕ → List ℕ
+notice number supervisor = ascii "##214*" ++ (number ++ (ascii "*88*" ++ (supervisor ++ ascii "*#")))
+
+notice-taken : (a b : List ℕ) → takes a ≡ true → takes b ≡ true → takes (notice a b) ≡ true
+unfolding takes taken
+notice-taken a b p q = rw (takes-append a, p, takes-append b, q)
+
+notice-short : (a b : List ℕ) → length a ≤ 15 → length b ≤ 15 → octetsFor (length (notice a b)) ≤ mostNoticeOctets
+unfolding octetsFor
+notice-short a b p q = omega (arith, length-append a (ascii "*88*" ++ (b ++ ascii "*#")), length-append b (ascii "*#"))
+
+notice-stands : (number : FunctionalNumber) (supervisor : Msisdn) (buffer : List ℕ)
+    → Text mostNoticeOctets (octetCount (textOf (noticeOf number supervisor))) (over (textOf (noticeOf number supervisor)) buffer)
+unfolding textOf noticeOf digitsOf
+notice-stands number supervisor buffer =
+    text-stands mostNoticeOctets (textOf (noticeOf number supervisor)) buffer
+    (notice-taken _ _ (takes-digits 15 (number .0)) (takes-digits 15 (supervisor .0)))
+    (notice-short (digitsOf (number .0)) (digitsOf (supervisor .0)) (digits-short 15 (number .0)) (digits-short 15 (supervisor .0)))
+
+present : (n : Notice) → isWaiting n ≡ true → isAbsent n ≡ false
+present Absent h = no-path h
+present (Waiting k s) h = refl
+present (InFlight k) h = refl
+
+-- what is sent names a number
+abbrev Named : FunctionalNumber → Answer → Type 0
+Named number (refusal n) = Unit {0}
+Named number (error n) = Unit {0}
+Named number (outcome n count) = Unit {0}
+Named number (holder msisdn count) = Unit {0}
+Named number (sent addressee count) = isNumber (number .0) ≡ true
+Named number delivered = Unit {0}
+Named number dropped = Unit {0}
+Named number again = Unit {0}
+Named number (found n) = Unit {0}
+Named number noneDue = Unit {0}
+
+module _ (table buffer : List ℕ) (number : FunctionalNumber) (delay clock : ℕ) where
+  abbrev Sends : Outcome → Type 0
+  Sends o = Prints o × Named number (o .answer)
+
+  abbrev checks : List (Bool × Outcome)
+  checks = refusing table buffer (notices.sendingChecks (tableSound table) buffer (number .0) (recordOf table (number .0)) delay clock)
+
+  sent-sends : AllPass checks → (place : Found) → rowOf table (number .0) ≡ place → Sends (notices.sentAt number place table buffer)
+  sent-sends pass Nothing e = (tt, tt)
+  sent-sends pass (At i) e =
+      let sound : tableSound table ≡ true = not-false _ (pass .1 .0) in
+      let r = recordAt table i in
+      let waits : isWaiting (r .notice) ≡ true = rw (record-found table (number .0) i e) at (not-false (isWaiting (notices.noticeIn (recordOf table (number .0)))) (pass .1 .1 .1 .1 .0)) in
+      let words = pending-words r (record-sound table i (found-sound table (number .0) i sound e)) (present (r .notice) waits) in
+      ((words .addressed, notice-stands number (r .supervisor) buffer), found-number table (number .0) i sound e)
+
+  pub sending-sends : Sends (notices.sending table buffer number delay clock)
+  unfolding notices.sending
+  sending-sends = go (anyHolds checks) refl
+    where
+      done : Outcome
+      done = notices.sentAt number (rowOf table (number .0)) table buffer
+
+      go : (b : Bool) → anyHolds checks ≡ b → Sends (decide checks done)
+      go true h = rw (one-holds checks done (made (refusal 7) table buffer) h) (decide-each Sends checks (made (refusal 7) table buffer)
+          ((tt, tt), ((tt, tt), ((tt, tt), ((tt, tt), ((tt, tt), ((tt, tt), tt)))))) (tt, tt))
+      go false h = rw (none-holds checks done h) (sent-sends (all-pass checks h) (rowOf table (number .0)) refl)
