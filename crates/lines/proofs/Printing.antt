@@ -8,7 +8,7 @@ use native.Mathlib.Nat.{le-refl, le-trans}
 use native.Mathlib.Omega.{arith}
 use lib.ListN.{length, take, drop, length-append}
 use lib.Seq.{take-append-seam}
-use lib.Dec.{ltb}
+use lib.Dec.{eqb, ltb}
 use borrow.Author.Tests.{not-false}
 use Rattle.answers.specs.Ascii.{ascii}
 use Rattle.answers.specs.Checks.{decide}
@@ -81,29 +81,63 @@ held-stands : (w : ℕ) (reply : List ℕ) → Text mostReplyOctets (octetCount 
 unfolding octetsFor takes taken digitsOf
 held-stands w reply = text-stands mostReplyOctets (holderText w) reply (takes-digits 15 w) (omega (arith, digits-short 15 w))
 
--- what an outcome says can be printed
-abbrev Prints : Outcome → Type 0
-Prints o = Printable (o .answer) (o .buffer)
+abbrev pub isSent : Answer → Bool
+isSent (refusal n) = false
+isSent (error n) = false
+isSent (outcome n count) = false
+isSent (holder msisdn count) = false
+isSent (sent addressee count) = true
+isSent delivered = false
+isSent dropped = false
+isSent again = false
+isSent (found n) = false
+isSent noneDue = false
+
+-- what an outcome says can be printed, and it is not a notice sent
+abbrev pub Replies : Outcome → Type 0
+Replies o = Printable (o .answer) (o .buffer) × (isSent (o .answer) ≡ false)
+
+says : (n : ℕ) (table reply : List ℕ) → n < 256 → Replies (requests.saying n table reply)
+says n table reply h = (said-stands n reply h, refl)
 
 module _ (table list reply : List ℕ) (requester : Msisdn) (scheme : ℕ) (string : List ℕ) where
-  carried-prints : (o : Operation) (f : Request) (i : ℕ) → Prints (requests.carriedOut o (f .erasing) requester table i reply)
-  carried-prints Register f i = said-stands 1 reply (omega arith)
-  carried-prints Erase f i = said-stands 2 reply (omega arith)
-  carried-prints Interrogate f i = held-stands _ reply
+  carried-replies : (o : Operation) (f : Request) (i : ℕ) → Replies (requests.carriedOut o (f .erasing) requester table i reply)
+  carried-replies Register f i = says 1 table reply (omega arith)
+  carried-replies Erase f i = says 2 table reply (omega arith)
+  carried-replies Interrogate f i = (held-stands _ reply, refl)
 
-  done-prints : (q : Option Request) (place : Found) → Prints (requests.carriedOutAt q place requester table reply)
-  done-prints none place = tt
-  done-prints (some f) Nothing = said-stands 41 reply (omega arith)
-  done-prints (some f) (At i) = carried-prints (f .operation) f i
+  done-replies : (q : Option Request) (place : Found) → Replies (requests.carriedOutAt q place requester table reply)
+  done-replies none place = (tt, refl)
+  done-replies (some f) Nothing = says 41 table reply (omega arith)
+  done-replies (some f) (At i) = carried-replies (f .operation) f i
 
-  pub request-prints : Prints (requests.request table list reply requester scheme string)
+  pub request-replies : Replies (requests.request table list reply requester scheme string)
   unfolding requests.requestChecks requests.request
-  request-prints =
-      decide-each Prints (requests.requestChecks table list reply requester scheme string) _
-      (tt, (tt, (tt, (tt, (tt, (tt, (tt,
-      (said-stands 42 reply (omega arith), (said-stands 22 reply (omega arith), (said-stands 41 reply (omega arith), (said-stands 67 reply (omega arith),
-      (said-stands 61 reply (omega arith), (said-stands 62 reply (omega arith), (said-stands 63 reply (omega arith), (said-stands 68 reply (omega arith), tt)))))))))))))))
-      (done-prints (requestOf string) (rowOf table (requests.numberIn (requestOf string) .0)))
+  request-replies =
+      decide-each Replies (requests.requestChecks table list reply requester scheme string) _
+      ((tt, refl), ((tt, refl), ((tt, refl), ((tt, refl), ((tt, refl), ((tt, refl), ((tt, refl),
+      (says 42 table reply (omega arith), (says 22 table reply (omega arith), (says 41 table reply (omega arith), (says 67 table reply (omega arith),
+      (says 61 table reply (omega arith), (says 62 table reply (omega arith), (says 63 table reply (omega arith), (says 68 table reply (omega arith), tt)))))))))))))))
+      (done-replies (requestOf string) (rowOf table (requests.numberIn (requestOf string) .0)))
+
+-- ---- a result
+
+module _ (table : List ℕ) (number : FunctionalNumber) (kind clock : ℕ) where
+  returned-replies : (b c : Bool) → Replies (made (cond b delivered (cond c dropped again)) table [])
+  returned-replies true c = (tt, refl)
+  returned-replies false true = (tt, refl)
+  returned-replies false false = (tt, refl)
+
+  result-at-replies : (place : Found) → Replies (notices.resultAt kind clock place table)
+  result-at-replies Nothing = (tt, refl)
+  result-at-replies (At i) = returned-replies (eqb kind 0) (notices.clears kind (recordAt table i .notice))
+
+  pub result-replies : Replies (notices.result table number kind clock)
+  unfolding notices.result
+  result-replies =
+      decide-each Replies
+      (refusing table [] (notices.resultChecks (tableSound table) (number .0) (recordOf table (number .0)) kind))
+      _ ((tt, refl), ((tt, refl), ((tt, refl), ((tt, refl), tt)))) (result-at-replies (rowOf table (number .0)))
 
 -- ---- a sending
 
@@ -132,34 +166,26 @@ present Absent h = no-path h
 present (Waiting k s) h = refl
 present (InFlight k) h = refl
 
--- what is sent names a number
-abbrev Named : FunctionalNumber → Answer → Type 0
-Named number (refusal n) = Unit {0}
-Named number (error n) = Unit {0}
-Named number (outcome n count) = Unit {0}
-Named number (holder msisdn count) = Unit {0}
-Named number (sent addressee count) = isNumber (number .0) ≡ true
-Named number delivered = Unit {0}
-Named number dropped = Unit {0}
-Named number again = Unit {0}
-Named number (found n) = Unit {0}
-Named number noneDue = Unit {0}
-
 module _ (table buffer : List ℕ) (number : FunctionalNumber) (delay clock : ℕ) where
-  abbrev Sends : Outcome → Type 0
-  Sends o = Prints o × Named number (o .answer)
+  -- what an outcome says can be printed, and what is sent names a number
+  abbrev pub Sends : Outcome → Type 0
+  Sends o = Printable (o .answer) (o .buffer) × (isSent (o .answer) ≡ true → isNumber (number .0) ≡ true)
+
+  -- a refusal
+  refuses : isSent (refusal 7) ≡ true → isNumber (number .0) ≡ true
+  refuses e = no-path e
 
   abbrev checks : List (Bool × Outcome)
   checks = refusing table buffer (notices.sendingChecks (tableSound table) buffer (number .0) (recordOf table (number .0)) delay clock)
 
   sent-sends : AllPass checks → (place : Found) → rowOf table (number .0) ≡ place → Sends (notices.sentAt number place table buffer)
-  sent-sends pass Nothing e = (tt, tt)
+  sent-sends pass Nothing e = (tt, refuses)
   sent-sends pass (At i) e =
       let sound : tableSound table ≡ true = not-false _ (pass .1 .0) in
       let r = recordAt table i in
       let waits : isWaiting (r .notice) ≡ true = rw (record-found table (number .0) i e) at (not-false (isWaiting (notices.noticeIn (recordOf table (number .0)))) (pass .1 .1 .1 .1 .0)) in
       let words = pending-words r (record-sound table i (found-sound table (number .0) i sound e)) (present (r .notice) waits) in
-      ((words .addressed, notice-stands number (r .supervisor) buffer), found-number table (number .0) i sound e)
+      ((words .addressed, notice-stands number (r .supervisor) buffer), λ _. found-number table (number .0) i sound e)
 
   pub sending-sends : Sends (notices.sending table buffer number delay clock)
   unfolding notices.sending
@@ -170,5 +196,5 @@ module _ (table buffer : List ℕ) (number : FunctionalNumber) (delay clock : �
 
       go : (b : Bool) → anyHolds checks ≡ b → Sends (decide checks done)
       go true h = rw (one-holds checks done (made (refusal 7) table buffer) h) (decide-each Sends checks (made (refusal 7) table buffer)
-          ((tt, tt), ((tt, tt), ((tt, tt), ((tt, tt), ((tt, tt), ((tt, tt), tt)))))) (tt, tt))
+          ((tt, refuses), ((tt, refuses), ((tt, refuses), ((tt, refuses), ((tt, refuses), ((tt, refuses), tt)))))) (tt, refuses))
       go false h = rw (none-holds checks done h) (sent-sends (all-pass checks h) (rowOf table (number .0)) refl)
