@@ -4,4 +4,5 @@ pub mod Digits
 pub mod Reading
 pub mod Writing
 pub mod Printing
+pub mod Bounds
 pub mod Examples

@@ -40,6 +40,7 @@ use Rattle.rules.specs.Notices as notices
 use Rattle.rules.specs.Calls.{anyHolds}
 use Rattle.rules.proofs.Visits.{none-holds, one-holds, AllPass, all-pass, found-sound, found-number}
 use Rattle.node.proofs.Texts.{takes-two}
+use Rattle.lines.specs.Program.{Program, buffer, asked}
 use Rattle.lines.specs.Memory.{Text, mostReplyOctets, mostNoticeOctets, Printable}
 
 -- ---- digits, of any word
@@ -111,14 +112,52 @@ module _ (table list reply : List ℕ) (requester : Msisdn) (scheme : ℕ) (stri
   done-replies (some f) Nothing = says 41 table reply (omega arith)
   done-replies (some f) (At i) = carried-replies (f .operation) f i
 
-  pub request-replies : Replies (requests.request table list reply requester scheme string)
+  request-replies : Replies (requests.request table list reply requester scheme string)
   unfolding requests.requestChecks requests.request
   request-replies =
-      decide-each Replies (requests.requestChecks table list reply requester scheme string) _
-      ((tt, refl), ((tt, refl), ((tt, refl), ((tt, refl), ((tt, refl), ((tt, refl), ((tt, refl),
-      (says 42 table reply (omega arith), (says 22 table reply (omega arith), (says 41 table reply (omega arith), (says 67 table reply (omega arith),
-      (says 61 table reply (omega arith), (says 62 table reply (omega arith), (says 63 table reply (omega arith), (says 68 table reply (omega arith), tt)))))))))))))))
+      decide-each Replies (requests.requestChecks table list reply requester scheme string) _ (
+        (tt, refl),
+        (
+          (tt, refl),
+          (
+            (tt, refl),
+            (
+              (tt, refl),
+              (
+                (tt, refl),
+                (
+                  (tt, refl),
+                  (
+                    (tt, refl),
+                    (
+                      says 42 table reply (omega arith),
+                      (
+                        says 22 table reply (omega arith),
+                        (
+                          says 41 table reply (omega arith),
+                          (
+                            says 67 table reply (omega arith),
+                            (says 61 table reply (omega arith), (says 62 table reply (omega arith), (says 63 table reply (omega arith), (says 68 table reply (omega arith), tt)))),
+                          ),
+                        ),
+                      ),
+                    ),
+                  ),
+                ),
+              ),
+            ),
+          ),
+        ),
+      )
       (done-replies (requestOf string) (rowOf table (requests.numberIn (requestOf string) .0)))
+
+pub asked-replies : (m : Msisdn) (string : List ℕ) (p : Program) → Replies (asked m string p)
+unfolding asked
+asked-replies m string p = go (takes string)
+  where
+    go : (b : Bool) → Replies (cond b (requests.request (p .table) (p .list) buffer m requests.codingScheme (packed string)) (made (refusal 9) (p .table) buffer))
+    go true = request-replies (p .table) (p .list) buffer m requests.codingScheme (packed string)
+    go false = (tt, refl)
 
 -- ---- a result
 

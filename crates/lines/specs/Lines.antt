@@ -118,16 +118,17 @@ resultForm rest = do
   resultAt now fields
 
 -- the form by its letter
-unfoldable pub lettered : ℕ → List ℕ → Option Form
-lettered letter rest =
-    decide
-    ((eqb letter (code "N"), numberForm rest)
+abbrev pub letters : ℕ → List ℕ → List (Bool × Option Form)
+letters letter rest =
+    (eqb letter (code "N"), numberForm rest)
     ∷ (eqb letter (code "S"), subscriberForm rest)
     ∷ (eqb letter (code "R"), requestForm rest)
     ∷ (eqb letter (code "T"), sendingForm rest)
     ∷ (eqb letter (code "D"), resultForm rest)
-    ∷ [])
-    none
+    ∷ []
+
+unfoldable pub lettered : ℕ → List ℕ → Option Form
+lettered letter rest = decide (letters letter rest) none
 
 -- the form of a line: a letter, a space, and what its form asks for; "Any other line" has none
 unfoldable pub formOf : List ℕ → Option Form

@@ -43,25 +43,31 @@ abbrev pub lastKey : ℕ → List ℕ → ℕ
 lastKey width words = getD words (length words - width) 0
 
 -- "ascending as stored", and not over the limit
-abbrev pub mayFollow : ℕ → ℕ → ℕ → List ℕ → Bool
+unfoldable pub mayFollow : ℕ → ℕ → ℕ → List ℕ → Bool
 mayFollow width most key words = ltb (length words / width) most && ltb (lastKey width words) key
+
+-- "`N` number and `S` MSISDN flags fill table and list … before any `R`, `T` or `D`, and print nothing"
+abbrev pub filled : Bool → Program → Program → Effect
+filled allowed next p = cond allowed (record { prints = []; leaves = next }) (questioned p)
 
 -- a number's row, free and with no notice
 abbrev pub freeRow : FunctionalNumber → List ℕ
 freeRow n = n .0 ∷ 0 ∷ 0 ∷ 0 ∷ 0 ∷ 0 ∷ []
 
--- "`N` number and `S` MSISDN flags fill table and list … before any `R`, `T` or `D`, and print nothing"
+abbrev pub withNumber : FunctionalNumber → Program → Program
+withNumber n p = record { table = p .table ++ freeRow n; list = p .list; filling = p .filling }
+
 unfoldable pub numbered : FunctionalNumber → Program → Effect
-numbered n p =
-    cond (p .filling && mayFollow rowWords mostNumbers (n .0) (p .table))
-    (record { prints = []; leaves = record { table = p .table ++ freeRow n; list = p .list; filling = true } })
-    (questioned p)
+numbered n p = filled (p .filling && mayFollow rowWords mostNumbers (n .0) (p .table)) (withNumber n p) p
+
+abbrev pub subscriberRow : Msisdn → ℕ → List ℕ
+subscriberRow m flags = m .0 ∷ flags ∷ []
+
+abbrev pub withSubscriber : Msisdn → ℕ → Program → Program
+withSubscriber m flags p = record { table = p .table; list = p .list ++ subscriberRow m flags; filling = p .filling }
 
 unfoldable pub subscribed : Msisdn → ℕ → Program → Effect
-subscribed m flags p =
-    cond (p .filling && mayFollow subscriberWords mostSubscribers (m .0) (p .list))
-    (record { prints = []; leaves = record { table = p .table; list = p .list ++ (m .0 ∷ flags ∷ []); filling = true } })
-    (questioned p)
+subscribed m flags p = filled (p .filling && mayFollow subscriberWords mostSubscribers (m .0) (p .list)) (withSubscriber m flags p) p
 
 -- ---- answers
 
@@ -97,13 +103,14 @@ answered letter o p = record {
 abbrev pub buffer : List ℕ
 buffer = replicate bufferRoom 0
 
--- "`R` requester string (unpacked; the program packs it)", "one the packer refuses prints `R refused 9`"
+-- "the program packs it", and "one the packer refuses" is refused 9, whoever the requester is
+unfoldable pub asked : Msisdn → List ℕ → Program → Outcome
+asked m string p =
+    cond (takes string) (requests.request (p .table) (p .list) buffer m requests.codingScheme (packed string)) (made (refusal 9) (p .table) buffer)
+
+-- "`R` requester string (unpacked …) prints `R` and the reply text"
 unfoldable pub requested : Msisdn → List ℕ → Program → Effect
-requested m string p =
-    answered (code "R")
-    (cond (takes string) (requests.request (p .table) (p .list) buffer m requests.codingScheme (packed string))
-    (made (refusal 9) (p .table) buffer))
-    p
+requested m string p = answered (code "R") (asked m string p) p
 
 -- "`T` now number prints `T`, addressee, notice", with "delay 0"
 unfoldable pub dispatched : ℕ → FunctionalNumber → Program → Effect
