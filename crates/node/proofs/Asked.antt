@@ -1,18 +1,27 @@
--- What a request whose string was read comes to at each of its checks. Assumes nothing.
-use mathlib.Core.Path.{_≡_, refl}
+-- A request whose string was read: that it is asked of its number's row, and what it comes to at each of its checks. Assumes nothing.
+use mathlib.Core.Path.{_≡_, refl, sym, ap, _∙_}
 use mathlib.Core.Bool.{Bool, true, false, not, _&&_}
 use mathlib.Core.List.{List}
 use Prim.Native.Nat.{ℕ}
+use mathlib.Core.Option.{Option, none, some}
+use native.Mathlib.Omega.{arith}
 use Rattle.numbers.specs.declared.Msisdn.{Msisdn}
 use Rattle.strings.specs.Text.{Request}
+use Rattle.strings.specs.declared.Fields.{Fields}
+use Rattle.strings.specs.declared.Reading.the-variants.{Read, Unreadable}
+use Rattle.strings.specs.declared.ReadRequest.{ReadRequest}
+use Rattle.strings.specs.Outcomes.{Told, ReadOutcome, requestOf, requestIn, tell, madeRead, reading}
 use Rattle.records.specs.Rows.{rowSound, recordAt}
 use Rattle.records.proofs.Rows.{words-stored}
+use Rattle.tables.specs.Tables.{tableSound, rowOf, flagsOf}
 use Rattle.tables.specs.declared.Found.{Found}
 use Rattle.tables.specs.declared.Found.the-variants.{At, Nothing}
 use Rattle.rules.specs.Answers.{Answer, outcome, made, over, octetCount, twoDigits}
-use Rattle.rules.specs.Requests.{hasFollowMe, isForced, isSupervisor}
-use Rattle.rules.specs.Visits.{decided}
-use Rattle.node.specs.Asked.{placed, asked}
+use Rattle.rules.specs.Requests.{hasFollowMe, isForced, isSupervisor, refusalChecks, request}
+use Rattle.rules.specs.Calls.{anyHolds}
+use Rattle.rules.proofs.Visits.{request-visits, request-misses}
+use Rattle.rules.specs.Visits.{storing, decided}
+use Rattle.node.specs.Asked.{deciding, asked}
 
 module _ (t : List ℕ) (flags : ℕ) (b : List ℕ) (q : Msisdn) (f : Request) (found : Found) (sound : (i : ℕ) → found ≡ At i → rowSound t i ≡ true) (said : Answer) (after : List ℕ) where
   -- the outcome n, with the table as it was
@@ -38,5 +47,41 @@ module _ (t : List ℕ) (flags : ℕ) (b : List ℕ) (q : Msisdn) (f : Request) 
       pub says-41 : found ≡ Nothing → Says 41 → made said t after ≡ asked t flags b q f found
       says-41 e s = rw (e, allowed, may, s .0, s .1)
 
-      pub record-decides : (i : ℕ) (u : List ℕ) → found ≡ At i → made said u after ≡ placed t i (decided f q b (recordAt t i)) → made said u after ≡ asked t flags b q f found
+      pub record-decides : (i : ℕ) (u : List ℕ) → found ≡ At i → made said u after ≡ storing t i (decided f q b (recordAt t i)) → made said u after ≡ asked t flags b q f found
       record-decides i u e d = rw (e, allowed, may) d
+
+-- ---- what the reader's answer says of the string
+
+tell-none : (text : List ℕ) (o : Option Request) → Told.error 36 ≡ tell text o → o ≡ none
+tell-none text none e = refl
+tell-none text (some f) e = absurd (let z : _≡_ {A = ℕ} 0 1 = cc in omega arith)
+
+tell-some : (text : List ℕ) (o : Option Request) (f : Request) (start : ℕ) → Told.fields f start ≡ tell text o → o ≡ some f
+tell-some text none f start e = absurd (let z : _≡_ {A = ℕ} 0 1 = cc in omega arith)
+tell-some text (some g) f start e = cc
+
+module _ (os : List ℕ) (r : ReadRequest) (done : madeRead r ≡ reading os) where
+  pub not-read : r .reading ≡ Unreadable → requestOf os ≡ none
+  unfolding reading
+  not-read e = tell-none _ (requestOf os) (rw e at (ap (λ (o : ReadOutcome). o .answer) done))
+
+  pub was-read : (f : Fields) → r .reading ≡ Read f → requestOf os ≡ some (requestIn (r .text) f)
+  unfolding reading
+  was-read f e = tell-some _ (requestOf os) _ _ (rw e at (ap (λ (o : ReadOutcome). o .answer) done))
+
+-- the additional field's content is ignored
+same-asked : (t : List ℕ) (flags : ℕ) (b : List ℕ) (q : Msisdn) (text : List ℕ) (f : Fields) (found : Found) → asked t flags b q (requestIn text f) found ≡ asked t flags b q (deciding f) found
+unfolding decided
+same-asked t flags b q text f Nothing = refl
+same-asked t flags b q text f (At i) = refl
+
+-- a request that no check refuses is asked of its number's row
+pub request-asked :
+    (t list b : List ℕ) (q : Msisdn) (scheme : ℕ) (os text : List ℕ) (f : Fields) → tableSound t ≡ true
+    → anyHolds (refusalChecks true list b q scheme os) ≡ false → requestOf os ≡ some (requestIn text f)
+    → request t list b q scheme os ≡ asked t (flagsOf list (q .0)) b q (deciding f) (rowOf t (f .number .0))
+request-asked t list b q scheme os text f sound passed reads = go (rowOf t (f .number .0)) refl ∙ same-asked t (flagsOf list (q .0)) b q text f (rowOf t (f .number .0))
+  where
+    go : (o : Found) → rowOf t (f .number .0) ≡ o → request t list b q scheme os ≡ asked t (flagsOf list (q .0)) b q (requestIn text f) (rowOf t (f .number .0))
+    go Nothing e = request-misses list b q scheme os t sound (requestIn text f) passed reads e ∙ ap (asked t (flagsOf list (q .0)) b q (requestIn text f)) (sym e)
+    go (At i) e = request-visits list b q scheme os t sound (requestIn text f) passed reads i e ∙ ap (asked t (flagsOf list (q .0)) b q (requestIn text f)) (sym e)

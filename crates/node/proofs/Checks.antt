@@ -1,19 +1,25 @@
--- What a request comes to at each check with a refusal or an error, the checks before it passed. Assumes nothing.
+-- What a call comes to at each check with a refusal or an error, the checks before it passed. Assumes nothing.
 use mathlib.Core.Path.{_≡_}
 use mathlib.Core.Bool.{true, false}
 use mathlib.Core.Option.{Option, none, some}
-use mathlib.Core.List.{List}
+use mathlib.Core.List.{List, []}
 use Prim.Native.Nat.{ℕ, _≤_, _<_}
 use lib.ListN.{length}
 use borrow.Author.Tests.{lt-ltb, le-ltb, eq-eqb, ne-eqb}
 use Rattle.numbers.specs.Numbers.{isNumber}
+use Rattle.numbers.specs.declared.FunctionalNumber.{FunctionalNumber}
 use Rattle.numbers.specs.declared.Msisdn.{Msisdn}
 use Rattle.strings.specs.Text.{Request}
 use Rattle.strings.specs.Outcomes.{requestOf}
 use Rattle.tables.specs.Tables.{tableSound, listSound}
-use Rattle.rules.specs.Answers.{refusal, error, made, bufferRoom, Outcome}
+use Rattle.rules.specs.Answers.{Answer, refusal, error, made, bufferRoom, Outcome}
 use Rattle.rules.specs.Requests.{codingScheme, mostStringOctets, refusalChecks, requestChecks, request}
+use Rattle.rules.specs.Notices.{sending, result, finding, firstDue}
 use Rattle.rules.specs.Calls.{anyHolds}
+use Rattle.rules.specs.Visits.{storing, leaving, sentStep, visitSending, missedSending}
+use Rattle.records.specs.Rows.{recordAt}
+use Rattle.records.specs.Steps.{sent, delayAllowed}
+use Rattle.tables.specs.Tables.{rowsIn}
 
 module _ (table list reply : List ℕ) (requester : Msisdn) (scheme : ℕ) (string : List ℕ) where
   abbrev whole : Outcome
@@ -64,3 +70,55 @@ module _ (table list reply : List ℕ) (requester : Msisdn) (scheme : ℕ) (stri
                 pub none-refuses : (f : Request) → requestOf string ≡ some f → anyHolds (refusalChecks true list reply requester scheme string) ≡ false
                 none-refuses f read =
                     rw (le-ltb _ _ room, soundList, number, eq-eqb _ _ coded, ne-eqb _ _ some-octet, le-ltb _ _ short, read)
+
+-- ---- sendings
+
+module _ (table buffer : List ℕ) (number : FunctionalNumber) (delay clock : ℕ) where
+  pub sending-1 : length buffer < bufferRoom → sending table buffer number delay clock ≡ made (refusal 1) table buffer
+  unfolding sending
+  sending-1 short = rw (lt-ltb _ _ short)
+
+  module _ (room : bufferRoom ≤ length buffer) where
+    pub sending-2 : tableSound table ≡ false → sending table buffer number delay clock ≡ made (refusal 2) table buffer
+    unfolding sending
+    sending-2 unsound = rw (le-ltb _ _ room, unsound)
+
+    pub sending-7 : tableSound table ≡ true → isNumber (number .0) ≡ false → sending table buffer number delay clock ≡ made (refusal 7) table buffer
+    unfolding sending
+    sending-7 sound malformed = rw (le-ltb _ _ room, sound, malformed)
+
+-- with room in the buffer, the row's record decides, or the number is missing
+pub passed-visit :
+    (t : List ℕ) (i : ℕ) (b : List ℕ) (number : FunctionalNumber) (delay clock : ℕ) → bufferRoom ≤ length b
+    → storing t i (visitSending delay clock number b (recordAt t i)) ≡ storing t i (sentStep number b (recordAt t i) (sent delay clock (recordAt t i)))
+passed-visit t i b number delay clock room = rw (le-ltb _ _ room)
+
+pub passed-miss : (t b : List ℕ) → bufferRoom ≤ length b → leaving t (missedSending b) ≡ made (refusal 7) t b
+passed-miss t b room = rw (le-ltb _ _ room)
+
+-- ---- results
+
+module _ (table : List ℕ) (number : FunctionalNumber) (kind clock : ℕ) where
+  pub result-2 : tableSound table ≡ false → result table number kind clock ≡ made (refusal 2) table []
+  unfolding result
+  result-2 unsound = rw unsound
+
+  pub result-7 : tableSound table ≡ true → isNumber (number .0) ≡ false → result table number kind clock ≡ made (refusal 7) table []
+  unfolding result
+  result-7 sound malformed = rw (sound, malformed)
+
+-- ---- findings
+
+module _ (table : List ℕ) (delay clock : ℕ) where
+  pub finding-2 : tableSound table ≡ false → finding table delay clock ≡ refusal 2
+  unfolding finding
+  finding-2 unsound = rw unsound
+
+  module _ (sound : tableSound table ≡ true) where
+    pub finding-6 : delayAllowed delay ≡ false → finding table delay clock ≡ refusal 6
+    unfolding finding
+    finding-6 barred = rw (sound, barred)
+
+    pub finding-first : delayAllowed delay ≡ true → finding table delay clock ≡ firstDue table delay clock (rowsIn table) 0
+    unfolding finding
+    finding-first allowed = rw (sound, allowed)

@@ -4,3 +4,4 @@ pub mod Checks
 pub mod Texts
 pub mod Placed
 pub mod Asked
+pub mod Due

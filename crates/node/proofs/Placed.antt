@@ -1,35 +1,44 @@
 -- A step of a row's record, answered and stored; what the record decides, by the operation. Assumes nothing.
 use mathlib.Core.Path.{_≡_, refl, ap}
-use mathlib.Core.Bool.{Bool, true, false, cond}
-use mathlib.Core.List.{List}
+use mathlib.Core.Bool.{Bool, true, false, not, cond}
+use mathlib.Core.List.{List, [], _∷_}
 use Prim.Native.Nat.{ℕ}
 use native.Mathlib.Omega.{arith}
 use Rattle.numbers.specs.Numbers.{isNumber}
+use Rattle.numbers.specs.declared.FunctionalNumber.{FunctionalNumber}
 use Rattle.numbers.specs.declared.Msisdn.{Msisdn}
 use Rattle.strings.specs.declared.Operation.the-variants.{Register, Erase, Interrogate}
-use Rattle.strings.specs.Text.{Request}
+use Rattle.strings.specs.Text.{Request, textOf, noticeOf}
+use Rattle.answers.specs.Checks.{decide}
+use Rattle.answers.specs.Writing as writing
+use Rattle.answers.specs.declared.Written.the-variants.{Count}
+use Rattle.packing.specs.Packing.{packed}
+use Rattle.answers.proofs.Writing.{made-one}
+use Rattle.records.specs.declared.Notice.{Notice}
+use Rattle.records.specs.declared.Notice.the-variants.{Absent, Waiting, InFlight}
 use Rattle.records.specs.declared.Record.{Record}
 use Rattle.records.specs.declared.Step.{Step}
 use Rattle.records.specs.declared.Step.the-variants.{Stays, Becomes}
 use Rattle.records.specs.declared.Holder.{Holder}
 use Rattle.records.specs.declared.Holder.the-variants as holder
+use Rattle.records.specs.declared.Resulted.{Resulted}
+use Rattle.records.specs.declared.Resulted.the-variants.{Refused, Delivered, Dropped, Again}
 use Rattle.records.specs.Rows.{rowSound, recordSound, recordAt, stored}
-use Rattle.records.specs.Steps.{isNobody, registered, interrogated}
+use Rattle.records.specs.Steps.{isAbsent, isWaiting, isDue, isNobody, withNotice, launched, delayAllowed, registered, interrogated, sent}
 use Rattle.records.proofs.Rows.{words-stored}
-use Rattle.records.proofs.Kept.{holder-number}
-use Rattle.rules.specs.Answers.{Answer, outcome, made, over, octetCount, twoDigits}
-use Rattle.rules.specs.Visits.{Visited, visited, stepped, told, erases, decided}
-use Rattle.node.specs.Asked.{placed}
+use Rattle.records.proofs.Kept.{holder-number, pending-words}
+use Rattle.rules.specs.Answers.{Answer, outcome, refusal, sent as sends, delivered, dropped, again, made, over, octetCount, twoDigits}
+use Rattle.rules.specs.Visits.{Visited, visited, storing, stepped, told, erases, decided, sentStep, resultStep}
 
 module _ (t : List ℕ) (i k : ℕ) (b after : List ℕ) (said : Answer) (step : Step) where
   pub stays-placed :
       (n : ℕ) → rowSound t i ≡ true → step ≡ Stays n → said ≡ outcome n (octetCount (twoDigits n)) → after ≡ over (twoDigits n) b
-      → made said t after ≡ placed t i (stepped k b (recordAt t i) step)
+      → made said t after ≡ storing t i (stepped k b (recordAt t i) step)
   stays-placed n sound e s f = rw (e, s, f, words-stored t i sound)
 
   pub becomes-placed :
       (next : Record) (new : List ℕ) → step ≡ Becomes next → new ≡ stored t i next → said ≡ outcome k (octetCount (twoDigits k)) → after ≡ over (twoDigits k) b
-      → made said new after ≡ placed t i (stepped k b (recordAt t i) step)
+      → made said new after ≡ storing t i (stepped k b (recordAt t i) step)
   becomes-placed next new e g s f = rw (e, g, s, f)
 
 -- the holder that an interrogation of a sound record finds
@@ -44,13 +53,13 @@ holder-found r m sound e = go (isNobody (r .holder)) refl e
 -- what an interrogation of a row's record answers leaves the table
 pub told-placed :
     (t : List ℕ) (i : ℕ) (b after : List ℕ) (said : Answer) (r : Record) → rowSound t i ≡ true → r ≡ recordAt t i
-    → visited said after r ≡ told b r (interrogated r) → made said t after ≡ placed t i (told b (recordAt t i) (interrogated (recordAt t i)))
+    → visited said after r ≡ told b r (interrogated r) → made said t after ≡ storing t i (told b (recordAt t i) (interrogated (recordAt t i)))
 told-placed t i b after said r sound e f = rw (← e) (go (interrogated r) f)
   where
     same : stored t i r ≡ t
     same = rw e (words-stored t i sound)
 
-    go : (h : Holder) → visited said after r ≡ told b r h → made said t after ≡ placed t i (told b r h)
+    go : (h : Holder) → visited said after r ≡ told b r h → made said t after ≡ storing t i (told b r h)
     go (holder.Stays n) g = rw (same) (ap (λ (v : Visited). made (v .reply .answer) t (v .reply .buffer)) g)
     go (holder.Held m) g = rw (same) (ap (λ (v : Visited). made (v .reply .answer) t (v .reply .buffer)) g)
 
@@ -66,3 +75,45 @@ module _ (f : Request) (requester : Msisdn) (b : List ℕ) (r : Record) where
   pub decided-interrogate : f .operation ≡ Interrogate → decided f requester b r ≡ told b r (interrogated r)
   unfolding decided
   decided-interrogate e = rw e
+
+-- a result's step, returned and stored
+module _ (t : List ℕ) (i : ℕ) (step : Resulted) where
+  pub result-refused : (n : ℕ) → rowSound t i ≡ true → step ≡ Refused n → made (refusal n) t [] ≡ storing t i (resultStep (recordAt t i) step)
+  result-refused n sound e = rw (e, words-stored t i sound)
+
+  module _ (next : Record) (new : List ℕ) (stores : new ≡ stored t i next) where
+    pub result-delivered : step ≡ Delivered next → made delivered new [] ≡ storing t i (resultStep (recordAt t i) step)
+    result-delivered e = rw (e, stores)
+
+    pub result-dropped : step ≡ Dropped next → made dropped new [] ≡ storing t i (resultStep (recordAt t i) step)
+    result-dropped e = rw (e, stores)
+
+    pub result-again : step ≡ Again next → made again new [] ≡ storing t i (resultStep (recordAt t i) step)
+    result-again e = rw (e, stores)
+
+-- a notice that is sent has a supervisor
+pub sent-supervisor : (delay clock : ℕ) (r next : Record) → recordSound r ≡ true → sent delay clock r ≡ Becomes next → isNumber (r .supervisor .0) ≡ true
+unfolding sent
+sent-supervisor delay clock r next sound e = pending-words r sound (go (delayAllowed delay) (r .notice) e) .supervised
+  where
+    go : (a : Bool) (n : Notice)
+        → decide ((not a, Stays 6) ∷ (not (isWaiting n), Stays 4) ∷ (not (isDue delay clock n), Stays 5) ∷ []) (Becomes (withNotice (launched n) r)) ≡ Becomes next
+        → isAbsent n ≡ false
+    go false n f = absurd (let z : _≡_ {A = ℕ} 0 1 = cc in omega arith)
+    go true Absent f = absurd (let z : _≡_ {A = ℕ} 0 1 = cc in omega arith)
+    go true (Waiting k s) f = refl
+    go true (InFlight k) f = refl
+
+-- a sending's step, returned and stored
+module _ (t : List ℕ) (i : ℕ) (b : List ℕ) (number : FunctionalNumber) (step : Step) where
+  pub sending-refused : (n : ℕ) → rowSound t i ≡ true → step ≡ Stays n → made (refusal n) t b ≡ storing t i (sentStep number b (recordAt t i) step)
+  sending-refused n sound e = rw (e, words-stored t i sound)
+
+  pub sending-placed :
+      (next r : Record) (new after : List ℕ) (octets : ℕ) → step ≡ Becomes next → r ≡ recordAt t i → new ≡ stored t i next
+      → writing.made (Count octets) after ≡ writing.wrote (packed (textOf (noticeOf number (r .supervisor)))) b
+      → made (sends (r .addressee .0) octets) new after ≡ storing t i (sentStep number b (recordAt t i) step)
+  sending-placed next r new after octets e same stores wrote =
+      let w = made-one (Count octets) (Count (octetCount (textOf (noticeOf number (r .supervisor))))) after (over (textOf (noticeOf number (r .supervisor))) b) wrote refl in
+      let n : octets ≡ octetCount (textOf (noticeOf number (r .supervisor))) = cc (w .0) in
+      rw (e, ← same, stores, w .1, n)

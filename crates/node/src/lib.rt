@@ -4,24 +4,29 @@ use numbers::FunctionalNumber;
 use numbers::Msisdn;
 use records::Holder;
 use records::Record;
+use records::Resulted;
 use records::Step;
 use strings::Erasing;
 use strings::Fields;
 use strings::Operation;
+use strings::Reading;
 use tables::Found;
 ghost use mathlib.Core.Path.{_≡_};
 ghost use mathlib.Core.Bool.{true, not, _&&_};
+ghost use mathlib.Core.List.{[]};
 ghost use Prim.Native.Nat.{_≤_, _<_};
 ghost use lib.ListN.{length};
 ghost use Rattle.packing.specs.Packing.{takes, octetsFor};
 ghost use Rattle.numbers.specs.Numbers.{isNumber};
-ghost use Rattle.records.specs.Steps.{interrogated};
+ghost use Rattle.records.specs.Steps.{interrogated, sent, isDue};
 ghost use Rattle.records.specs.Rows.{recordAt, rowSound, recordSound};
 ghost use Rattle.tables.specs.Tables.{tableSound, listSound, rowsIn, rowOf, flagsOf};
 ghost use Rattle.rules.specs.Answers.{made, outcome, holder, bufferRoom, over, octetCount, twoDigits, holderText};
 ghost use Rattle.rules.specs.Requests.{isForced, isSupervisor};
-ghost use Rattle.rules.specs.Visits.{visited, stepped, told, erases, decided};
-ghost use Rattle.node.specs.Asked.{placed, deciding, asked};
+ghost use Rattle.rules.specs.Requests as requests;
+ghost use Rattle.rules.specs.Notices as notices;
+ghost use Rattle.rules.specs.Visits.{visited, storing, stepped, told, erases, decided, sentStep, visitResult};
+ghost use Rattle.node.specs.Asked.{deciding, asked};
 ghost use Rattle.node.specs.Said.{saidRequest, saidSending, saidResult, saidFinding};
 
 // The answer to a request: a refusal, an error or an outcome by its number, an outcome with its octet count; 03 with the holder.
@@ -104,7 +109,7 @@ fn tell(msisdn: Msisdn, reply: &mut [u8]) -> RequestAnswer
 // A step of the record of a row: what stays answers by its own number, what becomes the next record by `success`.
 fn settle(table: &mut [u64], row: usize, reply: &mut [u8], success: u8, step: Step) -> RequestAnswer
     requires { ⌜ (row < rowsIn (now table)) × (rowSound (now table) row ≡ true) × (bufferRoom ≤ length (now reply)) ⌝ }
-    ensures { λ r. ⌜ made (saidRequest r) (now (table .exit)) (now (reply .exit)) ≡ placed (now (table .entry)) row (stepped success (now (reply .entry)) (recordAt (now (table .entry)) row) step) ⌝ }
+    ensures { λ r. ⌜ made (saidRequest r) (now (table .exit)) (now (reply .exit)) ≡ storing (now (table .entry)) row (stepped success (now (reply .entry)) (recordAt (now (table .entry)) row) step) ⌝ }
 {
     match step {
         Step::Stays(n) => say(n, reply),
@@ -146,7 +151,7 @@ fn decide_at(
     fields: Fields,
 ) -> RequestAnswer
     requires { ⌜ (row < rowsIn (now table)) × (rowSound (now table) row ≡ true) × (bufferRoom ≤ length (now reply)) ⌝ }
-    ensures { λ r. ⌜ made (saidRequest r) (now (table .exit)) (now (reply .exit)) ≡ placed (now (table .entry)) row (decided (deciding fields) requester (now (reply .entry)) (recordAt (now (table .entry)) row)) ⌝ }
+    ensures { λ r. ⌜ made (saidRequest r) (now (table .exit)) (now (reply .exit)) ≡ storing (now (table .entry)) row (decided (deciding fields) requester (now (reply .entry)) (recordAt (now (table .entry)) row)) ⌝ }
 {
     let record = records::load(table, row);
     let operation = fields.operation;
@@ -200,4 +205,178 @@ fn ask(
         return say(41, reply);
     };
     decide_at(table, row, reply, requester, fields)
+}
+
+// A request: the checks with a refusal or an error, in document 01's order, and what its string asks for.
+pub fn request(
+    table: &mut [u64],
+    list: &[u64],
+    reply: &mut [u8],
+    requester: Msisdn,
+    scheme: u8,
+    string: &[u8],
+) -> RequestAnswer
+    ensures { λ r. ⌜ made (saidRequest r) (now (table .exit)) (now (reply .exit)) ≡ requests.request (now (table .entry)) (now (list .entry)) (now (reply .entry)) requester scheme (now (string .entry)) ⌝ }
+{
+    if reply.len() < BUFFER_ROOM {
+        return RequestAnswer::Refused(1);
+    }
+    if !tables::list_sound(list) {
+        return RequestAnswer::Refused(8);
+    }
+    if !tables::table_sound(table) {
+        return RequestAnswer::Refused(2);
+    }
+    if !numbers::is_number(requester.0) {
+        return RequestAnswer::Error(35);
+    }
+    if scheme != CODING_SCHEME {
+        return RequestAnswer::Error(71);
+    }
+    if string.len() == 0 {
+        return RequestAnswer::Error(35);
+    }
+    if MOST_STRING_OCTETS < string.len() {
+        return RequestAnswer::Error(36);
+    }
+    let read = strings::read_request(string);
+    let reading = read.reading;
+    let Reading::Read(fields) = reading else {
+        return RequestAnswer::Error(36);
+    };
+    ask(table, list, reply, requester, fields)
+}
+
+// A sending of the notice of the record of a row.
+fn send_at(
+    table: &mut [u64],
+    row: usize,
+    buffer: &mut [u8],
+    number: FunctionalNumber,
+    delay: u32,
+    clock: u32,
+) -> SendingAnswer
+    requires { ⌜ (row < rowsIn (now table)) × (rowSound (now table) row ≡ true) ⌝ }
+    requires { ⌜ (isNumber (number .0) ≡ true) × (bufferRoom ≤ length (now buffer)) ⌝ }
+    ensures { λ r. ⌜ made (saidSending r) (now (table .exit)) (now (buffer .exit)) ≡ storing (now (table .entry)) row (sentStep number (now (buffer .entry)) (recordAt (now (table .entry)) row) (sent delay clock (recordAt (now (table .entry)) row))) ⌝ }
+{
+    let held = records::load(table, row);
+    let step = held.send(delay, clock);
+    match step {
+        Step::Stays(n) => SendingAnswer::Refused(n),
+        Step::Becomes(next) => {
+            records::store(table, row, next);
+            let addressee = held.addressee;
+            let supervisor = held.supervisor;
+            let octets = strings::write_notice(number, supervisor, buffer);
+            SendingAnswer::Sent(addressee, octets)
+        }
+    }
+}
+
+// A sending names a number.
+pub fn sending(
+    table: &mut [u64],
+    buffer: &mut [u8],
+    number: FunctionalNumber,
+    delay: u32,
+    clock: u32,
+) -> SendingAnswer
+    ensures { λ r. ⌜ made (saidSending r) (now (table .exit)) (now (buffer .exit)) ≡ notices.sending (now (table .entry)) (now (buffer .entry)) number delay clock ⌝ }
+{
+    if buffer.len() < BUFFER_ROOM {
+        return SendingAnswer::Refused(1);
+    }
+    if !tables::table_sound(table) {
+        return SendingAnswer::Refused(2);
+    }
+    if !numbers::is_number(number.0) {
+        return SendingAnswer::Refused(7);
+    }
+    let found = tables::row_of(table, number);
+    let Found::At(row) = found else {
+        return SendingAnswer::Refused(7);
+    };
+    send_at(table, row, buffer, number, delay, clock)
+}
+
+// The result of a sending, for the notice of the record of a row.
+fn result_at(table: &mut [u64], row: usize, kind: u32, clock: u32) -> ResultAnswer
+    requires { ⌜ (row < rowsIn (now table)) × (rowSound (now table) row ≡ true) ⌝ }
+    ensures { λ r. ⌜ made (saidResult r) (now (table .exit)) [] ≡ storing (now (table .entry)) row (visitResult kind clock (recordAt (now (table .entry)) row)) ⌝ }
+{
+    let held = records::load(table, row);
+    let step = held.result(kind, clock);
+    match step {
+        Resulted::Refused(n) => ResultAnswer::Refused(n),
+        Resulted::Delivered(next) => {
+            records::store(table, row, next);
+            ResultAnswer::Delivered
+        }
+        Resulted::Dropped(next) => {
+            records::store(table, row, next);
+            ResultAnswer::Dropped
+        }
+        Resulted::Again(next) => {
+            records::store(table, row, next);
+            ResultAnswer::Again
+        }
+    }
+}
+
+// A result names a number and a kind.
+pub fn result(table: &mut [u64], number: FunctionalNumber, kind: u32, clock: u32) -> ResultAnswer
+    ensures { λ r. ⌜ made (saidResult r) (now (table .exit)) [] ≡ notices.result (now (table .entry)) number kind clock ⌝ }
+{
+    if !tables::table_sound(table) {
+        return ResultAnswer::Refused(2);
+    }
+    if !numbers::is_number(number.0) {
+        return ResultAnswer::Refused(7);
+    }
+    let found = tables::row_of(table, number);
+    let Found::At(row) = found else {
+        return ResultAnswer::Refused(7);
+    };
+    result_at(table, row, kind, clock)
+}
+
+// Whether the notice in a sound row is due.
+fn row_due(table: &[u64], row: usize, delay: u32, clock: u32) -> bool
+    requires { ⌜ (row < rowsIn (now table)) × (rowSound (now table) row ≡ true) ⌝ }
+    ensures { λ r. ⌜ r ≡ isDue delay clock (recordAt (now (table .entry)) row .notice) ⌝ }
+{
+    let held = records::load(table, row);
+    let notice = held.notice;
+    records::is_due(delay, clock, notice)
+}
+
+// The lowest number whose notice is due.
+fn first_due(table: &[u64], delay: u32, clock: u32) -> FindingAnswer
+    requires { ⌜ tableSound (now table) ≡ true ⌝ }
+    ensures { λ r. ⌜ saidFinding r ≡ notices.firstDue (now (table .entry)) delay clock (rowsIn (now (table .entry))) 0 ⌝ }
+{
+    let rows = table.len() / records::ROW_WORDS;
+    let mut row = 0;
+    while row < rows {
+        if row_due(table, row, delay, clock) {
+            let number = FunctionalNumber(table[records::ROW_WORDS * row]);
+            return FindingAnswer::Due(number);
+        }
+        row += 1;
+    }
+    FindingAnswer::NoneDue
+}
+
+// The lowest due number, if one is due.
+pub fn finding(table: &[u64], delay: u32, clock: u32) -> FindingAnswer
+    ensures { λ r. ⌜ saidFinding r ≡ notices.finding (now (table .entry)) delay clock ⌝ }
+{
+    if !tables::table_sound(table) {
+        return FindingAnswer::Refused(2);
+    }
+    if !records::delay_allowed(delay) {
+        return FindingAnswer::Refused(6);
+    }
+    first_due(table, delay, clock)
 }

@@ -1,12 +1,12 @@
 -- What a sound record says of its holder and its notice; and each step gives a sound record back. Assumes nothing.
 use mathlib.Core.Path.{_≡_, refl, sym, ap, _∙_}
-use mathlib.Core.Logic.{_⊎_, inl, inr, ⊎-elim}
+use mathlib.Core.Logic.{_⊎_, ⊎-elim}
 use mathlib.Core.Bool.{Bool, true, false, cond, not, _&&_, _||_}
 use Prim.Native.Nat.{ℕ, _+_, _*_, _%_, _^_, _≤_, _<_}
 use native.Mathlib.Omega.{arith}
 use lib.Dec.{eqb, ltb, leb}
-use borrow.Author.Tests.{eq-eqb, eqb-true, le-leb, leb-true, leb-false, not-false}
-use Rattle.answers.proofs.Tests.{no-path, and-both, or-cases, or-right}
+use borrow.Author.Tests.{eq-eqb, le-leb, leb-true, leb-false, not-false}
+use Rattle.answers.proofs.Tests.{no-path, or-cases, or-right}
 use Rattle.numbers.specs.Numbers.{isNumber}
 use Rattle.numbers.specs.declared.FunctionalNumber.{FunctionalNumber}
 use Rattle.numbers.specs.declared.Msisdn.{Msisdn}
@@ -20,7 +20,7 @@ use Rattle.records.specs.declared.Resulted.the-variants.{Refused, Delive
 use Rattle.records.specs.Steps.{nobody, isNobody, same, heldBy, mostSendings, isAbsent, isWaiting, isInFlight, sendingsDone, withNotice, cleared, forcedOff, registered, erased, forced, delayAllowed, isDue, launched, sent, lastKind, resulted}
 use Rattle.records.specs.Rows.{failedOnce, holderSound, noticeSound, phaseOf, secondOf, sentOnce, recordSound}
 use Rattle.records.proofs.Notices.{Pending, pending, pending-sound}
-use Rattle.records.proofs.Rows.{SoundRecord, sound-record, record-is-sound}
+use Rattle.records.proofs.Rows.{sound-record, record-is-sound}
 
 -- ---- what a sound record says
 

@@ -1,4 +1,5 @@
--- `Arms`: what a failed `let .. else` says of a notice.
+-- `Arms`: what a failed `let .. else` says of a notice. `Notices`: the words of a sound notice, its phase and its second.
+-- `Stores`: what a run of stores leaves. `Rows`: a row and its record. `Kept`: each step gives a sound record back.
 pub mod Arms
 pub mod Notices
 pub mod Stores

@@ -1,16 +1,16 @@
 -- A row and its record: each is known by the other, and a stored record leaves all else in the table. Assumes nothing.
 use mathlib.Core.Path.{_≡_, refl, sym, ap, _∙_}
 use mathlib.Core.Logic.{_⊎_, inl, inr, ⊎-elim}
-use mathlib.Core.Bool.{Bool, true, _&&_}
+use mathlib.Core.Bool.{true}
 use mathlib.Core.List.{List}
 use Prim.Native.Nat.{ℕ, zero, suc, _+_, _*_, _/_, _≤_, _<_}
 use native.Mathlib.Omega.{arith}
 use lib.ListN.{length, getD, set}
-use lib.Seq.{sets, length-sets}
+use lib.Seq.{length-sets}
 use Rattle.answers.proofs.Tests.{and-three, less-or-not}
 use Rattle.numbers.specs.Numbers.{isNumber}
 use Rattle.records.specs.declared.Record.{Record}
-use Rattle.records.specs.Rows.{rowWords, word, numberAt, holderAt, phaseAt, addresseeAt, supervisorAt, secondAt, holderSound, noticeSound, rowSound, noticeOf, phaseOf, secondOf, recordAt, wordsOf, stored, sentOnce, recordSound}
+use Rattle.records.specs.Rows.{rowWords, word, numberAt, holderAt, phaseAt, addresseeAt, supervisorAt, secondAt, holderSound, noticeSound, rowSound, phaseOf, secondOf, recordAt, wordsOf, stored, sentOnce, recordSound}
 use Rattle.records.proofs.Notices.{phase-back, second-back, once-back, notice-back}
 use Rattle.records.proofs.Stores.{sets-other, sets-at, sets-same}
 

@@ -1,7 +1,7 @@
 -- What happens to one number's record: "A call takes one number's record and gives the next record back". Each step is a list of checks in document 01's order, and the next record. Assumes nothing.
 use Prim.Native.Nat.{ℕ, _+_, _-_, _%_, _^_}
 use mathlib.Core.Bool.{Bool, true, false, cond, not, _&&_, _||_}
-use mathlib.Core.List.{List, [], _∷_}
+use mathlib.Core.List.{[], _∷_}
 use lib.Dec.{eqb, ltb, leb}
 use Rattle.answers.specs.Checks.{decide}
 use Rattle.numbers.specs.declared.FunctionalNumber.{FunctionalNumber}

@@ -59,7 +59,7 @@ const MOST_SENDINGS: u8 = 5;
 const LAST_KIND: u32 = 5;
 
 // "Even 2k (2 to 10): in flight, k done".
-const LAST_PHASE: u64 = 10;
+const LAST_PHASE: u64 = 2 * (MOST_SENDINGS as u64);
 
 // "The last word is below 2^32".
 const SECONDS: u64 = 4294967296;
@@ -185,11 +185,11 @@ impl Record {
     pub fn register(self, number: FunctionalNumber, requester: Msisdn) -> Step
         ensures { λ r. ⌜ r ≡ registered number requester self ⌝ }
     {
-        let holder = self.holder;
+        let holder = self.holder.0;
         if number.0 == requester.0 {
             return Step::Stays(67);
         }
-        if (holder.0 != 0) & (holder.0 != requester.0) {
+        if (holder != 0) & (holder != requester.0) {
             return Step::Stays(61);
         }
         Step::Becomes(self.held_by(requester))
@@ -198,33 +198,31 @@ impl Record {
     pub fn erase(self, requester: Msisdn) -> Step
         ensures { λ r. ⌜ r ≡ erased requester self ⌝ }
     {
-        let holder = self.holder;
-        let nobody = Msisdn(0);
-        if holder.0 == 0 {
+        let holder = self.holder.0;
+        if holder == 0 {
             return Step::Stays(62);
         }
-        if holder.0 != requester.0 {
+        if holder != requester.0 {
             return Step::Stays(63);
         }
-        Step::Becomes(self.held_by(nobody))
+        Step::Becomes(self.held_by(Msisdn(0)))
     }
 
     // A supervisor forces off the holder whom she names; there is no notice to herself.
     pub fn force(self, supervisor: Msisdn, named: Msisdn) -> Step
         ensures { λ r. ⌜ r ≡ forced supervisor named self ⌝ }
     {
-        let holder = self.holder;
-        let notice = self.notice;
-        let nobody = Msisdn(0);
-        if holder.0 == 0 {
+        let holder = self.holder.0;
+        if holder == 0 {
             return Step::Stays(62);
         }
-        if holder.0 != named.0 {
+        if holder != named.0 {
             return Step::Stays(63);
         }
-        if holder.0 == supervisor.0 {
-            return Step::Becomes(self.held_by(nobody));
+        if holder == supervisor.0 {
+            return Step::Becomes(self.held_by(Msisdn(0)));
         }
+        let notice = self.notice;
         let Notice::Absent = notice else {
             return Step::Stays(68);
         };
@@ -245,10 +243,10 @@ impl Record {
         requires { ⌜ recordSound self ≡ true ⌝ }
         ensures { λ r. ⌜ r ≡ sent delay clock self ⌝ }
     {
-        let notice = self.notice;
         if !delay_allowed(delay) {
             return Step::Stays(6);
         }
+        let notice = self.notice;
         let Notice::Waiting(sendings, _) = notice else {
             return Step::Stays(4);
         };
@@ -261,21 +259,22 @@ impl Record {
     pub fn result(self, kind: u32, clock: u32) -> Resulted
         ensures { λ r. ⌜ r ≡ resulted kind clock self ⌝ }
     {
-        let notice = self.notice;
         if LAST_KIND < kind {
             return Resulted::Refused(3);
         }
+        let notice = self.notice;
         let Notice::InFlight(sendings) = notice else {
             return Resulted::Refused(4);
         };
+        let ended = self.cleared();
         if kind == 0 {
-            return Resulted::Delivered(self.cleared());
+            return Resulted::Delivered(ended);
         }
         if kind < LAST_KIND {
-            return Resulted::Dropped(self.cleared());
+            return Resulted::Dropped(ended);
         }
         if MOST_SENDINGS <= sendings {
-            return Resulted::Dropped(self.cleared());
+            return Resulted::Dropped(ended);
         }
         Resulted::Again(self.with_notice(Notice::Waiting(sendings, clock)))
     }

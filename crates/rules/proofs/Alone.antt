@@ -5,8 +5,8 @@ use mathlib.Core.List.{List, [], _∷_}
 use Prim.Native.Nat.{ℕ}
 use Rattle.rules.specs.Run.{end, log, only, Local}
 
-module _ {C A S O : Type 0} (step : C → S → A × S) (names : C → ℕ → Bool) (look : ℕ → S → O) (Inv : S → Type 0) (local : Local step names look Inv)
-    (single : (c : C) (j k : ℕ) → names c k ≡ true → names c j ≡ true → j ≡ k) (k : ℕ) where
+module _ {C A S O : Type 0} (step : C → S → A × S) (names : C → ℕ → Bool) (look : ℕ → S → O) (Inv : S → Type 0)
+    (local : Local step names look Inv) (single : (c : C) (j k : ℕ) → names c k ≡ true → names c j ≡ true → j ≡ k) (k : ℕ) where
   abbrev mine : C → Bool
   mine c = names c k
 

@@ -1,4 +1,4 @@
--- Demand 3 holds of every sound table, for any subscriber list and any delay: one that is unsound or not permitted has every call refused alike. Assumes nothing.
+-- Demand 3 holds of every sound table. It asks nothing of the subscriber list and the delay: it holds also where the list is unsound or the delay is not permitted. Assumes nothing.
 use mathlib.Core.Path.{_≡_, refl, sym, ap, _∙_}
 use mathlib.Core.Bool.{true}
 use mathlib.Core.Option.{Option}

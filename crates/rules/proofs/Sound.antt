@@ -1,15 +1,15 @@
 -- A call over a sound table leaves a sound table, with the same numbers in the same rows; and what it does to the records. Assumes nothing.
 use mathlib.Core.Path.{_≡_, refl, sym, ap, _∙_}
-use mathlib.Core.Bool.{true, false, not, _&&_}
+use mathlib.Core.Bool.{true, false}
 use mathlib.Core.Option.{Option, none, some}
-use mathlib.Core.List.{List, [], _∷_}
+use mathlib.Core.List.{List, [], _∷_, map}
 use Prim.Native.Nat.{ℕ, _<_}
 use native.Mathlib.Omega.{arith}
 use lib.ListN.{length}
 use lib.Dec.{ltb}
 use borrow.Author.Tests.{eqb-false}
 use Rattle.answers.proofs.Checks.{not-some}
-use Rattle.answers.proofs.Decide.{decide-each}
+use Rattle.answers.proofs.Decide.{answering, decide-each}
 use Rattle.numbers.specs.Numbers.{isNumber}
 use Rattle.numbers.specs.declared.FunctionalNumber.{FunctionalNumber}
 use Rattle.numbers.specs.declared.Msisdn.{Msisdn}
@@ -35,11 +35,10 @@ use Rattle.tables.specs.declared.Found.the-variants.{At, Nothing}
 use Rattle.tables.specs.Tables.{tableSound, rowOf, recordFound, recordOf, rowsIn, flagsOf}
 use Rattle.tables.proofs.Stored.{row-found, own-record, other-record, table-stored}
 use Rattle.rules.specs.Answers.{refusal, bufferRoom}
-use Rattle.rules.specs.Requests.{hasFollowMe, isForced, isSupervisor}
 use Rattle.rules.specs.Run.{end}
 use Rattle.rules.specs.Calls.{Call, request, sending, result, Reply, reading, call, nameOf, isNamed, names}
 use Rattle.rules.specs.Visits.{Visited, visited, says, stepped, told, decides, decided, sentStep, resultStep, visitRequest, visit, missed}
-use Rattle.rules.proofs.Visits.{found-sound, requester-number, call-visits, call-misses, call-stops}
+use Rattle.rules.proofs.Visits.{found-sound, rightChecks, requester-number, call-visits, call-misses, call-stops}
 
 -- ---- a visit leaves a sound record
 
@@ -77,9 +76,8 @@ module _ (r : Record) (sound : recordSound r ≡ true) where
   unfolding decided
   request-sound flags requester reply none n = sound
   request-sound flags requester reply (some f) n =
-      decide-each SoundVisit
-      ((not (hasFollowMe flags), says 42 reply r) ∷ (isForced (f .erasing) && not (isSupervisor flags), says 22 reply r) ∷ [])
-      (decided f requester reply r) (sound, (sound, tt)) (decides-sound (f .operation) (f .erasing) (f .number) requester reply n)
+      decide-each SoundVisit (map (answering (λ n. says n reply r)) (rightChecks flags (f .erasing))) (decided f requester reply r) (sound, (sound, tt))
+      (decides-sound (f .operation) (f .erasing) (f .number) requester reply n)
 
   -- a call that names a number leaves that number's record sound
   pub visit-sound : (list : List ℕ) (delay : ℕ) (c : Call) (k : ℕ) → nameOf list c ≡ some k → SoundVisit (visit list delay c r)

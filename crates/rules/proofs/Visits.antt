@@ -11,7 +11,7 @@ use Rattle.answers.specs.Checks.{decide, isNone}
 use Rattle.answers.proofs.Tests.{no-path, or-neither, or-right}
 use Rattle.answers.proofs.Checks.{not-some}
 use Rattle.answers.proofs.Decide.{chosen, answering, decide-of}
-use Rattle.packing.specs.Packing.{readable, unpacked}
+use Rattle.packing.specs.Packing.{unpacked}
 use Rattle.numbers.specs.Numbers.{isNumber}
 use Rattle.numbers.specs.declared.FunctionalNumber.{FunctionalNumber}
 use Rattle.numbers.specs.declared.Msisdn.{Msisdn}
@@ -20,10 +20,10 @@ use Rattle.strings.specs.declared.Operation.the-variants.{Register, Erase, Inte
 use Rattle.strings.specs.declared.Erasing.{Erasing}
 use Rattle.strings.specs.declared.Erasing.the-variants.{Empty, Forced}
 use Rattle.strings.specs.Text.{Request, erasingSound}
-use Rattle.strings.specs.Reader.{fieldsOf}
 use Rattle.strings.specs.Outcomes.{requestOf}
 use Rattle.strings.proofs.Text.{sound-rules}
 use Rattle.strings.proofs.ReadBack.{read-only}
+use Rattle.strings.proofs.Octets.{request-reads}
 use Rattle.records.specs.declared.Notice.the-variants.{Waiting}
 use Rattle.records.specs.declared.Record.{Record}
 use Rattle.records.specs.declared.Step.the-variants as step
@@ -92,12 +92,7 @@ module _ (t : List ℕ) (k i : ℕ) (sound : tableSound t ≡ true) (e : rowOf t
 
 -- what was read keeps the string's rules
 read-sound : (string : List ℕ) (f : Request) → requestOf string ≡ some f → erasingSound (f .operation) (f .erasing) ≡ true
-unfolding requestOf
-read-sound string f e = go (readable string) e
-  where
-    go : (b : Bool) → cond b (fieldsOf (unpacked string)) none ≡ some f → erasingSound (f .operation) (f .erasing) ≡ true
-    go true e = sound-rules f (read-only (unpacked string) e .0) .erasing
-    go false e = not-some e
+read-sound string f e = sound-rules f (read-only (unpacked string) (request-reads string e .1) .0) .erasing
 
 -- the rows of the table with an outcome, and what is done: by the fields read and the place of their number
 abbrev outcomes : List ℕ → List ℕ → List ℕ → Msisdn → Option Request → Found → Outcome

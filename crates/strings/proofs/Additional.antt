@@ -8,7 +8,7 @@ use native.Mathlib.Numerals.{add-one}
 use native.Mathlib.Omega.{arith}
 use lib.ListN.{length, getD, take, drop, take-append-drop, length-append, length-drop, drop-of-length-le}
 use lib.Seq.{drop-cons, length-take-le, drop-append-seam, take-append-seam}
-use lib.Dec.{leb, eqb}
+use lib.Dec.{leb, eqb, eqb·suc-suc, eqb·zero-suc}
 use borrow.Author.Tests.{eqb-true, eq-eqb, ne-eqb, le-leb, lt-leb}
 use Rattle.answers.proofs.Tests.{and-left, and-right, and-both}
 use Rattle.answers.proofs.Checks.{onlyIf-some}
@@ -30,6 +30,16 @@ leading-are (c ∷ s) = go (isAdditional c) refl (leading-are s)
     go : (b : Bool) → isAdditional c ≡ b → areAdditional (take (leadingAdditional s) s) ≡ true → areAdditional (take (leadingAdditional (c ∷ s)) (c ∷ s)) ≡ true
     go true e ih = rw e (rw e ih)
     go false e ih = rw e
+
+-- all may stand there if the count reaches the end
+pub are-leading : (cs : List ℕ) → areAdditional cs ≡ eqb (leadingAdditional cs) (length cs)
+unfolding leadingAdditional areAdditional
+are-leading [] = refl
+are-leading (c ∷ cs) = go (isAdditional c) (are-leading cs)
+  where
+    go : (b : Bool) → areAdditional cs ≡ eqb (leadingAdditional cs) (length cs) → (b && areAdditional cs) ≡ eqb (cond b (suc (leadingAdditional cs)) 0) (suc (length cs))
+    go true ih = ih ∙ sym (eqb·suc-suc (leadingAdditional cs) (length cs))
+    go false ih = sym (eqb·zero-suc (length cs))
 
 -- ---- the count, one character after the other
 

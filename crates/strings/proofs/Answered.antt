@@ -7,14 +7,16 @@ use Prim.Native.Nat.{ℕ, _+_, _-_, _≤_, _<_, min}
 use native.Mathlib.Omega.{arith}
 use lib.ListN.{length, take, drop, length-append, length-take, length-drop}
 use lib.Seq.{take-append-le, drop-append-le}
-use Rattle.answers.specs.Writing.{Outcome}
-use Rattle.packing.specs.Packing.{readable, unpacked}
+use Rattle.answers.specs.Writing.{made, wrote}
+use Rattle.answers.specs.declared.Written.the-variants.{TooShort, Unfit}
+use Rattle.answers.proofs.Writing.{no-room, not-fit, all-good}
+use Rattle.packing.specs.Packing.{packed, readable, unpacked}
 use Rattle.strings.specs.declared.Fields.{Fields}
 use Rattle.strings.specs.declared.Reading.{Reading}
 use Rattle.strings.specs.declared.Reading.the-variants.{Read, Unreadable}
-use Rattle.strings.specs.Text.{Request, textOf, hash}
+use Rattle.strings.specs.Text.{Request, requestSound, textOf}
 use Rattle.strings.specs.Reader.{fieldsOf}
-use Rattle.strings.specs.Outcomes.{Told, requestIn, requestOf, told, tell, madeRead, textBeside, reading}
+use Rattle.strings.specs.Outcomes.{Told, requestIn, requestOf, told, tell, madeRead, textBeside, reading, writerRoom, writingRequest}
 use Rattle.strings.specs.Outcomes.Told.{fields, error}
 use Rattle.strings.proofs.Text.{text-fields}
 use Rattle.strings.proofs.ReadBack.{read-only}
@@ -23,21 +25,24 @@ use Rattle.strings.proofs.ReadBack.{read-only}
 text-behind : (f : Request) → length (f .additional) < length (textOf f)
 text-behind f = rw (text-fields f) (simp length-append (omega arith))
 
-told-not-error : {A : Type 0} (f : Request) (n m : ℕ) → fields f n ≡ error m → A
-told-not-error f n m e = absurd (let z : _≡_ {A = ℕ} 0 1 = cc in omega arith)
+pub not-error : {A : Type 0} (f : Request) (n m : ℕ) → fields f n ≡ error m → A
+not-error f n m e = absurd (let z : _≡_ {A = ℕ} 0 1 = cc in omega arith)
 
--- the additional field ends before the last character
-pub told-end : (s : List ℕ) (f : Fields) → told (Read f) s ≡ tell s (fieldsOf s) → length s ≡ f .start + f .count + 1
+-- what is told of a text s, at the front of another: where its additional field ends, before the last character
+pub told-place :
+    (text s : List ℕ) (f : Fields) (g : Request) → s ≡ textOf g → length s ≤ length text → told (Read f) text ≡ tell s (some g) → length s ≡ f .start + f .count + 1
+told-place text s f g t h e =
+    let same : requestIn text f ≡ g = cc in
+    let start : f .start ≡ length s - 1 - length (g .additional) = cc in
+    let count = ap (λ (q : Request). length (q .additional)) same in
+    omega (arith, text-behind g, ap length t, length-take (f .count) (drop (f .start) text), length-drop (f .start) text)
+
+told-end : (s : List ℕ) (f : Fields) → told (Read f) s ≡ tell s (fieldsOf s) → length s ≡ f .start + f .count + 1
 told-end s f e = go (fieldsOf s) refl e
   where
     go : (r : Option Request) → fieldsOf s ≡ r → told (Read f) s ≡ tell s r → length s ≡ f .start + f .count + 1
-    go none r d = told-not-error _ _ _ d
-    go (some g) r d =
-        let text : s ≡ textOf g = read-only s r .1 in
-        let same : requestIn s f ≡ g = cc in
-        let start : f .start ≡ length s - 1 - length (g .additional) = cc in
-        let count = ap (λ (q : Request). length (q .additional)) same in
-        omega (arith, text-behind g, ap length text, length-take (f .count) (drop (f .start) s), length-drop (f .start) s)
+    go none r d = not-error _ _ _ d
+    go (some g) r d = told-place s s f g (read-only s r .1) (omega arith) d
 
 -- what stands behind the text does not matter
 pub told-front : (s more : List ℕ) (r : Reading) → told r s ≡ tell s (fieldsOf s) → told r (s ++ more) ≡ told r s
@@ -61,3 +66,18 @@ unfolding reading requestOf
 read os text more r e d t b =
     let a : told r text ≡ tell (unpacked os) (fieldsOf (unpacked os)) = ap (told r) t ∙ told-front (unpacked os) more r d ∙ d in
     rw (a, e, b)
+
+-- ---- the writer's answer
+
+module _ (f : Request) (out : List ℕ) where
+  pub short : length out < writerRoom → made TooShort out ≡ writingRequest f out
+  unfolding writingRequest
+  short h = sym (no-room writerRoom (requestSound f) (packed (textOf f)) out h)
+
+  pub unsound : writerRoom ≤ length out → requestSound f ≡ false → made Unfit out ≡ writingRequest f out
+  unfolding writingRequest
+  unsound h u = sym (not-fit writerRoom (requestSound f) (packed (textOf f)) out h u)
+
+  pub written : writerRoom ≤ length out → requestSound f ≡ true → wrote (packed (textOf f)) out ≡ writingRequest f out
+  unfolding writingRequest
+  written h s = sym (all-good writerRoom (requestSound f) (packed (textOf f)) out h s)

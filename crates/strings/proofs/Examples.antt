@@ -1,6 +1,5 @@
 -- Document 01's examples of strings, computed from the definitions. Assumes nothing.
 use mathlib.Core.Path.{_≡_, refl}
-use mathlib.Core.Option.{some}
 use mathlib.Core.List.{List, [], _++_}
 use Prim.Native.Nat.{ℕ, _/_}
 use lib.ListN.{length, getD, replicate}
@@ -11,23 +10,47 @@ use Rattle.strings.specs.declared.Operation.the-variants.{Register}
 use Rattle.strings.specs.declared.Erasing.the-variants.{Empty}
 use Rattle.strings.specs.Text.{Request, isAdditional, textOf}
 use Rattle.strings.specs.Reader.{begins, operationAt, serviceAt, numberFieldAt, forcedAt, erasingAt, leadingAdditional, additionalAt, fieldsOf}
-use Rattle.strings.specs.Outcomes.{requestOf, Told, reading, tell}
-use Rattle.strings.specs.Outcomes.Told.{error}
+use Rattle.strings.specs.Outcomes.{requestOf, Told, reading}
+use Rattle.strings.specs.Outcomes.Told.{fields, error}
 
--- what a text reads as, once it is packed
-abbrev said : List ℕ → Told
-said text = reading (packed text) .answer
+-- what is told of a text, once it is packed
+unfoldable pub toldOf : List ℕ → Told
+unfolding begins operationAt serviceAt numberFieldAt forcedAt erasingAt leadingAdditional additionalAt fieldsOf requestOf reading isAdditional isDigit pushed stored leadingDigits numberAt number digits octetsFor charsIn padded packed characters readable filled kept unpacked
+toldOf text = reading (packed text) .answer
 
--- the registration of a number
-abbrev registering : ℕ → Request
-registering w = record { operation = Register; number = record { 0 = w }; erasing = Empty; additional = [] }
+-- the registration of a number, with an additional field
+abbrev pub registering : ℕ → List ℕ → Request
+registering w additional = record { operation = Register; number = record { 0 = w }; erasing = Empty; additional = additional }
+
+-- the text of a registration and its octets
+unfoldable pub textFor : ℕ → List ℕ
+unfolding textOf digitsUpTo digitsOf
+textFor w = textOf (registering w [])
+
+unfoldable pub octetsOf : List ℕ → List ℕ
+unfolding number digits octetsFor padded packed
+octetsOf text = packed text
 
 -- "P12 `**214*0492123401*88**#`: 36"
-pub P12 : said (ascii "**214*0492123401*88**#") ≡ error 36
-unfolding reading requestOf fieldsOf begins operationAt serviceAt numberFieldAt forcedAt erasingAt leadingAdditional additionalAt isAdditional isDigit pushed stored leadingDigits numberAt number digits octetsFor charsIn padded packed characters readable filled kept unpacked
+pub P12 : toldOf (ascii "**214*0492123401*88**#") ≡ error 36
+unfolding toldOf
 P12 = refl
 
--- "Registering a 13-digit number takes 23 characters, 21 octets ending in a carriage return; 14 digits take 24 and 21"
-thirteen : (length (textOf (registering 11234567890123)) ≡ 23) × (length (packed (textOf (registering 11234567890123))) ≡ 21) × (getD (packed (textOf (registering 11234567890123))) 20 0 / 2 ≡ 13)
-unfolding textOf digitsUpTo digitsOf number digits octetsFor padded packed
-thirteen = (refl, refl, refl)
+-- "Registering a 13-digit number takes 23 characters, 21 octets ending in a carriage return"
+pub thirteen-digits : (length (textFor 11234567890123) ≡ 23) × (length (octetsOf (textFor 11234567890123)) ≡ 21) × (getD (octetsOf (textFor 11234567890123)) 20 0 / 2 ≡ 13)
+unfolding textFor octetsOf
+thirteen-digits = (refl, refl, refl)
+
+-- "14 digits take 24 and 21"
+pub fourteen-digits : (length (textFor 112345678901234) ≡ 24) × (length (octetsOf (textFor 112345678901234)) ≡ 21)
+unfolding textFor octetsOf
+fourteen-digits = (refl, refl)
+
+-- "A 30-character additional field reads, 31 gives 36"
+pub thirty : toldOf (ascii "**214*0492123401***" ++ replicate 30 65 ++ ascii "#") ≡ fields (registering 10492123401 (replicate 30 65)) 19
+unfolding toldOf
+thirty = refl
+
+pub thirty-one : toldOf (ascii "**214*0492123401***" ++ replicate 31 65 ++ ascii "#") ≡ error 36
+unfolding toldOf
+thirty-one = refl

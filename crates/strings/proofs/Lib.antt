@@ -10,4 +10,5 @@ pub mod Answered
 pub mod Steps
 pub mod Cursor
 pub mod Copying
+pub mod Choice
 pub mod Examples

@@ -1,23 +1,28 @@
 -- Sound fields part by part, and their text: field behind field, its characters and its length. Assumes nothing.
 use mathlib.Core.Path.{_≡_, refl, sym, ap, _∙_}
 use mathlib.Core.Logic.{⊎-elim}
-use mathlib.Core.Bool.{Bool, true, false, _&&_, _||_}
+use mathlib.Core.Bool.{Bool, true, false, _&&_, _||_, and-true, and-false}
 use mathlib.Core.List.{List, [], _∷_, _++_, append-assoc}
 use Prim.Native.Nat.{ℕ, _+_, _≤_, _<_}
 use native.Mathlib.Omega.{arith}
 use lib.ListN.{length, length-append}
 use lib.Dec.{leb, eqb}
-use borrow.Author.Tests.{leb-true, eqb-true, lt-ltb, ne-eqb}
+use borrow.Author.Tests.{leb-true, le-leb, lt-leb, eqb-true, lt-ltb, ne-eqb}
+use Rattle.answers.specs.Ascii.{ascii}
 use Rattle.answers.proofs.Tests.{no-path, and-left, and-right, or-cases}
 use Rattle.numbers.specs.Numbers.{isDigit, areDigits, isNumber, digitsOf}
 use Rattle.numbers.proofs.Digits.{digits-are, digits-most}
+use Rattle.numbers.specs.declared.FunctionalNumber.{FunctionalNumber}
 use Rattle.numbers.specs.declared.Msisdn.{Msisdn}
-use Rattle.packing.specs.Packing.{taken, takes, octetsFor}
+use Rattle.packing.specs.Packing.{taken, takes, octetsFor, packed}
+use Rattle.packing.proofs.Laws.{length-packed}
 use Rattle.strings.specs.declared.Operation.{Operation}
 use Rattle.strings.specs.declared.Operation.the-variants.{Register, Erase, Interrogate}
 use Rattle.strings.specs.declared.Erasing.{Erasing}
 use Rattle.strings.specs.declared.Erasing.the-variants.{Empty, Forced}
-use Rattle.strings.specs.Text.{Request, isAdditional, areAdditional, mostAdditional, erasingSound, requestSound, operationText, serviceText, star, hash, supervisorText, msisdnText, textOf, mostCharacters, mostOctets}
+use Rattle.strings.specs.Text.{Request, isAdditional, areAdditional, mostAdditional, erasingSound, requestSound, operationText, serviceText, star, hash, supervisorText, msisdnText, textOf, noticeOf, mostCharacters, mostOctets}
+use Rattle.strings.specs.Reader.{leadingAdditional}
+use Rattle.strings.proofs.Additional.{are-leading}
 use Rattle.strings.proofs.Exact.{starred, erasingText}
 
 -- the rules that sound fields keep, one by one
@@ -46,6 +51,17 @@ sound-rules f h =
 pub rules-sound : (f : Request) → Rules f → requestSound f ≡ true
 unfolding requestSound
 rules-sound f r = rw (r .number, r .erasing, r .few) (r .additional)
+
+-- the tests as the writer makes them
+pub unsound-many : (f : Request) → mostAdditional < length (f .additional) → requestSound f ≡ false
+unfolding requestSound
+unsound-many f h = rw (lt-leb (length (f .additional)) mostAdditional h, and-false)
+
+pub sound-few :
+    (f : Request) → length (f .additional) ≤ mostAdditional
+    → requestSound f ≡ (isNumber (f .number .0) && erasingSound (f .operation) (f .erasing) && eqb (leadingAdditional (f .additional)) (length (f .additional)))
+unfolding requestSound
+sound-few f h = rw (le-leb (length (f .additional)) mostAdditional h, and-true, are-leading)
 
 -- the text, field behind field
 pub text-fields :
@@ -88,10 +104,11 @@ takes-append [] b p q = q
 takes-append (c ∷ a) b p q = rw (and-left (taken c) (takes a) p) (takes-append a b (and-right (taken c) (takes a) p) q)
 
 -- only an erasure names an MSISDN, and it is a number
-pub forced-number : (o : Operation) (m : Msisdn) → erasingSound o (Forced m) ≡ true → isNumber (m .0) ≡ true
-forced-number Register m h = no-path h
-forced-number Erase m h = h
-forced-number Interrogate m h = no-path h
+pub sound-erasing : (o : Operation) (e : Erasing) → erasingSound o e ≡ true → erasingSound Erase e ≡ true
+sound-erasing o Empty h = refl
+sound-erasing Register (Forced m) h = no-path h
+sound-erasing Erase (Forced m) h = h
+sound-erasing Interrogate (Forced m) h = no-path h
 
 starred-taken : (w : ℕ) → isNumber w ≡ true → takes (starred w) ≡ true
 starred-taken w h = takes-append (digitsOf w) star (additional-taken (digitsOf w) (digits-additional (digitsOf w) (digits-are w h))) (unfold takes taken in refl)
@@ -109,24 +126,67 @@ text-taken f h =
 
     erasing : (e : Erasing) → erasingSound (f .operation) e ≡ true → takes (erasingText e) ≡ true
     erasing Empty k = refl
-    erasing (Forced m) k = starred-taken (m .0) (forced-number (f .operation) m k)
+    erasing (Forced m) k = starred-taken (m .0) (sound-erasing (f .operation) (Forced m) k)
 
--- ---- its length
+-- ---- its length, as it grows
+
+-- what stands before the number, before the fields of an erasure, and before the additional field
+abbrev pub beforeNumber : Request → List ℕ
+beforeNumber f = operationText (f .operation) ++ (serviceText ++ star)
+
+abbrev pub beforeErasing : Request → List ℕ
+beforeErasing f = beforeNumber f ++ starred (f .number .0)
+
+abbrev pub beforeAdditional : Request → List ℕ
+beforeAdditional f = beforeErasing f ++ erasingText (f .erasing)
+
+pub text-grows : (f : Request) → textOf f ≡ beforeAdditional f ++ (f .additional ++ hash)
+unfolding textOf
+text-grows f = simp append-assoc
+
+pub before-number : (f : Request) → length (beforeNumber f) ≡ 6
+before-number f = go (f .operation)
+  where
+    go : (o : Operation) → length (operationText o ++ (serviceText ++ star)) ≡ 6
+    go Register = refl
+    go Erase = refl
+    go Interrogate = refl
+
+pub before-erasing : (f : Request) → requestSound f ≡ true → length (beforeErasing f) ≤ 22
+before-erasing f h =
+    simp (length-append (beforeNumber f), length-append (digitsOf (f .number .0))) (omega (arith, before-number f, digits-most (f .number .0) (sound-rules f h .number)))
+
+pub before-additional : (f : Request) → requestSound f ≡ true → length (beforeAdditional f) ≤ 41
+before-additional f h = simp (length-append (beforeErasing f)) (omega (arith, before-erasing f h, go (f .erasing) (sound-rules f h .erasing)))
+  where
+    go : (e : Erasing) → erasingSound (f .operation) e ≡ true → length (erasingText e) ≤ 19
+    go Empty k = omega arith
+    go (Forced m) k = simp length-append (omega (arith, digits-most (m .0) (sound-erasing (f .operation) (Forced m) k)))
 
 pub text-short : (f : Request) → requestSound f ≡ true → length (textOf f) ≤ mostCharacters
 text-short f h =
-    let r = sound-rules f h in
-    rw (text-fields f) (simp length-append (omega (arith, operation (f .operation), digits-most (f .number .0) (r .number), erasing (f .erasing) (r .erasing), leb-true (length (f .additional)) mostAdditional (r .few))))
-  where
-    operation : (o : Operation) → length (operationText o) ≡ 2
-    operation Register = refl
-    operation Erase = refl
-    operation Interrogate = refl
-
-    erasing : (e : Erasing) → erasingSound (f .operation) e ≡ true → length (supervisorText e) + length (msisdnText e) ≤ 17
-    erasing Empty k = omega arith
-    erasing (Forced m) k = omega (arith, digits-most (m .0) (forced-number (f .operation) m k))
+    rw (text-grows f, length-append (beforeAdditional f) (f .additional ++ hash), length-append (f .additional) hash)
+    (omega (arith, before-additional f h, leb-true (length (f .additional)) mostAdditional (sound-rules f h .few)))
 
 pub octets-short : (f : Request) → requestSound f ≡ true → octetsFor (length (textOf f)) ≤ mostOctets
 unfolding octetsFor
 octets-short f h = omega (arith, text-short f h)
+
+-- ---- the notice
+
+pub notice-sound : (n : FunctionalNumber) (s : Msisdn) → isNumber (n .0) ≡ true → isNumber (s .0) ≡ true → requestSound (noticeOf n s) ≡ true
+unfolding requestSound noticeOf areAdditional
+notice-sound n s p q = rw (p, q)
+
+-- `##214*` number `*88*` supervisor `*#`
+pub notice-text : (n : FunctionalNumber) (s : Msisdn) → textOf (noticeOf n s) ≡ ascii "##214*" ++ (digitsOf (n .0) ++ (ascii "*88*" ++ (digitsOf (s .0) ++ ascii "*#")))
+unfolding textOf noticeOf
+notice-text n s = refl
+
+-- at most 42 characters, 37 octets: it fits the 80 octets of a reply
+pub notice-short : (n : FunctionalNumber) (s : Msisdn) → isNumber (n .0) ≡ true → isNumber (s .0) ≡ true → length (textOf (noticeOf n s)) ≤ 42
+notice-short n s p q = rw (notice-text n s) (simp length-append (omega (arith, digits-most (n .0) p, digits-most (s .0) q)))
+
+pub notice-octets : (n : FunctionalNumber) (s : Msisdn) → isNumber (n .0) ≡ true → isNumber (s .0) ≡ true → length (packed (textOf (noticeOf n s))) ≤ 37
+unfolding octetsFor
+notice-octets n s p q = rw (length-packed (textOf (noticeOf n s))) (omega (arith, notice-short n s p q))

@@ -5,17 +5,23 @@ use numbers::Msisdn;
 use numbers::NumberRead;
 ghost use mathlib.Core.Path.{_≡_};
 ghost use mathlib.Core.List.{_++_};
-ghost use Prim.Native.Nat.{_<_, _≤_};
+ghost use Prim.Native.Nat.{_+_, _<_, _≤_};
 ghost use lib.ListN.{length};
+ghost use mathlib.Core.Bool.{true};
+ghost use Rattle.numbers.specs.Numbers.{mostDigits, isNumber, digitsOf};
 ghost use Rattle.answers.specs.Writing.{made, wrote};
 ghost use Rattle.answers.specs.declared.Written.the-variants.{Count};
-ghost use Rattle.strings.specs.Text.{isAdditional, operationText, serviceText, star, hash};
+ghost use Rattle.strings.specs.Text.{isAdditional, erasingSound, requestSound, operationText, serviceText, star, hash, supervisorText, msisdnText, textOf, noticeOf, mostCharacters, mostOctets};
 ghost use Rattle.strings.specs.Reader.{begins, forcedAt, erasingAt, leadingAdditional, fieldsOf};
-ghost use Rattle.strings.specs.Outcomes.{told, tell, madeRead, reading};
+ghost use Rattle.strings.specs.Outcomes.{told, tell, madeRead, reading, writingRequest};
+ghost use Rattle.packing.specs.Packing.{packed};
 ghost use Rattle.strings.specs.Found.{OperationIs, ServiceIs, NumberFieldIs, ErasingIs, AdditionalIs};
 
 // The text of sound fields has at most so many characters.
 const MOST_CHARACTERS: usize = 72;
+
+// The buffer of a request's writer has at least so many octets.
+const WRITER_ROOM: usize = 160;
 
 // What is asked for: `**`, `##` or `*#`.
 pub enum Operation {
@@ -278,6 +284,33 @@ fn put_operation(operation: Operation, out: &mut [u8]) -> usize
     }
 }
 
+// Writes a number's digits and the star.
+fn put_number(word: u64, out: &mut [u8]) -> usize
+    requires { ⌜ isNumber word ≡ true ⌝ }
+    requires { ⌜ mostDigits < length (now out) ⌝ }
+    ensures { λ r. ⌜ made (Count r) (now (out .exit)) ≡ wrote (digitsOf word ++ star) (now (out .entry)) ⌝ }
+{
+    let Written::Count(at) = numbers::write_digits(word, out) else {
+        return 0;
+    };
+    at + put(b"*", &mut out[at..])
+}
+
+// Writes supervisor field and MSISDN to erase, each with its star.
+fn put_erasing(erasing: Erasing, out: &mut [u8]) -> usize
+    requires { ⌜ erasingSound Operation.Erase erasing ≡ true ⌝ }
+    requires { ⌜ 3 + mostDigits < length (now out) ⌝ }
+    ensures { λ r. ⌜ made (Count r) (now (out .exit)) ≡ wrote (supervisorText erasing ++ (star ++ (msisdnText erasing ++ star))) (now (out .entry)) ⌝ }
+{
+    match erasing {
+        Erasing::Empty => put(b"**", out),
+        Erasing::Forced(msisdn) => {
+            let at = put(b"88*", out);
+            at + put_number(msisdn.0, &mut out[at..])
+        }
+    }
+}
+
 // Writes the additional field and `#`.
 fn put_additional(additional: &[u8], out: &mut [u8]) -> usize
     requires { ⌜ length (now additional) < length (now out) ⌝ }
@@ -285,4 +318,107 @@ fn put_additional(additional: &[u8], out: &mut [u8]) -> usize
 {
     let at = put(additional, out);
     at + put(b"#", &mut out[at..])
+}
+
+// Writes the text of sound fields.
+fn write_text(
+    operation: Operation,
+    number: FunctionalNumber,
+    erasing: Erasing,
+    additional: &[u8],
+    text: &mut [u8],
+) -> usize
+    requires { ⌜ requestSound (record { operation = operation; number = number; erasing = erasing; additional = now additional }) ≡ true ⌝ }
+    requires { ⌜ mostCharacters ≤ length (now text) ⌝ }
+    ensures { λ r. ⌜ made (Count r) (now (text .exit)) ≡ wrote (textOf (record { operation = operation; number = number; erasing = erasing; additional = now (additional .entry) })) (now (text .entry)) ⌝ }
+{
+    let at = put_operation(operation, text);
+    let at = at + put_number(number.0, &mut text[at..]);
+    let at = at + put_erasing(erasing, &mut text[at..]);
+    at + put_additional(additional, &mut text[at..])
+}
+
+// Writes the packed text of sound fields.
+fn write_packed(
+    operation: Operation,
+    number: FunctionalNumber,
+    erasing: Erasing,
+    additional: &[u8],
+    out: &mut [u8],
+) -> usize
+    requires { ⌜ requestSound (record { operation = operation; number = number; erasing = erasing; additional = now additional }) ≡ true ⌝ }
+    requires { ⌜ mostOctets ≤ length (now out) ⌝ }
+    ensures { λ r. ⌜ made (Count r) (now (out .exit)) ≡ wrote (packed (textOf (record { operation = operation; number = number; erasing = erasing; additional = now (additional .entry) }))) (now (out .entry)) ⌝ }
+{
+    let mut text = [0u8; MOST_CHARACTERS];
+    let n = write_text(operation, number, erasing, additional, &mut text);
+    let Written::Count(count) = packing::pack(&text[..n], out) else {
+        return 0;
+    };
+    count
+}
+
+// Whether supervisor field and MSISDN keep the string's rules.
+fn erasing_sound(operation: Operation, erasing: Erasing) -> bool
+    ensures { λ r. ⌜ r ≡ erasingSound operation erasing ⌝ }
+{
+    match erasing {
+        Erasing::Empty => true,
+        Erasing::Forced(msisdn) => match operation {
+            Operation::Register => false,
+            Operation::Erase => numbers::is_number(msisdn.0),
+            Operation::Interrogate => false,
+        },
+    }
+}
+
+// Whether fields keep the string's rules.
+fn request_sound(
+    operation: Operation,
+    number: FunctionalNumber,
+    erasing: Erasing,
+    additional: &[u8],
+) -> bool
+    ensures { λ r. ⌜ r ≡ requestSound (record { operation = operation; number = number; erasing = erasing; additional = now (additional .entry) }) ⌝ }
+{
+    let count = additional.len();
+    if MOST_ADDITIONAL < count {
+        return false;
+    }
+    let leading = leading_additional(additional);
+    numbers::is_number(number.0) & erasing_sound(operation, erasing) & (leading == count)
+}
+
+// Writes a request as a packed string; what lies beyond stays.
+pub fn write_request(
+    operation: Operation,
+    number: FunctionalNumber,
+    erasing: Erasing,
+    additional: &[u8],
+    out: &mut [u8],
+) -> Written
+    ensures { λ r. ⌜ made r (now (out .exit)) ≡ writingRequest (record { operation = operation; number = number; erasing = erasing; additional = now (additional .entry) }) (now (out .entry)) ⌝ }
+{
+    if out.len() < WRITER_ROOM {
+        return Written::TooShort;
+    }
+    if !request_sound(operation, number, erasing, additional) {
+        return Written::Unfit;
+    }
+    Written::Count(write_packed(operation, number, erasing, additional, out))
+}
+
+// Writes a notice to a holder that was forced off: the packed string of a forced erasure, with the supervisor in the MSISDN's place.
+pub fn write_notice(number: FunctionalNumber, supervisor: Msisdn, out: &mut [u8]) -> usize
+    requires { ⌜ (isNumber (number .0) ≡ true) × (isNumber (supervisor .0) ≡ true) ⌝ }
+    requires { ⌜ mostOctets ≤ length (now out) ⌝ }
+    ensures { λ r. ⌜ made (Count r) (now (out .exit)) ≡ wrote (packed (textOf (noticeOf number supervisor))) (now (out .entry)) ⌝ }
+{
+    write_packed(
+        Operation::Erase,
+        number,
+        Erasing::Forced(supervisor),
+        b"",
+        out,
+    )
 }

@@ -1,8 +1,8 @@
 -- What it takes for rows to be sound, and what a sound table and a sound list say. Assumes nothing.
-use mathlib.Core.Path.{_≡_, refl, sym, ap, _∙_}
+use mathlib.Core.Path.{_≡_, refl, sym}
 use mathlib.Core.Bool.{Bool, true, false, _&&_}
 use mathlib.Core.List.{List, []}
-use Prim.Native.Nat.{ℕ, _+_, _*_, _/_, _%_, _≤_, _<_}
+use Prim.Native.Nat.{ℕ, _+_, _/_, _%_, _≤_, _<_}
 use lib.ListN.{length}
 use native.Mathlib.Omega.{arith}
 use lib.Dec.{eqb, ltb, leb}
@@ -10,7 +10,7 @@ use borrow.Author.Tests.{eq-eqb, ne-eqb, le-leb, lt-leb, eqb-true, leb-true}
 use Rattle.answers.proofs.Tests.{and-left, and-right, and-three, and-no}
 use Rattle.numbers.specs.Numbers.{isNumber}
 use Rattle.records.specs.Rows.{rowWords, numberAt, rowSound}
-use Rattle.tables.specs.Keys.{key, every, ascends}
+use Rattle.tables.specs.Keys.{every, ascends}
 use Rattle.tables.specs.Tables.{mostNumbers, rowsIn, numberKey, rowStands, tableSound, subscriberWords, mostSubscribers, mostFlags, subscribersIn, msisdnKey, flagsAt, subscriberStands, listSound}
 use Rattle.tables.proofs.Keys.{keyBefore, before-next, ascends-before, every-more, every-not, every-at, every-from, ascending}
 

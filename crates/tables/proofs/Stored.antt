@@ -10,7 +10,7 @@ use native.Mathlib.Omega.{arith}
 use lib.ListN.{length, getD}
 use lib.Seq.{ext-getD}
 use Rattle.answers.proofs.Tests.{and-both, less-or-not, same-or-not}
-use Rattle.records.specs.Rows.{rowWords, word, numberAt, rowSound, recordAt, stored, recordSound}
+use Rattle.records.specs.Rows.{rowWords, numberAt, rowSound, recordAt, stored, recordSound}
 use Rattle.records.specs.declared.Record.{Record}
 use Rattle.records.proofs.Rows as rows
 use Rattle.records.proofs.Rows.{stored-length, stored-number, record-other, row-other, record-stored, same-words}

@@ -5,11 +5,11 @@ use borrow.Author.Needs.{needs}
 use denote.Ref.{now}
 use Rattle.records.specs.declared.Record.{Record}
 use Rattle.records.specs.declared.Step.{Step}
-use Rattle.records.specs.Steps.{registered, interrogated}
+use Rattle.records.specs.Steps.{registered}
 use Rattle.records.specs.Rows.{recordAt}
-use Rattle.records.proofs.Rows.{record-sound, words-stored}
-use Rattle.rules.specs.Visits.{Visited, stepped, told, erases}
-use Rattle.node.specs.Asked.{placed, deciding}
+use Rattle.records.proofs.Rows.{record-sound}
+use Rattle.rules.specs.Visits.{storing, stepped, erases}
+use Rattle.node.specs.Asked.{deciding}
 use Rattle.node.proofs.Placed.{decided-register, decided-erase, decided-interrogate, told-placed}
 use Rattle.node.proofs.decide_at.Statement.{statement}
 use Rattle.node.proofs.decide_at.Tie as tie
@@ -70,8 +70,8 @@ returns c =
     let s = start l in
     let a = s .args in
     q .settle .ensures
-    ∙ ap (λ (x : Step). placed (T s) (a .row) (stepped 1 (B s) (R s) x)) (g .register .ensures ∙ ap (registered (a .fields .number) (a .requester)) (l .load .ensures))
-    ∙ ap (placed (T s) (a .row)) (sym (decided-register (deciding (a .fields)) (a .requester) (B s) (R s) (g .before .enum-told .given .1)))
+    ∙ ap (λ (x : Step). storing (T s) (a .row) (stepped 1 (B s) (R s) x)) (g .register .ensures ∙ ap (registered (a .fields .number) (a .requester)) (l .load .ensures))
+    ∙ ap (storing (T s) (a .row)) (sym (decided-register (deciding (a .fields)) (a .requester) (B s) (R s) (g .before .enum-told .given .1)))
 
 same-length-3 : tie.Need-same-length-3
 same-length-3 c = search needs
@@ -87,8 +87,8 @@ returns-2 c =
     let s = start l in
     let a = s .args in
     q .settle2 .ensures
-    ∙ ap (λ (x : Step). placed (T s) (a .row) (stepped 2 (B s) (R s) x)) (g .erasure .ensures ∙ ap (erases (a .fields .erasing) (a .requester)) (l .load .ensures))
-    ∙ ap (placed (T s) (a .row)) (sym (decided-erase (deciding (a .fields)) (a .requester) (B s) (R s) (g .before .enum-told2 .given .1)))
+    ∙ ap (λ (x : Step). storing (T s) (a .row) (stepped 2 (B s) (R s) x)) (g .erasure .ensures ∙ ap (erases (a .fields .erasing) (a .requester)) (l .load .ensures))
+    ∙ ap (storing (T s) (a .row)) (sym (decided-erase (deciding (a .fields)) (a .requester) (B s) (R s) (g .before .enum-told2 .given .1)))
 
 same-length-5 : tie.Need-same-length-5
 same-length-5 c = search needs
@@ -104,7 +104,7 @@ returns-3 c =
     let s = start l in
     let a = s .args in
     told-placed (T s) (a .row) (B s) _ _ _ (s .pre .1) (l .load .ensures) (q .answer-holder .ensures)
-    ∙ ap (placed (T s) (a .row)) (sym (decided-interrogate (deciding (a .fields)) (a .requester) (B s) (R s) (e .enum-told3 .given .1)))
+    ∙ ap (storing (T s) (a .row)) (sym (decided-interrogate (deciding (a .fields)) (a .requester) (B s) (R s) (e .enum-told3 .given .1)))
 
 pub decide-at-spec : {M : Type 1} → statement M
 decide-at-spec =

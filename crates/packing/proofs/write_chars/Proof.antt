@@ -74,7 +74,7 @@ joined c =
     let h = c .before .before in
     ⊎-elim
     (λ w. rw (w .2, w .3, w .4) (record { within = omega arith; some = omega arith; few = omega arith; moved = next-octet (h .loop .inv) (omega (arith, w .1 .given (h .loop .i))) }))
-    (λ w. rw (w .1, w .2, w .3) (record { within = omega arith; some = omega arith; few = omega arith; moved = h .loop .inv .moved }))
+    (λ w. rw (w .1, w .2, w .3) (record { within = omega arith; some = w .0 .left; few = omega arith; moved = h .loop .inv .moved }))
     (c .if1 .came)
 
 cast-out : tie.Need-cast-out Inv-loop μ-loop

@@ -8,7 +8,7 @@ delay-of-requires c κs = search needs
 
 returns : tie.Need-returns
 unfolding delayAllowed
-returns c = simp (c .delay-of .ensures)
+returns c = rw (c .delay-of .ensures)
 
 pub delay-allowed-spec : {M : Type 1} → statement M
 delay-allowed-spec = tie.close (tie.spec delay-of-requires returns)

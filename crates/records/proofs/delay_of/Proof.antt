@@ -5,11 +5,11 @@ use Rattle.records.proofs.delay_of.Tie as tie
 
 returns : tie.Need-returns
 unfolding delayOf
-returns c = simp (eq-eqb _ _ (c .if1 .taken))
+returns c = rw (eq-eqb _ _ (c .if1 .taken))
 
 returns-2 : tie.Need-returns-2
 unfolding delayOf
-returns-2 c = simp (ne-eqb _ _ (c .if1 .left))
+returns-2 c = rw (ne-eqb _ _ (c .if1 .left))
 
 pub delay-of-spec : {M : Type 1} → statement M
 delay-of-spec = tie.close (tie.spec returns returns-2)

@@ -6,7 +6,7 @@ is-number-by-requires : tie.Need-is-number-by-requires
 is-number-by-requires c κs = search needs
 
 returns : tie.Need-returns
-returns c = simp (c .is-number-by .ensures)
+returns c = rw (c .is-number-by .ensures)
 
 pub holder-sound-spec : {M : Type 1} → statement M
 holder-sound-spec = tie.close (tie.spec is-number-by-requires returns)

@@ -21,7 +21,7 @@ returns : tie.Need-returns
 returns c = search needs
 
 returns-2 : tie.Need-returns-2
-returns-2 c = simp (c .before .before .before .notice .given .1, c .before .delay-of .ensures, c .elapsed .ensures)
+returns-2 c = rw (c .before .before .before .notice .given .1, c .before .delay-of .ensures, c .elapsed .ensures)
 
 returns-3 : tie.Need-returns-3
 returns-3 c = search needs

@@ -6,7 +6,7 @@ use Rattle.records.proofs.notice_sound.Tie as tie
 
 returns : tie.Need-returns
 unfolding noticeSound
-returns c = simp (eq-eqb _ _ (c .if1 .taken))
+returns c = rw (eq-eqb _ _ (c .if1 .taken))
 
 is-number-by-requires : tie.Need-is-number-by-requires
 is-number-by-requires c κs = search needs
@@ -16,7 +16,7 @@ is-number-by-requires-2 c κs = search needs
 
 returns-2 : tie.Need-returns-2
 unfolding noticeSound
-returns-2 c = simp (ne-eqb _ _ (c .before .before .if1 .left), c .before .is-number-by .ensures, c .is-number-by2 .ensures)
+returns-2 c = rw (ne-eqb _ _ (c .before .before .if1 .left), c .before .is-number-by .ensures, c .is-number-by2 .ensures)
 
 pub notice-sound-spec : {M : Type 1} → statement M
 notice-sound-spec =

@@ -30,10 +30,10 @@ returns : tie.Need-returns
 returns c = search needs
 
 returns-2 : tie.Need-returns-2
-returns-2 c = simp (c .before .notice .given .1)
+returns-2 c = rw (c .before .notice .given .1)
 
 returns-3 : tie.Need-returns-3
-returns-3 c = simp (c .before .notice2 .given .1)
+returns-3 c = rw (c .before .notice2 .given .1)
 
 pub phase-of-spec : {M : Type 1} → statement M
 phase-of-spec =

@@ -17,7 +17,7 @@ notice-sound-requires c κs = search needs
 
 returns : tie.Need-returns
 unfolding rowSound
-returns c = simp (c .notice-sound .ensures, c .before .holder-sound .ensures, c .before .before .is-number-by .ensures, c .before .before .before .words-at .ensures)
+returns c = rw (c .notice-sound .ensures, c .before .holder-sound .ensures, c .before .before .is-number-by .ensures, c .before .before .before .words-at .ensures)
 
 pub row-sound-spec : {M : Type 1} → statement M
 row-sound-spec =

@@ -1,11 +1,9 @@
 -- `strings::put_additional` meets its contract. Assumes nothing.
-use mathlib.Core.Path.{_≡_}
-use mathlib.Core.List.{_++_}
-use lib.ListN.{length, length-append, length-take, length-drop}
+use mathlib.Core.Path.{_≡_, refl}
 use native.Mathlib.Omega.{arith}
 use borrow.Author.Needs.{needs}
 use Rattle.strings.specs.Text.{hash}
-use Rattle.answers.proofs.Parts.{count-wrote, wrote-behind}
+use Rattle.answers.proofs.Parts.{Standing, standing, count-is, wrote-behind}
 use Rattle.strings.proofs.put_additional.Statement.{statement}
 use Rattle.strings.proofs.put_additional.Tie as tie
 use Rattle.strings.proofs.put_additional.Reads as reads
@@ -18,23 +16,23 @@ put-requires c κs = search needs
 slice-aggregate-put : tie.Need-slice-aggregate-put
 slice-aggregate-put c = search needs
 
--- the additional field stands, and room for `#` is left
-counted : (c : tie.After-put) → c .put .result ≡ length (c .before .before .before .before .args .additional .now)
-counted c =
+-- the additional field stands
+stood : (c : tie.After-put) → Standing (c .before .before .before .before .args .additional .now) (c .before .before .before .before .args .out .now) (c .put .last .1 .0) (c .put .result)
+stood c =
     let a = c .before .before .before .before .args in
-    count-wrote (a .additional .now) (a .out .now) (c .put .last .1 .0) (c .put .result) (c .put .ensures) .0
+    standing (a .additional .now) (a .out .now) (c .put .last .1 .0) (c .put .result) (c .put .ensures) (omega arith)
 
 sub-put : tie.Need-sub-put
-sub-put c = omega (arith, counted (c .before .before .before))
+sub-put c = stood (c .before .before .before) .within
 
 part-put-start : tie.Need-part-put-start
-part-put-start c = omega (arith, counted (c .before .before .before))
+part-put-start c = stood (c .before .before .before) .within
 
 part-put-end : tie.Need-part-put-end
 part-put-end c = search needs
 
 put-requires-2 : tie.Need-put-requires-2
-put-requires-2 c κs = simp (length-take, length-drop) (omega (arith, counted (c .before .before .before .before)))
+put-requires-2 c κs = omega (arith, stood (c .before .before .before .before) .room)
 
 returns : tie.Need-returns
 returns c =
@@ -45,8 +43,8 @@ returns c =
 
 add-result : tie.Need-add-result
 add-result c =
-    let a = c .before .before .before .before .before .before .before .before .before .before .before .args in
-    omega (arith, count-wrote (a .additional .now ++ hash) (a .out .now) _ _ (returns c) .0, length-append (a .additional .now) hash)
+    let p = c .before .before .before .before .before .before .before in
+    omega (arith, stood p .count, count-is (c .before .before .put2 .result) hash (c .before .before .put2 .ensures) refl)
 
 same-length : tie.Need-same-length
 same-length c = search needs

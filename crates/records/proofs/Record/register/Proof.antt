@@ -6,18 +6,18 @@ use Rattle.records.proofs.Record.register.Tie as tie
 
 returns : tie.Need-returns
 unfolding registered
-returns c = simp (eq-eqb _ _ (c .if1 .taken))
+returns c = rw (eq-eqb _ _ (c .if1 .taken))
 
 returns-2 : tie.Need-returns-2
 unfolding registered
-returns-2 c = simp (ne-eqb _ _ (c .before .before .before .before .if1 .left), c .if2 .taken)
+returns-2 c = rw (ne-eqb _ _ (c .before .before .if1 .left), c .if2 .taken)
 
 held-by-requires : tie.Need-held-by-requires
 held-by-requires c κs = search needs
 
 returns-3 : tie.Need-returns-3
 unfolding registered
-returns-3 c = simp (ne-eqb _ _ (c .before .before .before .before .before .if1 .left), c .before .if2 .left, c .held-by .ensures)
+returns-3 c = rw (ne-eqb _ _ (c .before .before .before .if1 .left), c .before .if2 .left, c .held-by .ensures)
 
 pub register-spec : {M : Type 1} → statement M
 register-spec = tie.close (tie.spec returns returns-2 held-by-requires returns-3)

@@ -7,14 +7,14 @@ use Rattle.records.proofs.Record.result.Tie as tie
 
 returns : tie.Need-returns
 unfolding resulted
-returns c = simp (lt-ltb _ _ (c .if1 .taken))
+returns c = rw (lt-ltb _ _ (c .if1 .taken))
 
 enum-known-notice : tie.Need-enum-known-notice
 enum-known-notice c = search needs
 
 returns-2 : tie.Need-returns-2
 unfolding resulted
-returns-2 c = simp (le-ltb _ _ (c .before .if1 .left), not-in-flight (c .before .before .args .self .notice) (c .match .keys2))
+returns-2 c = rw (le-ltb _ _ (c .before .if1 .left), not-in-flight (c .before .before .args .self .notice) (c .match .keys2))
 
 cleared-requires : tie.Need-cleared-requires
 cleared-requires c κs = search needs
@@ -22,28 +22,24 @@ cleared-requires c κs = search needs
 returns-3 : tie.Need-returns-3
 unfolding resulted
 returns-3 c =
-    let known = c .before .before in
-    simp (le-ltb _ _ (known .before .before .before .if1 .left), known .before .notice .given .1, eq-eqb _ _ (c .before .if2 .taken), c .cleared .ensures)
-
-cleared-requires-2 : tie.Need-cleared-requires-2
-cleared-requires-2 c κs = search needs
+    let ended = c .before in
+    let known = ended .before in
+    rw (le-ltb _ _ (known .before .before .before .if1 .left), known .before .notice .given .1, eq-eqb _ _ (c .if2 .taken), ended .cleared .ensures)
 
 returns-4 : tie.Need-returns-4
 unfolding resulted
 returns-4 c =
-    let some = c .before .before in
-    let known = some .before in
-    simp (le-ltb _ _ (known .before .before .before .if1 .left), known .before .notice .given .1, ne-eqb _ _ (some .if2 .left), lt-ltb _ _ (c .before .if3 .taken), c .cleared2 .ensures)
-
-cleared-requires-3 : tie.Need-cleared-requires-3
-cleared-requires-3 c κs = search needs
+    let ended = c .before .before in
+    let known = ended .before in
+    rw (le-ltb _ _ (known .before .before .before .if1 .left), known .before .notice .given .1, ne-eqb _ _ (c .before .if2 .left), lt-ltb _ _ (c .if3 .taken), ended .cleared .ensures)
 
 returns-5 : tie.Need-returns-5
 unfolding resulted
 returns-5 c =
-    let other = c .before .before in
-    let known = other .before .before in
-    simp (le-ltb _ _ (known .before .before .before .if1 .left), known .before .notice .given .1, ne-eqb _ _ (other .before .if2 .left), le-ltb _ _ (other .if3 .left), le-leb _ _ (c .before .if4 .taken), c .cleared3 .ensures)
+    let other = c .before in
+    let ended = other .before .before in
+    let known = ended .before in
+    rw (le-ltb _ _ (known .before .before .before .if1 .left), known .before .notice .given .1, ne-eqb _ _ (other .before .if2 .left), le-ltb _ _ (other .if3 .left), le-leb _ _ (c .if4 .taken), ended .cleared .ensures)
 
 with-notice-requires : tie.Need-with-notice-requires
 with-notice-requires c κs = search needs
@@ -52,8 +48,8 @@ returns-6 : tie.Need-returns-6
 unfolding resulted
 returns-6 c =
     let other = c .before .before in
-    let known = other .before .before in
-    simp (le-ltb _ _ (known .before .before .before .if1 .left), known .before .notice .given .1, ne-eqb _ _ (other .before .if2 .left), le-ltb _ _ (other .if3 .left), lt-leb _ _ (c .before .if4 .left), c .with-notice .ensures)
+    let known = other .before .before .before in
+    rw (le-ltb _ _ (known .before .before .before .if1 .left), known .before .notice .given .1, ne-eqb _ _ (other .before .if2 .left), le-ltb _ _ (other .if3 .left), lt-leb _ _ (c .before .if4 .left), c .with-notice .ensures)
 
 pub result-spec : {M : Type 1} → statement M
 result-spec =
@@ -64,9 +60,7 @@ result-spec =
     returns-2
     cleared-requires
     returns-3
-    cleared-requires-2
     returns-4
-    cleared-requires-3
     returns-5
     with-notice-requires
     returns-6)

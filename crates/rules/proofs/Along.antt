@@ -1,0 +1,265 @@
+-- A list of calls, seen from one number: its record before them, what each call got, its record after them; and what a call that visits a record may do to it. Assumes nothing.
+use mathlib.Core.Path.{_≡_, refl, sym, ap, _∙_}
+use mathlib.Core.Bool.{Bool, true, false, cond, not, _&&_}
+use mathlib.Core.Option.{Option, none, some}
+use mathlib.Core.List.{List, [], _∷_, map}
+use Prim.Native.Nat.{ℕ}
+use lib.ListN.{length}
+use lib.Dec.{eqb, ltb, leb}
+use borrow.Author.Tests.{eqb-true, eq-eqb, ne-eqb, not-true, not-false}
+use Rattle.answers.specs.Checks.{decide}
+use Rattle.answers.proofs.Decide.{answering, Each, decide-each}
+use Rattle.answers.proofs.Tests.{no-path, and-left, and-right}
+use Rattle.numbers.specs.declared.FunctionalNumber.{FunctionalNumber}
+use Rattle.numbers.specs.declared.Msisdn.{Msisdn}
+use Rattle.strings.specs.declared.Operation.{Operation}
+use Rattle.strings.specs.declared.Operation.the-variants.{Register, Erase, Interrogate}
+use Rattle.strings.specs.declared.Erasing.{Erasing}
+use Rattle.strings.specs.declared.Erasing.the-variants.{Empty, Forced}
+use Rattle.strings.specs.Text.{Request}
+use Rattle.strings.specs.Outcomes.{requestOf}
+use Rattle.records.specs.declared.Record.{Record}
+use Rattle.records.specs.declared.Step.{Step}
+use Rattle.records.specs.declared.Step.the-variants as step
+use Rattle.records.specs.declared.Holder.the-variants as holds
+use Rattle.records.specs.declared.Resulted.the-variants.{Refused, Delivered, Dropped, Again}
+use Rattle.records.specs.declared.Notice.the-variants.{Waiting}
+use Rattle.records.specs.Steps as steps
+use Rattle.records.specs.Steps.{nobody, isNobody, same, heldBy, forcedOff, isAbsent, isWaiting, isInFlight, sendingsDone, launched, withNotice, cleared, mostSendings, lastKind}
+use Rattle.tables.specs.Tables.{tableSound, listSound, recordOf, flagsOf}
+use Rattle.rules.specs.Answers.{Answer, refusal, delivered, dropped, again, Outcome, made, refusing, bufferRoom}
+use Rattle.rules.specs.Requests as requests
+use Rattle.rules.specs.Notices as notices
+use Rattle.rules.specs.Requests.{hasFollowMe, isSupervisor, isForced, afterErasure}
+use Rattle.rules.specs.Run.{end, log}
+use Rattle.rules.specs.Calls.{Call, request, sending, result, Reply, replied, call, reading, nameOf, names}
+use Rattle.rules.specs.Visits.{Visited, visited, says, stepped, told, decides, decided, sentStep, resultStep, visitRequest, visit, saying, missedRequest, missed}
+use Rattle.rules.specs.Pending.{never}
+use Rattle.rules.specs.Demand.{isOutcome}
+use Rattle.rules.proofs.Visits.{AllPass, rightChecks, recordChecks, sentChecks}
+use Rattle.rules.proofs.Sound.{call-own, call-absent, call-other}
+use Rattle.rules.proofs.Local.{named-some}
+
+-- ---- what a visit may do to the record r
+
+-- a request
+pub data Asked (list : List ℕ) (r : Record) (requester : Msisdn) (scheme : ℕ) (string reply : List ℕ) : Visited → Type 0 where
+  -- answered with anything but 01 and 02
+  negative : {buffer : List ℕ} {a : Answer} → isOutcome 1 a ≡ false → isOutcome 2 a ≡ false → Asked list r requester scheme string reply (visited a buffer r)
+  registration : {f : Request} → requestOf string ≡ some f → f .operation ≡ Register
+      → (not (isNobody (r .holder)) && not (same (r .holder) requester)) ≡ false
+      → Asked list r requester scheme string reply (says 1 reply (heldBy requester r))
+  erasure : {f : Request} → requestOf string ≡ some f → f .operation ≡ Erase → f .erasing ≡ Empty → same (r .holder) requester ≡ true
+      → Asked list r requester scheme string reply (says 2 reply (heldBy nobody r))
+  -- a forced erasure by the holder herself
+  own : {f : Request} {named : Msisdn} → requestOf string ≡ some f → f .operation ≡ Erase → f .erasing ≡ Forced named
+      → same (r .holder) named ≡ true → same (r .holder) requester ≡ true
+      → Asked list r requester scheme string reply (says 2 reply (heldBy nobody r))
+  -- a forced erasure by another
+  forced : {f : Request} {named : Msisdn} → requestOf string ≡ some f → f .operation ≡ Erase → f .erasing ≡ Forced named
+      → same (r .holder) named ≡ true → isAbsent (r .notice) ≡ true
+      → hasFollowMe (flagsOf list (requester .0)) ≡ true → isSupervisor (flagsOf list (requester .0)) ≡ true
+      → Asked list r requester scheme string reply (says 2 reply (forcedOff requester r))
+
+-- what a result returns where it clears the notice
+pub data Clears : Answer → Type 0 where
+  delivers : Clears delivered
+  drops : Clears dropped
+
+-- a call
+pub data Does (list : List ℕ) (r : Record) : Call → Visited → Type 0 where
+  asks : {requester : Msisdn} {scheme : ℕ} {string reply : List ℕ} {v : Visited} → Asked list r requester scheme string reply v
+      → Does list r (request requester scheme string reply) v
+  unsent : {now : ℕ} {number : FunctionalNumber} {buffer : List ℕ} {n : ℕ} → Does list r (sending now number buffer) (visited (refusal n) buffer r)
+  sends : {now : ℕ} {number : FunctionalNumber} {buffer : List ℕ} → isWaiting (r .notice) ≡ true
+      → Does list r (sending now number buffer) (sentStep number buffer r (step.Becomes (withNotice (launched (r .notice)) r)))
+  untaken : {now kind n : ℕ} {number : FunctionalNumber} → Does list r (result now number kind) (visited (refusal n) [] r)
+  clears : {now kind : ℕ} {number : FunctionalNumber} {a : Answer} → Clears a
+      → Does list r (result now number kind) (visited a [] (cleared r))
+  goes-on : {now kind : ℕ} {number : FunctionalNumber} → leb mostSendings (sendingsDone (r .notice)) ≡ false
+      → Does list r (result now number kind) (visited again [] (withNotice (Waiting (sendingsDone (r .notice)) (reading now)) r))
+
+-- what every answer has, and what is done has where no check holds, the one that is decided has
+decide-by : {A : Type 0} (P : A → Type 0) (checks : List (Bool × A)) (done : A) → Each P checks → (AllPass checks → P done) → P (decide checks done)
+decide-by P [] done each last = last tt
+decide-by P (check ∷ checks) done each last = go (check .0) refl (λ e. decide-by P checks done (each .1) (λ rest. last (e, rest)))
+  where
+    go : (b : Bool) → check .0 ≡ b → (check .0 ≡ false → P (decide checks done)) → P (cond b (check .1) (decide checks done))
+    go true e rest = each .0
+    go false e rest = rest e
+
+module _ (list : List ℕ) (r : Record) (requester : Msisdn) (scheme : ℕ) (string reply : List ℕ) where
+  abbrev flags : ℕ
+  flags = flagsOf list (requester .0)
+
+  abbrev Requested : Visited → Type 0
+  Requested = Asked list r requester scheme string reply
+
+  abbrev Stepped : ℕ → Step → Type 0
+  Stepped n s = Requested (stepped n reply r s)
+
+  module _ (f : Request) (reads : requestOf string ≡ some f) (right : hasFollowMe flags ≡ true) where
+    abbrev steps-by : Operation → Erasing → List (Bool × Step)
+    steps-by o e = map (answering step.Stays) (recordChecks o e (f .number) requester r)
+
+    by-operation : (o : Operation) (e : Erasing) → f .operation ≡ o → f .erasing ≡ e → (isForced e && not (isSupervisor flags)) ≡ false
+        → Requested (decides o e (f .number) requester reply r)
+    unfolding steps.registered steps.erased steps.forced steps.interrogated
+    by-operation Register e p q w =
+        decide-by (Stepped 1) (steps-by Register e) (step.Becomes (heldBy requester r)) (negative refl refl, (negative refl refl, tt))
+        (λ a. registration reads p (a .1 .0))
+    by-operation Erase Empty p q w =
+        decide-by (Stepped 2) (steps-by Erase Empty) (step.Becomes (heldBy nobody r)) (negative refl refl, (negative refl refl, tt))
+        (λ a. erasure reads p q (not-false _ (a .1 .0)))
+    by-operation Erase (Forced named) p q w =
+        decide-by (Stepped 2) (steps-by Erase (Forced named)) (step.Becomes (afterErasure requester (Forced named) r))
+        (negative refl refl, (negative refl refl, (negative refl refl, tt)))
+        (λ a. by-holder (same (r .holder) requester) refl (not-false _ (a .1 .0)) (a .1 .1 .0))
+      where
+        by-holder : (b : Bool) → same (r .holder) requester ≡ b → same (r .holder) named ≡ true → (not b && not (isAbsent (r .notice))) ≡ false
+            → Requested (says 2 reply (cond b (heldBy nobody r) (forcedOff requester r)))
+        by-holder true m h a = own reads p q h m
+        by-holder false m h a = forced reads p q h (not-false _ a) right (not-false _ w)
+    by-operation Interrogate e p q w =
+        decide-by (λ h. Requested (told reply r h)) (map (answering holds.Stays) (recordChecks Interrogate e (f .number) requester r)) (holds.Held (r .holder))
+        (negative refl refl, tt) (λ a. negative refl refl)
+
+  by-reading : (o : Option Request) → requestOf string ≡ o → Requested (visitRequest flags requester reply o r)
+  unfolding decided
+  by-reading none reads = negative refl refl
+  by-reading (some f) reads =
+      decide-by Requested (map (answering (λ n. says n reply r)) (rightChecks flags (f .erasing))) (decided f requester reply r)
+      (negative refl refl, (negative refl refl, tt)) (λ a. by-operation f reads (not-false _ (a .0)) (f .operation) (f .erasing) refl refl (a .1 .0))
+
+-- a visit does one of these
+pub does : (list : List ℕ) (delay : ℕ) (c : Call) (r : Record) → Does list r c (visit list delay c r)
+unfolding steps.sent steps.resulted
+does list delay (request requester scheme string reply) r = asks (by-reading list r requester scheme string reply (requestOf string) refl)
+does list delay (sending now number buffer) r =
+    decide-by (Does list r (sending now number buffer)) ((ltb (length buffer) bufferRoom, visited (refusal 1) buffer r) ∷ [])
+    (sentStep number buffer r (steps.sent delay (reading now) r)) (unsent, tt)
+    (λ p. decide-by (λ s. Does list r (sending now number buffer) (sentStep number buffer r s)) (map (answering step.Stays) (sentChecks delay (reading now) r))
+    (step.Becomes (withNotice (launched (r .notice)) r)) (unsent, (unsent, (unsent, tt))) (λ a. sends (not-false _ (a .1 .0))))
+does list delay (result now number kind) r =
+    decide-by (λ s. Does list r (result now number kind) (resultStep r s))
+    ((ltb lastKind kind, Refused 3)
+    ∷ (not (isInFlight (r .notice)), Refused 4)
+    ∷ (eqb kind 0, Delivered (cleared r))
+    ∷ (ltb kind lastKind, Dropped (cleared r))
+    ∷ (leb mostSendings (sendingsDone (r .notice)), Dropped (cleared r))
+    ∷ [])
+    (Again (withNotice (Waiting (sendingsDone (r .notice)) (reading now)) r))
+    (untaken, (untaken, (clears delivers, (clears drops, (clears drops, tt))))) (λ a. goes-on (a .1 .1 .1 .1 .0))
+
+-- ---- a list of calls, seen from the number k
+
+-- the call c got the reply a and did not come to a record of k
+pub data Passed (list : List ℕ) (k : ℕ) (c : Call) : Reply → Type 0 where
+  unnamed : {a : Reply} → names list c k ≡ false → Passed list k c a
+  -- k is not in the table
+  missing : Passed list k c (missed list c)
+  -- the table is unsound
+  refused : {n : ℕ} {buffer : List ℕ} → Passed list k c (record { answer = refusal n; buffer = buffer })
+
+-- from k's record before the calls, by the log, to its record after them; none where k is not in the table
+pub data Along (list : List ℕ) (k : ℕ) : Option Record → List (Call × Reply) → Option Record → Type 0 where
+  ends : {o : Option Record} → Along list k o [] o
+  passes : {o p : Option Record} {c : Call} {a : Reply} {l : List (Call × Reply)} → Passed list k c a → Along list k o l p → Along list k o ((c, a) ∷ l) p
+  visits : {p : Option Record} {c : Call} {r : Record} {v : Visited} {l : List (Call × Reply)} → names list c k ≡ true → Does list r c v
+      → Along list k (some (v .next)) l p → Along list k (some r) ((c, v .reply) ∷ l) p
+
+-- over an unsound table every call is refused
+module _ (t : List ℕ) (unsound : tableSound t ≡ false) where
+  abbrev RefusedAt : Outcome → Type 0
+  RefusedAt o = (n : ℕ) × (buffer : List ℕ) × (replied o ≡ (record { answer = refusal n; buffer = buffer }, t))
+
+  request-refused : (list reply : List ℕ) (requester : Msisdn) (scheme : ℕ) (string : List ℕ) → RefusedAt (requests.request t list reply requester scheme string)
+  unfolding requests.request requests.requestChecks
+  request-refused list reply requester scheme string =
+      rw unsound (decide-each RefusedAt (refusing t reply ((ltb (length reply) bufferRoom, refusal 1) ∷ (not (listSound list), refusal 8) ∷ []))
+      (made (refusal 2) t reply) ((1, reply, refl), ((8, reply, refl), tt)) (2, reply, refl))
+
+  sending-refused : (buffer : List ℕ) (number : FunctionalNumber) (delay clock : ℕ) → RefusedAt (notices.sending t buffer number delay clock)
+  unfolding notices.sending
+  sending-refused buffer number delay clock =
+      rw unsound (decide-each RefusedAt (refusing t buffer ((ltb (length buffer) bufferRoom, refusal 1) ∷ []))
+      (made (refusal 2) t buffer) ((1, buffer, refl), tt) (2, buffer, refl))
+
+  unsound-refused : (list : List ℕ) (delay : ℕ) (c : Call)
+      → (n : ℕ) × (buffer : List ℕ) × (call list delay c t ≡ (record { answer = refusal n; buffer = buffer }, t))
+  unfolding notices.result
+  unsound-refused list delay (request requester scheme string reply) = request-refused list reply requester scheme string
+  unsound-refused list delay (sending now number buffer) = sending-refused buffer number delay (reading now)
+  unsound-refused list delay (result now number kind) = rw unsound (2, [], refl)
+
+module _ (list : List ℕ) (delay k : ℕ) where
+  -- one call more at the front
+  ahead : (c : Call) (t : List ℕ) {l : List (Call × Reply)} {p : Option Record}
+      → Along list k (recordOf ((call list delay c t) .1) k) l p → Along list k (recordOf t k) ((c, (call list delay c t) .0) ∷ l) p
+  ahead c t {l} {p} rest = by-table (tableSound t) refl
+    where
+      by-record : tableSound t ≡ true → (b : Bool) (o : Option Record) → names list c k ≡ b → recordOf t k ≡ o → Along list k o ((c, (call list delay c t) .0) ∷ l) p
+      by-record sound false o n e = passes (unnamed n) (rw (call-other list delay c t sound k n ∙ e) at rest)
+      by-record sound true none n e =
+          let m = call-absent list delay c t sound k (named-some (nameOf list c) k n) e in
+          rw m (passes missing (rw (m, e) at rest))
+      by-record sound true (some r) n e =
+          let m = call-own list delay c t sound k r (named-some (nameOf list c) k n) e in
+          rw (m .0) (visits n (does list delay c r) (rw (m .1) at rest))
+
+      by-table : (b : Bool) → tableSound t ≡ b → Along list k (recordOf t k) ((c, (call list delay c t) .0) ∷ l) p
+      by-table true e = by-record e (names list c k) (recordOf t k) refl refl
+      by-table false e =
+          let (n, buffer, m) = unsound-refused t e list delay c in
+          rw m (passes refused (rw m at rest))
+
+  -- any list of calls over any table is such a walk
+  pub along : (cs : List Call) (t : List ℕ) → Along list k (recordOf t k) (log (call list delay) cs t) (recordOf (end (call list delay) cs t) k)
+  along [] t = ends
+  along (c ∷ cs) t = ahead c t (along cs ((call list delay c t) .1))
+
+-- ---- a call that names k and is answered 02 has visited its record
+
+abbrev Negative : Reply → Type 0
+Negative a = isOutcome 2 (a .answer) ≡ false
+
+missed-negative : (list : List ℕ) (c : Call) → Negative (missed list c)
+missed-negative list (request requester scheme string reply) = by-reading (requestOf string)
+  where
+    by-reading : (o : Option Request) → Negative (missedRequest (flagsOf list (requester .0)) reply o)
+    by-reading none = refl
+    by-reading (some f) =
+        decide-each Negative (map (answering (λ n. saying n reply)) (rightChecks (flagsOf list (requester .0)) (f .erasing))) (saying 41 reply)
+        (refl, (refl, tt)) refl
+missed-negative list (sending now number buffer) =
+    decide-each Negative ((ltb (length buffer) bufferRoom, record { answer = refusal 1; buffer = buffer }) ∷ []) (record { answer = refusal 7; buffer = buffer })
+    (refl, tt) refl
+missed-negative list (result now number kind) = refl
+
+pub answered-02 : {list : List ℕ} {k : ℕ} {o p : Option Record} {c : Call} {a : Reply} → Along list k o ((c, a) ∷ []) p → names list c k ≡ true
+    → isOutcome 2 (a .answer) ≡ true → (r : Record) × (v : Visited) × Does list r c v × (p ≡ some (v .next)) × (isOutcome 2 (v .reply .answer) ≡ true)
+answered-02 (passes (unnamed n) ends) m u = no-path (sym n ∙ m)
+answered-02 {list} {c = c} (passes missing ends) m u = no-path (sym (missed-negative list c) ∙ u)
+answered-02 (passes refused ends) m u = no-path u
+answered-02 (visits {r = r} {v = v} n d ends) m u = (r, v, d, refl, u)
+
+-- ---- what the tests say
+
+-- the word of an MSISDN, by which it is known
+abbrev pub word : Msisdn → ℕ
+word m = m .0
+
+pub one-msisdn : (m n : Msisdn) → m .0 ≡ n .0 → m ≡ n
+one-msisdn m n e = ap (λ (w : ℕ). record { 0 = w }) e
+
+pub same-one : (m n : Msisdn) → same m n ≡ true → m ≡ n
+same-one m n e = one-msisdn m n (eqb-true (m .0) (n .0) e)
+
+pub one-same : (m n : Msisdn) → m ≡ n → same m n ≡ true
+one-same m n e = eq-eqb (m .0) (n .0) (ap word e)
+
+pub not-same : (m n : Msisdn) → (m ≡ n → ⊥) → same m n ≡ false
+not-same m n d = ne-eqb (m .0) (n .0) (λ e. d (one-msisdn m n e))
+
+pub never-first : {X : Type 0} (test : X → Bool) (x : X) (xs : List X) → never test (x ∷ xs) ≡ true → (test x ≡ false) × (never test xs ≡ true)
+never-first test x xs u = (not-true _ (and-left (not (test x)) (never test xs) u), and-right (not (test x)) (never test xs) u)

@@ -1,0 +1,147 @@
+-- The controller: a supervisor takes a number from the holder whom she names, in the one call, or is answered 68; and the number can be registered at once. Assumes nothing.
+use mathlib.Core.Path.{_≡_, refl, sym, ap, _∙_}
+use mathlib.Core.Logic.{_⊎_, ⊎-elim}
+use mathlib.Core.Bool.{Bool, true, false, cond, not, _&&_}
+use mathlib.Core.Option.{some}
+use mathlib.Core.List.{List, [], _∷_}
+use Prim.Native.Nat.{ℕ}
+use native.Mathlib.Omega.{arith}
+use lib.ListN.{length}
+use borrow.Author.Tests.{eq-eqb, ne-eqb, le-ltb}
+use Rattle.answers.proofs.Checks.{not-some}
+use Rattle.answers.proofs.Tests.{no-path, and-no}
+use Rattle.numbers.specs.declared.Msisdn.{Msisdn}
+use Rattle.strings.specs.declared.Operation.the-variants.{Register, Erase}
+use Rattle.strings.specs.declared.Erasing.the-variants.{Empty, Forced}
+use Rattle.strings.specs.Text.{Request}
+use Rattle.records.specs.declared.Record.{Record}
+use Rattle.records.specs.Steps as steps
+use Rattle.records.specs.Steps.{nobody, isNobody, same, isAbsent, heldBy, forcedOff}
+use Rattle.records.specs.Rows.{recordAt, stored}
+use Rattle.records.proofs.Rows.{words-stored}
+use Rattle.tables.specs.declared.Found.{Found}
+use Rattle.tables.specs.declared.Found.the-variants.{At, Nothing}
+use Rattle.tables.specs.Tables.{tableSound, rowOf, recordOf, flagsOf}
+use Rattle.tables.proofs.Stored.{record-found, record-missing}
+use Rattle.rules.specs.Answers.{bufferRoom}
+use Rattle.rules.specs.Requests.{hasFollowMe, holderIn, codingScheme, mostStringOctets, afterErasure}
+use Rattle.rules.specs.Calls.{Call, request, call, nameOf, names}
+use Rattle.rules.specs.Visits.{Visited, says, saying, decided, visit}
+use Rattle.rules.specs.Demand.{isOutcome, holderOf}
+use Rattle.rules.specs.Users.{bothFlags, WellFormed}
+use Rattle.rules.proofs.Visits.{found-sound, call-visits}
+use Rattle.rules.proofs.Sound.{call-keeps, call-own}
+use Rattle.rules.proofs.Along.{negative, registration, erasure, own, forced, Does, asks, unsent, sends, untaken, clears, goes-on, delivers, drops, along, answered-02, one-same, not-same}
+
+-- a well-formed request names the number in its string
+form-names : (list : List ℕ) (requester : Msisdn) (scheme : ℕ) (string reply : List ℕ) (f : Request) → WellFormed list requester scheme string reply f
+    → nameOf list (request requester scheme string reply) ≡ some (f .number .0)
+form-names list requester scheme string reply f form =
+    let some-octets = form .least in
+    rw (
+      le-ltb (length reply) bufferRoom (form .room),
+      form .sound,
+      form .stored,
+      eq-eqb scheme codingScheme (form .coded),
+      ne-eqb (length string) 0 (λ e. omega arith),
+      le-ltb mostStringOctets (length string) (form .most),
+      form .reads,
+    ) refl
+
+-- ---- a visit to the record r of the number k in a sound table, where it is known to come to v
+
+module _ (list : List ℕ) (delay : ℕ) (c : Call) (t : List ℕ) (k : ℕ) (r : Record) (v : Visited) (sound : tableSound t ≡ true)
+    (named : nameOf list c ≡ some k) (known : recordOf t k ≡ some r) (does : visit list delay c r ≡ v) where
+  visit-gets : ((call list delay c t) .0 ≡ v .reply) × (holderOf ((call list delay c t) .1) k ≡ v .next .holder .0)
+  visit-gets =
+      let d = call-own list delay c t sound k r named known in
+      (d .0 ∙ ap (λ (x : Visited). x .reply) does, ap (λ o. holderIn o .0) (d .1) ∙ ap (λ (x : Visited). x .next .holder .0) does)
+
+  -- it leaves the record, and so the table
+  visit-leaves : v .next ≡ r → call list delay c t ≡ (v .reply, t)
+  visit-leaves stays = go (rowOf t k) refl
+    where
+      go : (place : Found) → rowOf t k ≡ place → call list delay c t ≡ (v .reply, t)
+      go Nothing e = not-some (sym (record-missing t k e) ∙ known)
+      go (At i) e =
+          let it : recordAt t i ≡ r = cc (record-found t k i e) in
+          let same-table = ap (stored t i) (stays ∙ sym it) ∙ words-stored t i (found-sound t k i sound e) in
+          call-visits list delay t sound c k i named e ∙ rw (it, does, same-table) refl
+
+-- ---- the controller
+
+-- over a sound table in which r is the number's record, s with flags 3 asks for a forced erasure naming the number's holder
+module _ (list : List ℕ) (delay : ℕ) (table : List ℕ) (s : Msisdn) (scheme : ℕ) (string reply : List ℕ) (f : Request) (r : Record)
+    (sound : tableSound table ≡ true) (known : recordOf table (f .number .0) ≡ some r) (form : WellFormed list s scheme string reply f)
+    (erases : f .operation ≡ Erase) (forces : f .erasing ≡ Forced (r .holder)) (held : isNobody (r .holder) ≡ false)
+    (flags : flagsOf list (s .0) ≡ bothFlags) where
+  abbrev asked : Call
+  asked = request s scheme string reply
+
+  abbrev number : ℕ
+  number = f .number .0
+
+  -- "68: forced, holder differs from the supervisor, phase is not 0"
+  abbrev waits : Bool
+  waits = not (same (r .holder) s) && not (isAbsent (r .notice))
+
+  visit-frees : waits ≡ false → visit list delay asked r ≡ says 2 reply (afterErasure s (Forced (r .holder)) r)
+  unfolding decided steps.forced
+  visit-frees e = rw (form .reads, flags, erases, forces, held, one-same (r .holder) (r .holder) refl, e) refl
+
+  visit-waits : waits ≡ true → visit list delay asked r ≡ says 68 reply r
+  unfolding decided steps.forced
+  visit-waits e = rw (form .reads, flags, erases, forces, held, one-same (r .holder) (r .holder) refl, e) refl
+
+  erased-nobody : (b : Bool) → (cond b (heldBy nobody r) (forcedOff s r)) .holder .0 ≡ 0
+  erased-nobody true = refl
+  erased-nobody false = refl
+
+  -- at phase 0, or where s is the holder: 02 in that call, and nobody holds the number
+  pub frees-at-once : (isAbsent (r .notice) ≡ true) ⊎ (s ≡ r .holder)
+      → ((call list delay asked table) .0 ≡ saying 2 reply) × (holderOf ((call list delay asked table) .1) number ≡ 0)
+  frees-at-once may =
+      let goes : waits ≡ false = ⊎-elim (λ a. and-no (not (same (r .holder) s)) _ (ap not a)) (λ e. rw (one-same (r .holder) s (sym e)) refl) may in
+      let d = visit-gets list delay asked table number r _ sound (form-names list s scheme string reply f form) known (visit-frees goes) in
+      (d .0, d .1 ∙ erased-nobody (same (r .holder) s))
+
+  -- otherwise 68, and the table is as it was
+  pub waits-for-the-notice : isAbsent (r .notice) ≡ false → (s ≡ r .holder → ⊥) → call list delay asked table ≡ (saying 68 reply, table)
+  waits-for-the-notice pending other =
+      let stops : waits ≡ true = rw (not-same (r .holder) s (λ e. other (sym e)), pending) refl in
+      visit-leaves list delay asked table number r _ sound (form-names list s scheme string reply f form) known (visit-waits stops) refl
+
+-- nobody holds the number after a 02
+erasure-frees : {list : List ℕ} {r : Record} {c : Call} {v : Visited} → Does list r c v → isOutcome 2 (v .reply .answer) ≡ true → v .next .holder ≡ nobody
+erasure-frees (asks (negative p q)) u = no-path (sym q ∙ u)
+erasure-frees (asks (registration p q w)) u = no-path u
+erasure-frees (asks (erasure p q w m)) u = refl
+erasure-frees (asks (own p q w m o)) u = refl
+erasure-frees (asks (forced p q w m x y z)) u = refl
+erasure-frees unsent u = no-path u
+erasure-frees (sends w) u = no-path u
+erasure-frees untaken u = no-path u
+erasure-frees (clears delivers) u = no-path u
+erasure-frees (clears drops) u = no-path u
+erasure-frees (goes-on p) u = no-path u
+
+-- m with flag 1 asks for a registration of a number whose digits are not hers
+module _ (list : List ℕ) (delay : ℕ) (m : Msisdn) (scheme : ℕ) (string reply : List ℕ) (f : Request) (form : WellFormed list m scheme string reply f)
+    (registers : f .operation ≡ Register) (plain : f .erasing ≡ Empty) (flag : hasFollowMe (flagsOf list (m .0)) ≡ true)
+    (other : f .number .0 ≡ m .0 → ⊥) where
+  abbrev asks-for : Call
+  asks-for = request m scheme string reply
+
+  visit-registers : (r : Record) → r .holder ≡ nobody → visit list delay asks-for r ≡ says 1 reply (heldBy m r)
+  unfolding decided steps.registered
+  visit-registers r free = rw (form .reads, flag, registers, plain, ne-eqb (f .number .0) (m .0) other, free) refl
+
+  -- right after any call that names the number and is answered 02: 01, and m holds it
+  pub next-registers : (c : Call) (table : List ℕ) → tableSound table ≡ true → names list c (f .number .0) ≡ true
+      → isOutcome 2 ((call list delay c table) .0 .answer) ≡ true
+      → let after = (call list delay c table) .1 in
+      ((call list delay asks-for after) .0 ≡ saying 1 reply) × (holderOf ((call list delay asks-for after) .1) (f .number .0) ≡ m .0)
+  next-registers c table sound named answered =
+      let (r, v, d, known, u) = answered-02 (along list delay (f .number .0) (c ∷ []) table) named answered in
+      visit-gets list delay asks-for ((call list delay c table) .1) (f .number .0) (v .next) _ (call-keeps list delay c table sound .sound)
+      (form-names list m scheme string reply f form) known (visit-registers (v .next) (erasure-frees d u))

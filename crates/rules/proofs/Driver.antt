@@ -1,0 +1,164 @@
+-- The driver: who holds a number ceases to hold it only by an erasure of her own or by a supervisor who names her, and nobody comes to hold it but by her own registration. Assumes nothing.
+use mathlib.Core.Path.{_≡_, refl, sym, ap, _∙_}
+use mathlib.Core.Logic.{_⊎_, inl, inr, ⊎-elim}
+use mathlib.Core.Bool.{Bool, true, false}
+use mathlib.Core.Option.{Option}
+use mathlib.Core.List.{List, [], _∷_}
+use Prim.Native.Nat.{ℕ}
+use native.Mathlib.Omega.{arith}
+use borrow.Author.Tests.{eqb-true, not-false}
+use Rattle.answers.proofs.Tests.{no-path, or-right}
+use Rattle.numbers.specs.declared.Msisdn.{Msisdn}
+use Rattle.records.specs.declared.Record.{Record}
+use Rattle.records.specs.Steps.{nobody, isNobody, same, isAbsent}
+use Rattle.tables.specs.Tables.{listSound, recordOf, flagsOf}
+use Rattle.rules.specs.Run.{end, log}
+use Rattle.rules.specs.Requests.{refusalChecks, hasFollowMe, isSupervisor, holderIn, noNotice}
+use Rattle.rules.specs.Calls.{Call, Reply, request, call, nameOf, names}
+use Rattle.rules.specs.Visits.{Visited}
+use Rattle.rules.specs.Pending.{never}
+use Rattle.rules.specs.Users.{isRequest, bothFlags, mayEndHold, endsHold, HoldEnded, registers, HoldBegun}
+use Rattle.rules.specs.Demand.{isOutcome, requesterOf, holderOf}
+use Rattle.tables.proofs.Stored.{flags-small}
+use Rattle.rules.proofs.Visits.{all-pass, naming}
+use Rattle.rules.proofs.Local.{named-some}
+use Rattle.rules.proofs.Along.{Asked, negative, registration, erasure, own, forced, Does, asks, unsent, sends, untaken, clears, goes-on, Along, ends, passes, visits, along, word, one-msisdn, same-one, one-same, never-first}
+
+-- ---- what the tests say
+
+-- a request that names a number was given a sound list
+named-listed : (list : List ℕ) (k : ℕ) (requester : Msisdn) (scheme : ℕ) (string reply : List ℕ)
+    → names list (request requester scheme string reply) k ≡ true → listSound list ≡ true
+named-listed list k requester scheme string reply n =
+    let passed = naming list reply requester scheme string k (named-some (nameOf list (request requester scheme string reply)) k n) .passed in
+    not-false _ (all-pass (refusalChecks true list reply requester scheme string) passed .1 .0)
+
+-- "flags 0 to 3: 1 has Follow Me, 2 supervisor"
+both-flags : (list : List ℕ) (msisdn : ℕ) → listSound list ≡ true → hasFollowMe (flagsOf list msisdn) ≡ true → isSupervisor (flagsOf list msisdn) ≡ true
+    → flagsOf list msisdn ≡ bothFlags
+both-flags list msisdn sound f s = omega (arith, eqb-true, flags-small list sound msisdn)
+
+-- ---- one visit
+
+-- a call asks for something, or leaves the holder
+data Holding (list : List ℕ) (r : Record) : Call → Visited → Type 0 where
+  asking : {requester : Msisdn} {scheme : ℕ} {string reply : List ℕ} {v : Visited} → Asked list r requester scheme string reply v
+      → Holding list r (request requester scheme string reply) v
+  keeping : {c : Call} {v : Visited} → v .next .holder ≡ r .holder → Holding list r c v
+
+holding : {list : List ℕ} {r : Record} {c : Call} {v : Visited} → Does list r c v → Holding list r c v
+holding (asks d) = asking d
+holding unsent = keeping refl
+holding (sends w) = keeping refl
+holding untaken = keeping refl
+holding (clears e) = keeping refl
+holding (goes-on p) = keeping refl
+
+-- no sending and no result changes the holder, and no answer but 01 and 02
+unasked-keeps : {list : List ℕ} {r : Record} {c : Call} {v : Visited} → Holding list r c v → isRequest c ≡ false → v .next .holder ≡ r .holder
+unasked-keeps (asking d) e = no-path (sym e)
+unasked-keeps (keeping s) e = s
+
+negative-keeps : {list : List ℕ} {r : Record} {c : Call} {v : Visited} → Holding list r c v
+    → isOutcome 1 (v .reply .answer) ≡ false → isOutcome 2 (v .reply .answer) ≡ false → v .next .holder ≡ r .holder
+negative-keeps (keeping s) a b = s
+negative-keeps (asking (negative p q)) a b = refl
+negative-keeps (asking (registration p q h)) a b = no-path (sym a)
+negative-keeps (asking (erasure p q h m)) a b = no-path (sym b)
+negative-keeps (asking (own p q h m w)) a b = no-path (sym b)
+negative-keeps (asking (forced p q h m x y z)) a b = no-path (sym b)
+
+-- nobody holds a free number still, or who holds it has registered it
+visit-begins : {list : List ℕ} {r : Record} {c : Call} {v : Visited} → Holding list r c v → r .holder ≡ nobody
+    → (v .next .holder ≡ nobody) ⊎ ((registers c ≡ true) × (isOutcome 1 (v .reply .answer) ≡ true) × (v .next .holder .0 ≡ requesterOf c))
+visit-begins (keeping s) e = inl (s ∙ e)
+visit-begins (asking (negative p q)) e = inl e
+visit-begins (asking (registration p q h)) e = inr (rw (p, q) refl, refl, refl)
+visit-begins (asking (erasure p q h m)) e = inl refl
+visit-begins (asking (own p q h m w)) e = inl refl
+visit-begins (asking (forced p q h m x y z)) e = inl refl
+
+module _ (list : List ℕ) (k : ℕ) (h : Msisdn) (held : isNobody h ≡ false) where
+  -- h holds the number still, or an erasure has ended her hold
+  visit-ends : {r : Record} {c : Call} {v : Visited} → Holding list r c v → names list c k ≡ true → r .holder ≡ h
+      → (v .next .holder ≡ h) ⊎ ((v .next .holder ≡ nobody) × (isOutcome 2 (v .reply .answer) ≡ true)
+      × ((b : Bool) → (isAbsent (r .notice) ≡ true → b ≡ true) → mayEndHold list h b c ≡ true))
+  visit-ends (keeping s) n e = inl (s ∙ e)
+  visit-ends (asking (negative p q)) n e = inl e
+  visit-ends {r} (asking {requester = requester} (registration p q w)) n e = inl (sym (same-one h requester (not-false _ (rw (e, held) at w))))
+  visit-ends {r} (asking {requester = requester} (erasure p q w m)) n e =
+      let by = one-same requester h (sym (same-one (r .holder) requester m) ∙ e) in
+      inr (refl, refl, λ b i. rw (p, q, w, by) refl)
+  visit-ends {r} (asking {requester = requester} (own {named = named} p q w m o)) n e =
+      let of = one-same named h (sym (same-one (r .holder) named m) ∙ e) in
+      let by = one-same requester h (sym (same-one (r .holder) requester o) ∙ e) in
+      inr (refl, refl, λ b i. rw (p, q, w, of, by) refl)
+  visit-ends {r} (asking {requester = requester} {scheme} {string} {reply} (forced {named = named} p q w m x y z)) n e =
+      let of = one-same named h (sym (same-one (r .holder) named m) ∙ e) in
+      let flags = both-flags list (requester .0) (named-listed list k requester scheme string reply n) y z in
+      inr (refl, refl, λ b i. rw (p, q, w, of, flags, i x) (or-right (same requester h) true refl))
+
+  -- ---- the walk along the calls
+
+  ended-once : {o p : Option Record} {x : Call × Reply} → Along list k o (x ∷ []) p → holderIn o ≡ h
+      → (holderIn p ≡ h)
+      ⊎ ((names list (x .0) k ≡ true) × (mayEndHold list h (noNotice o) (x .0) ≡ true) × (isOutcome 2 (x .1 .answer) ≡ true) × (holderIn p ≡ nobody))
+  ended-once (passes n ends) e = inl e
+  ended-once (visits n d ends) e = ⊎-elim inl (λ (f, a, m). inr (n, m _ (λ x. x), a, f)) (visit-ends (holding d) n e)
+
+  held-along : {o p : Option Record} {l : List (Call × Reply)} → Along list k o l p → holderIn o ≡ h → never (endsHold list h k) l ≡ true → holderIn p ≡ h
+  held-along ends e u = e
+  held-along (passes {c = c} {a = a} {l = l} n rest) e u = held-along rest e (never-first (endsHold list h k) (c, a) l u .1)
+  held-along (visits {c = c} {v = v} {l = l} n d rest) e u =
+      let (first, then) = never-first (endsHold list h k) (c, v .reply) l u in
+      ⊎-elim (λ s. held-along rest s then) (λ (f, a, m). no-path (sym first ∙ rw (n, m true (λ x. refl), a) refl)) (visit-ends (holding d) n e)
+
+begun-once : {list : List ℕ} {k : ℕ} {o p : Option Record} {x : Call × Reply} → Along list k o (x ∷ []) p → holderIn o ≡ nobody
+    → (holderIn p ≡ nobody) ⊎ ((names list (x .0) k ≡ true) × (registers (x .0) ≡ true) × (isOutcome 1 (x .1 .answer) ≡ true) × (holderIn p .0 ≡ requesterOf (x .0)))
+begun-once (passes n ends) e = inl e
+begun-once (visits n d ends) e = ⊎-elim inl (λ (m, a, q). inr (n, m, a, q)) (visit-begins (holding d) e)
+
+kept-once : {list : List ℕ} {k : ℕ} {o p : Option Record} {x : Call × Reply} → Along list k o (x ∷ []) p
+    → (isRequest (x .0) ≡ false) ⊎ ((isOutcome 1 (x .1 .answer) ≡ false) × (isOutcome 2 (x .1 .answer) ≡ false)) → holderIn p ≡ holderIn o
+kept-once (passes n ends) s = refl
+kept-once (visits n d ends) s = ⊎-elim (unasked-keeps (holding d)) (λ (a, b). negative-keeps (holding d) a b) s
+
+-- ---- the driver
+
+module _ (list : List ℕ) (delay k : ℕ) where
+  module _ (c : Call) (table : List ℕ) where
+    abbrev got : Reply
+    got = (call list delay c table) .0
+
+    abbrev after : List ℕ
+    after = (call list delay c table) .1
+
+    once : Along list k (recordOf table k) ((c, got) ∷ []) (recordOf after k)
+    once = along list delay k (c ∷ []) table
+
+    -- if h holds k before a call and not after it, then the call is an erasure that may end her hold, answered 02, and nobody holds k after it
+    pub hold-ends-by-erasure : (h : Msisdn) → isNobody h ≡ false → holderOf table k ≡ h .0 → (holderOf after k ≡ h .0 → ⊥)
+        → HoldEnded list h k c table got after
+    hold-ends-by-erasure h held e gone =
+        ⊎-elim (λ s. absurd (gone (ap word s))) (λ (n, m, a, f). record { named = n; erasure = m; answered = a; nobody = ap word f })
+        (ended-once list k h held once (one-msisdn (holderIn (recordOf table k)) h e))
+
+    -- if k is free before a call and not after it, then the call is a registration, answered 01, and its requester holds k
+    pub hold-begins-by-registration : holderOf table k ≡ 0 → (holderOf after k ≡ 0 → ⊥) → HoldBegun list k c got after
+    hold-begins-by-registration e gone =
+        ⊎-elim (λ s. absurd (gone (ap word s))) (λ (n, m, a, q). record { named = n; registration = m; answered = a; requester = q })
+        (begun-once once (one-msisdn (holderIn (recordOf table k)) nobody e))
+
+    -- a sending or a result changes no holder
+    pub notices-change-no-holder : isRequest c ≡ false → holderOf after k ≡ holderOf table k
+    notices-change-no-holder e = ap word (kept-once once (inl e))
+
+    -- nor does what is refused, in error or negative: any answer but 01 and 02
+    pub negatives-change-no-holder : isOutcome 1 (got .answer) ≡ false → isOutcome 2 (got .answer) ≡ false → holderOf after k ≡ holderOf table k
+    negatives-change-no-holder a b = ap word (kept-once once (inr (a, b)))
+
+  -- over any list of calls with no such erasure in it, h holds k at the end
+  pub holds-to-the-end : (calls : List Call) (table : List ℕ) (h : Msisdn) → isNobody h ≡ false → holderOf table k ≡ h .0
+      → never (endsHold list h k) (log (call list delay) calls table) ≡ true → holderOf (end (call list delay) calls table) k ≡ h .0
+  holds-to-the-end calls table h held e u =
+      ap word (held-along list k h held (along list delay k calls table) (one-msisdn (holderIn (recordOf table k)) h e) u)

@@ -1,0 +1,233 @@
+-- "A notice thus ends after at most five sendings, each followed by a result": for one number, over any list of calls. Assumes nothing.
+use mathlib.Core.Path.{_≡_, refl, sym, _∙_}
+use mathlib.Core.Bool.{Bool, true, false, cond}
+use mathlib.Core.Option.{Option, some}
+use mathlib.Core.List.{List, [], _∷_}
+use Prim.Native.Nat.{ℕ, zero, suc, _+_, _-_, _≤_, _<_}
+use native.Mathlib.Omega.{arith}
+use lib.ListN.{length}
+use lib.Dec.{eqb, ltb}
+use Rattle.answers.proofs.Decide.{decide-each}
+use Rattle.answers.proofs.Tests.{no-path, and-right, and-no}
+use Rattle.numbers.specs.declared.Msisdn.{Msisdn}
+use Rattle.records.specs.declared.Notice.{Notice}
+use Rattle.records.specs.declared.Notice.the-variants.{Absent, Waiting, InFlight}
+use Rattle.records.specs.declared.Record.{Record}
+use Rattle.records.specs.Steps.{heldBy, mostSendings, isAbsent, isWaiting, isInFlight, sendingsDone, launched}
+use Rattle.records.specs.Rows.{recordAt, recordSound}
+use Rattle.records.proofs.Rows.{record-sound}
+use Rattle.records.proofs.Kept.{waiting-sendings, flying-sendings}
+use Rattle.tables.specs.declared.Found.{Found}
+use Rattle.tables.specs.declared.Found.the-variants.{At, Nothing}
+use Rattle.tables.specs.Tables.{tableSound, rowOf}
+use Rattle.tables.proofs.Stored.{record-found, record-missing}
+use Rattle.rules.specs.Answers.{refusal, bufferRoom}
+use Rattle.rules.specs.Run.{only, end, log}
+use Rattle.rules.specs.Notices.{noticeIn}
+use Rattle.rules.specs.Calls.{Call, Reply, request, sending, result, call, names}
+use Rattle.rules.specs.Visits.{Visited}
+use Rattle.rules.specs.Pending.{noticeFor, never, holdsAt, isSent, isSendingOf, isResultOf, sendingDone, resultTaken, ResultBetween, noticeCleared}
+use Rattle.rules.proofs.Visits.{found-sound}
+use Rattle.rules.proofs.Sound.{end-keeps}
+use Rattle.rules.proofs.Along.{Asked, negative, registration, erasure, own, forced, Does, asks, unsent, sends, untaken, clears, goes-on, delivers, drops, Passed, unnamed, missing, refused, Along, ends, passes, visits, along, never-first}
+
+-- ---- one visit
+
+launched-flies : (n : Notice) → isWaiting n ≡ true → isInFlight (launched n) ≡ true
+launched-flies Absent w = w
+launched-flies (Waiting k s) w = refl
+launched-flies (InFlight k) w = refl
+
+launched-one-more : (n : Notice) → isWaiting n ≡ true → sendingsDone (launched n) ≡ sendingsDone n + 1
+launched-one-more Absent w = no-path w
+launched-one-more (Waiting k s) w = refl
+launched-one-more (InFlight k) w = no-path w
+
+not-both : (n : Notice) → isWaiting n ≡ true → isInFlight n ≡ true → ⊥
+not-both Absent w f = no-path w
+not-both (Waiting k s) w f = no-path f
+not-both (InFlight k) w f = no-path w
+
+flies-pending : (n : Notice) → isInFlight n ≡ true → isAbsent n ≡ false
+flies-pending Absent f = no-path f
+flies-pending (Waiting k s) f = refl
+flies-pending (InFlight k) f = refl
+
+-- one entry more, or none
+one-more : {X : Type 0} (b : Bool) (x : X) (xs : List X) → length (cond b (x ∷ xs) xs) ≡ cond b 1 0 + length xs
+one-more true x xs = omega arith
+one-more false x xs = omega arith
+
+-- a request leaves a pending notice as it is: it changes the holder at most
+asked-keeps : {list : List ℕ} {r : Record} {requester : Msisdn} {scheme : ℕ} {string reply : List ℕ} {v : Visited}
+    → Asked list r requester scheme string reply v → isAbsent (r .notice) ≡ false → v .next ≡ heldBy (v .next .holder) r
+asked-keeps (negative p q) n = refl
+asked-keeps (registration p q h) n = refl
+asked-keeps (erasure p q h m) n = refl
+asked-keeps (own p q h m w) n = refl
+asked-keeps (forced p q h m x y z) n = no-path (sym n ∙ x)
+
+-- the notice of r is pending still in the record `next`, to the same addressee, from the same supervisor, and counts the entry if it is a sending of k that succeeded
+pub record StillPending (k : ℕ) (r : Record) (entry : Call × Reply) (next : Record) : Type 0 where
+  pub pending : isAbsent (next .notice) ≡ false
+  pub addressee : next .addressee ≡ r .addressee
+  pub supervisor : next .supervisor ≡ r .supervisor
+  pub done : sendingsDone (next .notice) ≡ sendingsDone (r .notice) + cond (sendingDone k entry) 1 0
+
+module _ (list : List ℕ) (k : ℕ) where
+  -- a call that does not come to a record of k is no sending of it that succeeds, and no result that is taken
+  pub passed-unsent : (c : Call) {a : Reply} → Passed list k c a → sendingDone k (c, a) ≡ false
+  passed-unsent c refused = and-no (isSendingOf k c) false refl
+  passed-unsent (request requester scheme string reply) (unnamed n) = refl
+  passed-unsent (sending now number buffer) (unnamed n) = rw n
+  passed-unsent (result now number kind) (unnamed n) = refl
+  passed-unsent (request requester scheme string reply) missing = refl
+  passed-unsent (sending now number buffer) missing =
+      and-no (eqb (number .0) k) _ (decide-each (λ (a : Reply). isSent (a .answer) ≡ false)
+      ((ltb (length buffer) bufferRoom, record { answer = refusal 1; buffer = buffer }) ∷ []) (record { answer = refusal 7; buffer = buffer }) (refl, tt) refl)
+  passed-unsent (result now number kind) missing = refl
+
+  passed-untaken : (c : Call) {a : Reply} → Passed list k c a → resultTaken k (c, a) ≡ false
+  passed-untaken c refused = and-no (isResultOf k c) false refl
+  passed-untaken (request requester scheme string reply) (unnamed n) = refl
+  passed-untaken (sending now number buffer) (unnamed n) = refl
+  passed-untaken (result now number kind) (unnamed n) = rw n
+  passed-untaken (request requester scheme string reply) missing = refl
+  passed-untaken (sending now number buffer) missing = refl
+  passed-untaken (result now number kind) missing = and-no (eqb (number .0) k) false refl
+
+  -- a sending that succeeds finds the notice waiting and leaves it in flight
+  sent-flies : {r : Record} {c : Call} {v : Visited} → Does list r c v → sendingDone k (c, v .reply) ≡ true
+      → (isWaiting (r .notice) ≡ true) × (isInFlight (v .next .notice) ≡ true)
+  sent-flies (asks d) s = no-path s
+  sent-flies (unsent {number = number}) s = no-path (and-right (eqb (number .0) k) false s)
+  sent-flies {r} (sends w) s = (w, launched-flies (r .notice) w)
+  sent-flies untaken s = no-path s
+  sent-flies (clears e) s = no-path s
+  sent-flies (goes-on p) s = no-path s
+
+  -- a notice in flight stays in flight, up to a result that is not refused
+  flying-on : {r : Record} {c : Call} {v : Visited} → names list c k ≡ true → Does list r c v → isInFlight (r .notice) ≡ true
+      → resultTaken k (c, v .reply) ≡ false → isInFlight (v .next .notice) ≡ true
+  flying-on {r} n (asks d) f u = rw (asked-keeps d (flies-pending (r .notice) f)) f
+  flying-on n unsent f u = f
+  flying-on {r} n (sends w) f u = absurd (not-both (r .notice) w f)
+  flying-on n untaken f u = f
+  flying-on n (clears delivers) f u = no-path (sym (rw n at u))
+  flying-on n (clears drops) f u = no-path (sym (rw n at u))
+  flying-on n (goes-on p) f u = no-path (sym (rw n at u))
+
+  -- a pending notice is pending still, up to the result that clears it
+  pub still-pending : {r : Record} {c : Call} {v : Visited} → names list c k ≡ true → Does list r c v → isAbsent (r .notice) ≡ false
+      → noticeCleared k (c, v .reply) ≡ false → StillPending k r (c, v .reply) (v .next)
+  still-pending n (asks d) a u = rw (asked-keeps d a) (record { pending = a; addressee = refl; supervisor = refl; done = omega arith })
+  still-pending n unsent a u = record { pending = a; addressee = refl; supervisor = refl; done = rw n (omega arith) }
+  still-pending {r} n (sends w) a u =
+      record { pending = flies-pending (launched (r .notice)) (launched-flies (r .notice) w); addressee = refl; supervisor = refl; done = rw n (launched-one-more (r .notice) w) }
+  still-pending n untaken a u = record { pending = a; addressee = refl; supervisor = refl; done = omega arith }
+  still-pending n (clears delivers) a u = no-path (sym (rw n at u))
+  still-pending n (clears drops) a u = no-path (sym (rw n at u))
+  still-pending n (goes-on p) a u = record { pending = refl; addressee = refl; supervisor = refl; done = omega arith }
+
+  -- a result that is taken after the fifth sending clears the notice
+  fifth-clears : {r : Record} {c : Call} {v : Visited} → Does list r c v → sendingsDone (r .notice) ≡ mostSendings → resultTaken k (c, v .reply) ≡ true
+      → v .next .notice ≡ Absent
+  fifth-clears (asks d) m u = no-path u
+  fifth-clears unsent m u = no-path u
+  fifth-clears (sends w) m u = no-path u
+  fifth-clears (untaken {number = number}) m u = no-path (and-right (eqb (number .0) k) false u)
+  fifth-clears (clears e) m u = refl
+  fifth-clears (goes-on p) m u = no-path (sym (rw m at p))
+
+  -- ---- the walk along the calls
+
+  -- behind one entry more
+  farther : {x : Call × Reply} {l : List (Call × Reply)} {i n j : ℕ} → n ≤ suc i → ResultBetween k l i j → ResultBetween k (x ∷ l) n (suc j)
+  farther h b = record { place = suc (b .place); behind = omega arith; before = omega arith; taken = b .taken }
+
+  -- from a notice in flight, behind an entry x: before a sending that succeeds stands a result that is taken
+  result-first : {r : Record} {l : List (Call × Reply)} {p : Option Record} → Along list k (some r) l p → isInFlight (r .notice) ≡ true
+      → (x : Call × Reply) (j : ℕ) → holdsAt (sendingDone k) l j ≡ true → ResultBetween k (x ∷ l) zero (suc j)
+  result-first ends f x j s = no-path s
+  result-first (passes {c = c} n rest) f x zero s = no-path (sym (passed-unsent c n) ∙ s)
+  result-first (passes n rest) f x (suc j) s = farther (omega arith) (result-first rest f _ j s)
+  result-first {r} (visits n d rest) f x zero s = absurd (not-both (r .notice) (sent-flies d s .0) f)
+  result-first (visits {c = c} {v = v} {l = l} n d rest) f x (suc j) s = go (resultTaken k (c, v .reply)) refl (λ f. result-first rest f (c, v .reply) j s)
+    where
+      go : (b : Bool) → resultTaken k (c, v .reply) ≡ b → (isInFlight (v .next .notice) ≡ true → ResultBetween k ((c, v .reply) ∷ l) zero (suc j))
+          → ResultBetween k (x ∷ (c, v .reply) ∷ l) zero (suc (suc j))
+      go true u ih = record { place = suc zero; behind = omega arith; before = omega arith; taken = u }
+      go false u ih = farther (omega arith) (ih (flying-on n d f u))
+
+  result-between : {o p : Option Record} {l : List (Call × Reply)} → Along list k o l p → (i j : ℕ) → i < j
+      → holdsAt (sendingDone k) l i ≡ true → holdsAt (sendingDone k) l j ≡ true → ResultBetween k l i j
+  result-between w i zero h s t = absurd (omega arith)
+  result-between ends i (suc j) h s t = no-path s
+  result-between (passes {c = c} n rest) zero (suc j) h s t = no-path (sym (passed-unsent c n) ∙ s)
+  result-between (visits n d rest) zero (suc j) h s t = result-first rest (sent-flies d s .1) _ j t
+  result-between (passes n rest) (suc i) (suc j) h s t = farther (omega arith) (result-between rest i j (omega arith) s t)
+  result-between (visits n d rest) (suc i) (suc j) h s t = farther (omega arith) (result-between rest i j (omega arith) s t)
+
+  -- while the notice is not cleared, its sendings done are those at first and those that succeed
+  sendings-add : {o p : Option Record} {l : List (Call × Reply)} → Along list k o l p → isAbsent (noticeIn o) ≡ false → never (noticeCleared k) l ≡ true
+      → sendingsDone (noticeIn p) ≡ sendingsDone (noticeIn o) + length (only (sendingDone k) l)
+  sendings-add ends a u = omega arith
+  sendings-add (passes {c = c} {a = reply} {l = l} n rest) a u = rw (passed-unsent c n) (sendings-add rest a (never-first (noticeCleared k) (c, reply) l u .1))
+  sendings-add (visits {c = c} {v = v} {l = l} n d rest) a u =
+      let (first, then) = never-first (noticeCleared k) (c, v .reply) l u in
+      let still = still-pending n d a first in
+      omega (arith, still .done, sendings-add rest (still .pending) then, one-more (sendingDone k (c, v .reply)) (c, v .reply) (only (sendingDone k) l))
+
+  fifth-ends : {o p : Option Record} {x : Call × Reply} → Along list k o (x ∷ []) p → sendingsDone (noticeIn o) ≡ mostSendings → resultTaken k x ≡ true
+      → noticeIn p ≡ Absent
+  fifth-ends (passes {c = c} n ends) m u = no-path (sym (passed-untaken c n) ∙ u)
+  fifth-ends (visits n d ends) m u = fifth-clears d m u
+
+-- of a sound table no more than five sendings are done
+sendings-most : (r : Record) → recordSound r ≡ true → sendingsDone (r .notice) ≤ mostSendings
+sendings-most r sound = go (r .notice) refl
+  where
+    go : (n : Notice) → r .notice ≡ n → sendingsDone n ≤ mostSendings
+    go Absent e = omega arith
+    go (Waiting k s) e = omega (arith, waiting-sendings r sound k s e)
+    go (InFlight k) e = flying-sendings r sound k e .1
+
+table-most : (table : List ℕ) (k : ℕ) → tableSound table ≡ true → sendingsDone (noticeFor table k) ≤ mostSendings
+table-most table k sound = go (rowOf table k) refl
+  where
+    go : (place : Found) → rowOf table k ≡ place → sendingsDone (noticeFor table k) ≤ mostSendings
+    go Nothing e = rw (record-missing table k e) (omega arith)
+    go (At i) e = rw (record-found table k i e) (sendings-most (recordAt table i) (record-sound table i (found-sound table k i sound e)))
+
+-- ---- the notice ends
+
+-- a result naming k that is not refused, with five sendings done, of whatever kind, leaves k's phase 0
+pub fifth-result-ends : (list : List ℕ) (delay k : ℕ) (c : Call) (table : List ℕ) → sendingsDone (noticeFor table k) ≡ mostSendings
+    → resultTaken k (c, (call list delay c table) .0) ≡ true → noticeFor ((call list delay c table) .1) k ≡ Absent
+fifth-result-ends list delay k c table m u = fifth-ends list k (along list delay k (c ∷ []) table) m u
+
+module _ (list : List ℕ) (delay k : ℕ) (calls : List Call) (table : List ℕ) where
+  abbrev got : List (Call × Reply)
+  got = log (call list delay) calls table
+
+  abbrev after : List ℕ
+  after = end (call list delay) calls table
+
+  -- between two sendings of k that succeed stands a result naming k that was not refused
+  pub between-two-sendings : (i j : ℕ) → i < j → holdsAt (sendingDone k) got i ≡ true → holdsAt (sendingDone k) got j ≡ true → ResultBetween k got i j
+  between-two-sendings = result-between list k (along list delay k calls table)
+
+  -- while k's notice is pending, up to the result that clears it
+  module _ (pending : isAbsent (noticeFor table k) ≡ false) (uncleared : never (noticeCleared k) got ≡ true) where
+    -- its phase counts its sendings that succeed
+    pub sendings-counted : sendingsDone (noticeFor after k) ≡ sendingsDone (noticeFor table k) + length (only (sendingDone k) got)
+    sendings-counted = sendings-add list k (along list delay k calls table) pending uncleared
+
+    -- in a sound table no more of them succeed than five less those done
+    pub sendings-left : tableSound table ≡ true → length (only (sendingDone k) got) ≤ mostSendings - sendingsDone (noticeFor table k)
+    sendings-left sound = omega (arith, sendings-counted, table-most after k (end-keeps list delay calls table sound .sound))
+
+    -- and a result that is taken after the fifth ends it
+    pub ends-after-five : sendingsDone (noticeFor table k) + length (only (sendingDone k) got) ≡ mostSendings
+        → (c : Call) → resultTaken k (c, (call list delay c after) .0) ≡ true → noticeFor ((call list delay c after) .1) k ≡ Absent
+    ends-after-five five c u = fifth-result-ends list delay k c after (sendings-counted ∙ five) u

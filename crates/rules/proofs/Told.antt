@@ -1,0 +1,99 @@
+-- The told: who is forced off a number is the addressee of every sending that succeeds, up to the result that clears the notice, and reads the number and the supervisor in it. Assumes nothing.
+use mathlib.Core.Path.{_≡_, refl, sym, ap, _∙_}
+use mathlib.Core.Bool.{true, false}
+use mathlib.Core.Option.{Option, some}
+use mathlib.Core.List.{List, [], _∷_}
+use Prim.Native.Nat.{ℕ, zero, suc}
+use native.Mathlib.Omega.{arith}
+use lib.ListN.{getElem?}
+use lib.Dec.{eqb}
+use Rattle.answers.proofs.Tests.{no-path, and-right}
+use Rattle.numbers.specs.declared.FunctionalNumber.{FunctionalNumber}
+use Rattle.numbers.specs.declared.Msisdn.{Msisdn}
+use Rattle.strings.specs.declared.Erasing.the-variants.{Forced}
+use Rattle.strings.specs.Text.{Request}
+use Rattle.strings.specs.Outcomes.{requestOf}
+use Rattle.records.specs.declared.Record.{Record}
+use Rattle.records.specs.Steps.{same, isAbsent}
+use Rattle.tables.specs.Tables.{recordOf}
+use Rattle.rules.specs.Run.{log}
+use Rattle.rules.specs.Calls.{Call, Reply, request, sending, result, call, names}
+use Rattle.rules.specs.Visits.{Visited}
+use Rattle.rules.specs.Pending.{never, holdsOf, sendingDone, noticeCleared}
+use Rattle.rules.specs.Users.{telling}
+use Rattle.rules.specs.Demand.{isOutcome}
+use Rattle.rules.proofs.Along.{Asked, negative, registration, erasure, own, forced, Does, asks, unsent, sends, untaken, clears, goes-on, Along, ends, passes, visits, along, answered-02, same-one, not-same, never-first}
+use Rattle.rules.proofs.NoticeEnds.{passed-unsent, still-pending}
+
+-- a notice to h from s is pending
+record Telling (h s : Msisdn) (r : Record) : Type 0 where
+  pending : isAbsent (r .notice) ≡ false
+  addressee : r .addressee ≡ h
+  supervisor : r .supervisor ≡ s
+
+-- the entry is a sending, and it tells h of s
+abbrev Tells : Msisdn → Msisdn → Call × Reply → Type 0
+Tells h s (request requester scheme string reply, a) = ⊥
+Tells h s (sending now number buffer, a) = a ≡ telling number h s buffer
+Tells h s (result now number kind, a) = ⊥
+
+module _ (list : List ℕ) (k : ℕ) where
+  -- a sending that succeeds tells the record's addressee of its supervisor
+  sending-tells : {r : Record} {c : Call} {v : Visited} → Does list r c v → sendingDone k (c, v .reply) ≡ true → Tells (r .addressee) (r .supervisor) (c, v .reply)
+  sending-tells (asks d) u = no-path u
+  sending-tells (unsent {number = number}) u = no-path (and-right (eqb (number .0) k) false u)
+  sending-tells (sends w) u = refl
+  sending-tells untaken u = no-path u
+  sending-tells (clears e) u = no-path u
+  sending-tells (goes-on p) u = no-path u
+
+  -- a forced erasure naming h, by another, answered 02, leaves a notice to h from her
+  forced-tells : {r : Record} {h s : Msisdn} {scheme : ℕ} {string reply : List ℕ} {f : Request} {v : Visited} → Asked list r s scheme string reply v
+      → requestOf string ≡ some f → f .erasing ≡ Forced h → same h s ≡ false → isOutcome 2 (v .reply .answer) ≡ true → Telling h s (v .next)
+  forced-tells (negative p q) t e d u = no-path (sym q ∙ u)
+  forced-tells (registration p q w) t e d u = no-path u
+  forced-tells (erasure p q w m) t e d u = absurd (let z : _≡_ {A = ℕ} 0 1 = cc in omega arith)
+  forced-tells {r} {h} {s} (own {named = named} p q w m o) t e d u =
+      let one : h ≡ r .holder = cc (same-one (r .holder) named m) in
+      no-path (sym d ∙ rw one o)
+  forced-tells {r} {h} (forced {named = named} p q w m x y z) t e d u =
+      record { pending = refl; addressee = cc (same-one (r .holder) named m); supervisor = refl }
+
+  module _ (h s : Msisdn) where
+    told-along : {r : Record} {l : List (Call × Reply)} {p : Option Record} → Along list k (some r) l p → Telling h s r → never (noticeCleared k) l ≡ true
+        → (i : ℕ) (x : Call × Reply) → getElem? l i ≡ some x → sendingDone k x ≡ true → Tells h s x
+    told-along ends t u i x e d = absurd (let z : _≡_ {A = ℕ} 0 1 = cc in omega arith)
+    told-along (passes {c = c} n rest) t u zero x e d = no-path (sym (passed-unsent list k c n) ∙ ap (holdsOf (sendingDone k)) e ∙ d)
+    told-along (passes {c = c} {a = a} {l = l} n rest) t u (suc i) x e d = told-along rest t (never-first (noticeCleared k) (c, a) l u .1) i x e d
+    told-along {r} (visits {c = c} {v = v} n w rest) t u zero x e d =
+        let same-entry : x ≡ (c, v .reply) = cc in
+        rw (same-entry, ← t .addressee, ← t .supervisor) (sending-tells w (ap (holdsOf (sendingDone k)) e ∙ d))
+    told-along (visits {c = c} {v = v} {l = l} n w rest) t u (suc i) x e d =
+        let (first, then) = never-first (noticeCleared k) (c, v .reply) l u in
+        let still = still-pending list k n w (t .pending) first in
+        told-along rest (record { pending = still .pending; addressee = still .addressee ∙ t .addressee; supervisor = still .supervisor ∙ t .supervisor }) then i x e d
+
+-- ---- the told
+
+-- s is not h, and asks for a forced erasure of k naming h, which is answered 02; then come any calls, none of them a result that clears k's notice
+module _ (list : List ℕ) (delay k : ℕ) (table : List ℕ) (h s : Msisdn) (scheme : ℕ) (string reply : List ℕ) (f : Request)
+    (named : names list (request s scheme string reply) k ≡ true) (reads : requestOf string ≡ some f) (forces : f .erasing ≡ Forced h)
+    (other : s ≡ h → ⊥) (answered : isOutcome 2 ((call list delay (request s scheme string reply) table) .0 .answer) ≡ true) where
+  abbrev after : List ℕ
+  after = (call list delay (request s scheme string reply) table) .1
+
+  notified : (r : Record) × (recordOf after k ≡ some r) × Telling h s r
+  notified =
+      let (r, v, d, e, u) = answered-02 (along list delay k (request s scheme string reply ∷ []) table) named answered in
+      (v .next, e, by-asking d u)
+    where
+      by-asking : {r : Record} {v : Visited} → Does list r (request s scheme string reply) v → isOutcome 2 (v .reply .answer) ≡ true → Telling h s (v .next)
+      by-asking (asks d) u = forced-tells list k d reads forces (not-same h s (λ e. other (sym e))) u
+
+  -- every sending of k that succeeds tells h of s, whoever holds k meanwhile
+  pub holder-is-told : (calls : List Call) → never (noticeCleared k) (log (call list delay) calls after) ≡ true
+      → (i now : ℕ) (number : FunctionalNumber) (buffer : List ℕ) (a : Reply) → getElem? (log (call list delay) calls after) i ≡ some (sending now number buffer, a)
+      → sendingDone k (sending now number buffer, a) ≡ true → a ≡ telling number h s buffer
+  holder-is-told calls uncleared i now number buffer a e d =
+      let (r, known, t) = notified in
+      told-along list k h s (rw known at (along list delay k calls after)) t uncleared i (sending now number buffer, a) e d

@@ -1,0 +1,107 @@
+-- A number's notice along a list of calls: which entries of the log are its sendings and its results, and which of them end it. Assumes nothing.
+use Prim.Native.Nat.{ℕ, _<_}
+use mathlib.Core.Path.{_≡_}
+use mathlib.Core.Bool.{Bool, true, false, not, _&&_}
+use mathlib.Core.Option.{Option, none, some}
+use mathlib.Core.List.{List, [], _∷_}
+use lib.ListN.{getElem?}
+use lib.Dec.{eqb}
+use Rattle.records.specs.declared.Notice.{Notice}
+use Rattle.tables.specs.Tables.{recordOf}
+use Rattle.rules.specs.Answers.{Answer, refusal, error, outcome, holder, sent, delivered, dropped, again, found, noneDue}
+use Rattle.rules.specs.Notices.{noticeIn}
+use Rattle.rules.specs.Calls.{Call, request, sending, result, Reply}
+
+-- the notice that a table keeps for the number k: none, as at phase 0, where k is not in it
+abbrev pub noticeFor : List ℕ → ℕ → Notice
+noticeFor table k = noticeIn (recordOf table k)
+
+-- ---- entries of a list
+
+module _ {X : Type 0} where
+  -- no entry passes the test
+  abbrev pub never : (X → Bool) → List X → Bool
+  never test [] = true
+  never test (x ∷ xs) = not (test x) && never test xs
+
+  -- there is an entry, and it passes the test
+  abbrev pub holdsOf : (X → Bool) → Option X → Bool
+  holdsOf test none = false
+  holdsOf test (some x) = test x
+
+  -- such an entry stands at place i
+  abbrev pub holdsAt : (X → Bool) → List X → ℕ → Bool
+  holdsAt test xs i = holdsOf test (getElem? xs i)
+
+-- ---- what a sending or a result was answered
+
+abbrev pub isRefusal : Answer → Bool
+isRefusal (refusal n) = true
+isRefusal (error n) = false
+isRefusal (outcome n octets) = false
+isRefusal (holder msisdn octets) = false
+isRefusal (sent addressee octets) = false
+isRefusal delivered = false
+isRefusal dropped = false
+isRefusal again = false
+isRefusal (found number) = false
+isRefusal noneDue = false
+
+-- the addressee and the octet count: the sending succeeded
+abbrev pub isSent : Answer → Bool
+isSent (refusal n) = false
+isSent (error n) = false
+isSent (outcome n octets) = false
+isSent (holder msisdn octets) = false
+isSent (sent addressee octets) = true
+isSent delivered = false
+isSent dropped = false
+isSent again = false
+isSent (found number) = false
+isSent noneDue = false
+
+-- delivered or dropped: the result cleared the notice
+abbrev pub isClearing : Answer → Bool
+isClearing (refusal n) = false
+isClearing (error n) = false
+isClearing (outcome n octets) = false
+isClearing (holder msisdn octets) = false
+isClearing (sent addressee octets) = false
+isClearing delivered = true
+isClearing dropped = true
+isClearing again = false
+isClearing (found number) = false
+isClearing noneDue = false
+
+-- ---- entries of a log: a call, and what it got
+
+-- a sending of the number k
+abbrev pub isSendingOf : ℕ → Call → Bool
+isSendingOf k (request requester scheme string reply) = false
+isSendingOf k (sending now number buffer) = eqb (number .0) k
+isSendingOf k (result now number kind) = false
+
+-- a result that names the number k
+abbrev pub isResultOf : ℕ → Call → Bool
+isResultOf k (request requester scheme string reply) = false
+isResultOf k (sending now number buffer) = false
+isResultOf k (result now number kind) = eqb (number .0) k
+
+-- a sending of k that succeeded
+abbrev pub sendingDone : ℕ → Call × Reply → Bool
+sendingDone k entry = isSendingOf k (entry .0) && isSent (entry .1 .answer)
+
+-- a result naming k that was not refused
+abbrev pub resultTaken : ℕ → Call × Reply → Bool
+resultTaken k entry = isResultOf k (entry .0) && not (isRefusal (entry .1 .answer))
+
+-- one stands in the log behind place i and before place j
+pub record ResultBetween (k : ℕ) (entries : List (Call × Reply)) (i j : ℕ) : Type 0 where
+  pub place : ℕ
+  pub behind : i < place
+  pub before : place < j
+  pub taken : holdsAt (resultTaken k) entries place ≡ true
+
+-- the result that clears k's notice: a result naming k, answered delivered or dropped
+abbrev pub noticeCleared : ℕ → Call × Reply → Bool
+noticeCleared k entry = isResultOf k (entry .0) && isClearing (entry .1 .answer)

@@ -1,0 +1,91 @@
+-- What the users' theorems speak of: the erasures that may end a hold, the registration that begins one, what a sending tells, and a request that no refusal and no error stops. Assumes nothing.
+use Prim.Native.Nat.{ℕ, _≤_}
+use mathlib.Core.Path.{_≡_}
+use mathlib.Core.Bool.{Bool, true, false, _&&_, _||_}
+use mathlib.Core.Option.{Option, none, some}
+use mathlib.Core.List.{List}
+use lib.ListN.{length}
+use lib.Dec.{eqb}
+use Rattle.numbers.specs.Numbers.{isNumber}
+use Rattle.numbers.specs.declared.FunctionalNumber.{FunctionalNumber}
+use Rattle.numbers.specs.declared.Msisdn.{Msisdn}
+use Rattle.strings.specs.declared.Erasing.{Erasing}
+use Rattle.strings.specs.declared.Erasing.the-variants.{Empty, Forced}
+use Rattle.strings.specs.Text.{Request, textOf, noticeOf}
+use Rattle.strings.specs.Outcomes.{requestOf}
+use Rattle.records.specs.Steps.{same}
+use Rattle.tables.specs.Tables.{recordOf, listSound, flagsOf}
+use Rattle.rules.specs.Answers.{sent, bufferRoom, over, octetCount}
+use Rattle.rules.specs.Requests.{isRegistration, isErasure, noNotice, codingScheme, mostStringOctets}
+use Rattle.rules.specs.Calls.{Call, request, sending, result, Reply, names}
+use Rattle.rules.specs.Demand.{isOutcome, requesterOf, holderOf}
+
+-- ---- the driver
+
+-- flags 3: "1 has Follow Me, 2 supervisor"
+abbrev pub bothFlags : ℕ
+bothFlags = 3
+
+-- an erasure that may end the hold of h: plain, by h; or forced, naming h exactly, by h herself or by a requester with flags 3 at phase 0
+abbrev pub erasesHold : Msisdn → Bool → Msisdn → ℕ → Erasing → Bool
+erasesHold h phase0 requester flags Empty = same requester h
+erasesHold h phase0 requester flags (Forced named) = same named h && (same requester h || (eqb flags bothFlags && phase0))
+
+abbrev pub erasesHoldIn : Msisdn → Bool → Msisdn → ℕ → Option Request → Bool
+erasesHoldIn h phase0 requester flags none = false
+erasesHoldIn h phase0 requester flags (some f) = isErasure (some f) && erasesHold h phase0 requester flags (f .erasing)
+
+-- the call is a request whose string reads as such an erasure
+abbrev pub mayEndHold : List ℕ → Msisdn → Bool → Call → Bool
+mayEndHold list h phase0 (request requester scheme string reply) = erasesHoldIn h phase0 requester (flagsOf list (requester .0)) (requestOf string)
+mayEndHold list h phase0 (sending now number buffer) = false
+mayEndHold list h phase0 (result now number kind) = false
+
+-- the call is a request whose string reads as a registration
+abbrev pub registers : Call → Bool
+registers (request requester scheme string reply) = isRegistration (requestOf string)
+registers (sending now number buffer) = false
+registers (result now number kind) = false
+
+abbrev pub isRequest : Call → Bool
+isRequest (request requester scheme string reply) = true
+isRequest (sending now number buffer) = false
+isRequest (result now number kind) = false
+
+-- of the call c over a table, that got the reply a and left the table `after`: it has ended h's hold of k
+pub record HoldEnded (list : List ℕ) (h : Msisdn) (k : ℕ) (c : Call) (table : List ℕ) (a : Reply) (after : List ℕ) : Type 0 where
+  pub named : names list c k ≡ true
+  pub erasure : mayEndHold list h (noNotice (recordOf table k)) c ≡ true
+  pub answered : isOutcome 2 (a .answer) ≡ true
+  pub nobody : holderOf after k ≡ 0
+
+-- it has given k to its requester
+pub record HoldBegun (list : List ℕ) (k : ℕ) (c : Call) (a : Reply) (after : List ℕ) : Type 0 where
+  pub named : names list c k ≡ true
+  pub registration : registers c ≡ true
+  pub answered : isOutcome 1 (a .answer) ≡ true
+  pub requester : holderOf after k ≡ requesterOf c
+
+-- an entry of a log that may have ended h's hold of k: it names k, is such an erasure, and was answered 02 (so at phase 0, where it has to be)
+abbrev pub endsHold : List ℕ → Msisdn → ℕ → Call × Reply → Bool
+endsHold list h k entry = names list (entry .0) k && mayEndHold list h true (entry .0) && isOutcome 2 (entry .1 .answer)
+
+-- ---- the controller
+
+-- a request over a sound table that no refusal and no error stops: its string reads as f
+pub record WellFormed (list : List ℕ) (requester : Msisdn) (scheme : ℕ) (string reply : List ℕ) (f : Request) : Type 0 where
+  pub room : bufferRoom ≤ length reply
+  pub sound : listSound list ≡ true
+  pub stored : isNumber (requester .0) ≡ true
+  pub coded : scheme ≡ codingScheme
+  pub least : 1 ≤ length string
+  pub most : length string ≤ mostStringOctets
+  pub reads : requestOf string ≡ some f
+
+-- ---- the told
+
+-- what a sending of the number gets where it tells h of s: h and the octet count, and the buffer with the text of the number and s
+abbrev pub telling : FunctionalNumber → Msisdn → Msisdn → List ℕ → Reply
+telling number h s buffer =
+    let text = textOf (noticeOf number s) in
+    record { answer = sent (h .0) (octetCount text); buffer = over text buffer }

@@ -1,0 +1,28 @@
+//! Document 01 in plain Rust.
+//!
+//! This package is written from the paper alone and shares nothing with the
+//! proved code. It serves as an outside check (the same inputs, compared
+//! answer by answer and octet by octet) and as a baseline for speed.
+//!
+//! Every call works on lent slices and allocates nothing; only [`run`], the
+//! program of document 01, and the generator of test inputs allocate.
+//! Numbers are taken and given in stored form throughout: the digits with a 1
+//! put in front, read as a decimal.
+
+#![forbid(unsafe_code)]
+
+pub mod generate;
+mod node;
+mod number;
+mod packing;
+mod program;
+mod rows;
+mod string;
+mod text;
+
+pub use node::{finding, request, result, sending, Answer};
+pub use number::{is_number, number_from_digits};
+pub use packing::{pack, unpack};
+pub use program::{run, INPUT_LIMIT};
+pub use rows::{list_is_sound, table_is_sound};
+pub use string::{read_request, write_request, Additional, Fields, Operation};

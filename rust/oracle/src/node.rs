@@ -1,0 +1,252 @@
+//! The calls on a lent table: requests and the three calls for notices.
+
+use crate::number::is_number;
+use crate::rows::{
+    find_flags, find_record, list_is_sound, sound_records, sound_records_mut, Record, ADDRESSEE,
+    FAILURE, HAS_FOLLOW_ME, HOLDER, IS_SUPERVISOR, NUMBER, PHASE, SUPERVISOR,
+};
+use crate::string::{read_demand, Operation};
+use crate::text::Text;
+
+/// The least room for a reply or a notice.
+const ROOM: usize = 80;
+
+/// The data coding scheme of a request.
+const SCHEME: u8 = 0x0F;
+
+/// The phase after the last of five sendings.
+const LAST_PHASE: u64 = 10;
+
+/// What a call answers. Refusals, errors and outcomes are numbered apart.
+#[derive(Clone, Copy, Debug, PartialEq, Eq)]
+pub enum Answer {
+    /// The call is refused; no memory was touched.
+    Refusal(u8),
+    /// The request is in error; no memory was touched.
+    Error(u8),
+    /// The request has an outcome. Its text, packed, is in the first `octets`
+    /// octets of the reply buffer. `msisdn` is that of outcome 03, else 0.
+    Outcome {
+        number: u8,
+        octets: usize,
+        msisdn: u64,
+    },
+    /// A notice goes to `addressee`: the first `octets` octets of the buffer.
+    Sent { addressee: u64, octets: usize },
+    /// The notice was delivered and is cleared.
+    Delivered,
+    /// The notice is cleared without having been delivered.
+    Dropped,
+    /// The notice waits to be sent again.
+    Again,
+    /// The lowest number whose notice is due.
+    Found(u64),
+    /// No notice is due.
+    NoneDue,
+}
+
+/// Carries out a request.
+pub fn request(
+    table: &mut [u64],
+    list: &[u64],
+    reply: &mut [u8],
+    requester: u64,
+    scheme: u8,
+    string: &[u8],
+) -> Answer {
+    if reply.len() < ROOM {
+        return Answer::Refusal(1);
+    }
+    if !list_is_sound(list) {
+        return Answer::Refusal(8);
+    }
+    let Some(records) = sound_records_mut(table) else {
+        return Answer::Refusal(2);
+    };
+    if !is_number(requester) {
+        return Answer::Error(35);
+    }
+    if scheme != SCHEME {
+        return Answer::Error(71);
+    }
+    if string.is_empty() {
+        return Answer::Error(35);
+    }
+    let Some((operation, number, forced)) = read_demand(string) else {
+        return Answer::Error(36);
+    };
+
+    let flags = find_flags(list, requester);
+    let outcome = if flags & HAS_FOLLOW_ME == 0 {
+        42
+    } else if forced.is_some() && flags & IS_SUPERVISOR == 0 {
+        22
+    } else if let Some(record) = find_record(records, number) {
+        match (operation, forced) {
+            (Operation::Register, _) => register(record, requester),
+            (Operation::Interrogate, _) => match record[HOLDER] {
+                0 => 62,
+                holder => return interrogated(holder, reply),
+            },
+            (Operation::Erase, None) => erase(record, requester),
+            (Operation::Erase, Some(msisdn)) => force(record, requester, msisdn),
+        }
+    } else {
+        41
+    };
+    let digits = [b'0' + outcome / 10, b'0' + outcome % 10];
+    Answer::Outcome {
+        number: outcome,
+        octets: Text::new().put(&digits).pack_into(reply),
+        msisdn: 0,
+    }
+}
+
+/// Outcome 03, with the holder's digits in the reply.
+fn interrogated(holder: u64, reply: &mut [u8]) -> Answer {
+    Answer::Outcome {
+        number: 3,
+        octets: Text::new().put(b"03 ").put_number(holder).pack_into(reply),
+        msisdn: holder,
+    }
+}
+
+fn register(record: &mut Record, requester: u64) -> u8 {
+    if record[NUMBER] == requester {
+        return 67;
+    }
+    if record[HOLDER] != 0 && record[HOLDER] != requester {
+        return 61;
+    }
+    record[HOLDER] = requester;
+    1
+}
+
+fn erase(record: &mut Record, requester: u64) -> u8 {
+    match record[HOLDER] {
+        0 => 62,
+        holder if holder != requester => 63,
+        _ => {
+            record[HOLDER] = 0;
+            2
+        }
+    }
+}
+
+/// A forced erasure. The notice goes to the holder that was forced off, unless
+/// that is the supervisor herself.
+fn force(record: &mut Record, supervisor: u64, msisdn: u64) -> u8 {
+    let holder = record[HOLDER];
+    if holder == 0 {
+        return 62;
+    }
+    if holder != msisdn {
+        return 63;
+    }
+    if holder != supervisor {
+        if record[PHASE] != 0 {
+            return 68;
+        }
+        record[PHASE] = 1;
+        record[ADDRESSEE] = holder;
+        record[SUPERVISOR] = supervisor;
+    }
+    record[HOLDER] = 0;
+    2
+}
+
+/// Sends the notice of `number`, if it is due.
+pub fn sending(table: &mut [u64], buffer: &mut [u8], number: u64, delay: u32, now: u32) -> Answer {
+    if buffer.len() < ROOM {
+        return Answer::Refusal(1);
+    }
+    let Some(records) = sound_records_mut(table) else {
+        return Answer::Refusal(2);
+    };
+    // A sound table holds no malformed number, so that one is not found.
+    let Some(record) = find_record(records, number) else {
+        return Answer::Refusal(7);
+    };
+    let Some(delay) = seconds(delay) else {
+        return Answer::Refusal(6);
+    };
+    if record[PHASE] % 2 == 0 {
+        return Answer::Refusal(4);
+    }
+    if !is_due(record, delay, now) {
+        return Answer::Refusal(5);
+    }
+    record[PHASE] += 1;
+    record[FAILURE] = 0;
+    let octets = Text::new()
+        .put(b"##214*")
+        .put_number(number)
+        .put(b"*88*")
+        .put_number(record[SUPERVISOR])
+        .put(b"*#")
+        .pack_into(buffer);
+    Answer::Sent {
+        addressee: record[ADDRESSEE],
+        octets,
+    }
+}
+
+/// Takes in the result of a sending: kind 0 is delivered, 1 to 4 are errors
+/// that end the notice, 5 is any other error.
+pub fn result(table: &mut [u64], number: u64, kind: u32, now: u32) -> Answer {
+    let Some(records) = sound_records_mut(table) else {
+        return Answer::Refusal(2);
+    };
+    let Some(record) = find_record(records, number) else {
+        return Answer::Refusal(7);
+    };
+    if kind > 5 {
+        return Answer::Refusal(3);
+    }
+    if record[PHASE] == 0 || record[PHASE] % 2 == 1 {
+        return Answer::Refusal(4);
+    }
+    if kind == 5 && record[PHASE] != LAST_PHASE {
+        record[PHASE] += 1;
+        record[FAILURE] = u64::from(now);
+        return Answer::Again;
+    }
+    record[PHASE..].fill(0);
+    if kind == 0 {
+        Answer::Delivered
+    } else {
+        Answer::Dropped
+    }
+}
+
+/// Finds the lowest number whose notice is due.
+pub fn finding(table: &[u64], delay: u32, now: u32) -> Answer {
+    let Some(records) = sound_records(table) else {
+        return Answer::Refusal(2);
+    };
+    let Some(delay) = seconds(delay) else {
+        return Answer::Refusal(6);
+    };
+    match records.iter().find(|record| is_due(record, delay, now)) {
+        Some(record) => Answer::Found(record[NUMBER]),
+        None => Answer::NoneDue,
+    }
+}
+
+/// The seconds that a delay stands for, if it is one.
+fn seconds(delay: u32) -> Option<u32> {
+    match delay {
+        0 => Some(60),
+        60..=600 => Some(delay),
+        _ => None,
+    }
+}
+
+/// Whether the notice of a sound record is due.
+fn is_due(record: &Record, delay: u32, now: u32) -> bool {
+    match record[PHASE] {
+        1 => true,
+        // The last failure is below 2^32 in a sound record.
+        phase => phase % 2 == 1 && now.wrapping_sub(record[FAILURE] as u32) >= delay,
+    }
+}

@@ -1,0 +1,239 @@
+//! The lent table and list: their rows, whether they are sound, and lookup.
+
+use crate::number::{is_number, Ascent};
+
+/// One number's record.
+pub(crate) type Record = [u64; 6];
+
+/// The words of a record.
+pub(crate) const NUMBER: usize = 0;
+pub(crate) const HOLDER: usize = 1;
+pub(crate) const PHASE: usize = 2;
+pub(crate) const ADDRESSEE: usize = 3;
+pub(crate) const SUPERVISOR: usize = 4;
+pub(crate) const FAILURE: usize = 5;
+
+/// The most rows of a table and of a list.
+pub(crate) const MAX_RECORDS: usize = 1024;
+pub(crate) const MAX_SUBSCRIBERS: usize = 4096;
+
+/// The flags of a subscriber.
+pub(crate) const HAS_FOLLOW_ME: u64 = 1;
+pub(crate) const IS_SUPERVISOR: u64 = 2;
+
+/// The largest last word by phase: any second where a failure is kept,
+/// otherwise 0.
+const LARGEST_FAILURE: [u64; 11] = {
+    let mut largest = [0; 11];
+    let mut phase = 3;
+    while phase <= 9 {
+        largest[phase] = u32::MAX as u64;
+        phase += 2;
+    }
+    largest
+};
+
+/// Whether `table` is sound: whole records, not too many, strictly ascending,
+/// each sound by itself.
+pub fn table_is_sound(table: &[u64]) -> bool {
+    let (records, rest) = table.as_chunks();
+    if !rest.is_empty() || records.len() > MAX_RECORDS {
+        return false;
+    }
+    let mut ascent = Ascent::new();
+    for record in records {
+        if !ascent.rises_to(record[NUMBER]) || !record_is_sound(record) {
+            return false;
+        }
+    }
+    true
+}
+
+/// Whether a record's words after the first are sound.
+#[inline]
+fn record_is_sound(&[_, holder, phase, addressee, supervisor, failure]: &Record) -> bool {
+    if holder != 0 && !is_number(holder) {
+        return false;
+    }
+    if phase == 0 {
+        return addressee | supervisor | failure == 0;
+    }
+    phase <= 10
+        && failure <= LARGEST_FAILURE[phase as usize]
+        && is_number(addressee)
+        && is_number(supervisor)
+        && addressee != supervisor
+}
+
+/// Whether `list` is sound: whole rows, not too many, strictly ascending,
+/// flags 0 to 3.
+pub fn list_is_sound(list: &[u64]) -> bool {
+    let (rows, rest) = list.as_chunks();
+    if !rest.is_empty() || rows.len() > MAX_SUBSCRIBERS {
+        return false;
+    }
+    let mut ascent = Ascent::new();
+    for &[msisdn, flags] in rows {
+        if !ascent.rises_to(msisdn) || flags > 3 {
+            return false;
+        }
+    }
+    true
+}
+
+/// The records of `table`, if it is sound.
+pub(crate) fn sound_records(table: &[u64]) -> Option<&[Record]> {
+    table_is_sound(table).then_some(table.as_chunks().0)
+}
+
+/// The records of `table`, if it is sound, for a change.
+pub(crate) fn sound_records_mut(table: &mut [u64]) -> Option<&mut [Record]> {
+    table_is_sound(table).then_some(table.as_chunks_mut().0)
+}
+
+/// The record of `number` in a sound table.
+pub(crate) fn find_record(records: &mut [Record], number: u64) -> Option<&mut Record> {
+    let place = records
+        .binary_search_by_key(&number, |record| record[NUMBER])
+        .ok()?;
+    Some(&mut records[place])
+}
+
+/// The flags of `msisdn` in a sound list, none if it is absent.
+pub(crate) fn find_flags(list: &[u64], msisdn: u64) -> u64 {
+    let rows: &[[u64; 2]] = list.as_chunks().0;
+    match rows.binary_search_by_key(&msisdn, |row| row[0]) {
+        Ok(place) => rows[place][1],
+        Err(_) => 0,
+    }
+}
+
+#[cfg(test)]
+mod tests {
+    use super::*;
+
+    const F: u64 = 10_492_123_401;
+    const A: u64 = 14_915_100_001;
+    const B: u64 = 14_915_100_002;
+
+    fn sound(record: Record) -> bool {
+        // Between two plain neighbours, at the start, at the end, and alone.
+        let before = [F - 1, 0, 0, 0, 0, 0];
+        let after = [F + 1, A, 0, 0, 0, 0];
+        let alone = table_is_sound(&record);
+        for table in [
+            &[before, record, after][..],
+            &[record, after],
+            &[before, record],
+        ] {
+            assert_eq!(table_is_sound(table.as_flattened()), alone);
+        }
+        alone
+    }
+
+    #[test]
+    fn sound_tables() {
+        assert!(table_is_sound(&[]));
+        assert!(sound([F, 0, 0, 0, 0, 0]));
+        assert!(sound([F, A, 0, 0, 0, 0]));
+        // A holder may have the number's own digits or be in the notice.
+        assert!(sound([F, F, 1, F, A, 0]));
+        for phase in 1..=10 {
+            assert!(sound([F, 0, phase, A, B, 0]));
+            assert!(sound([F, A, phase, A, B, 0]));
+            assert!(sound([F, B, phase, A, B, 0]));
+        }
+        for phase in [3, 5, 7, 9] {
+            assert!(sound([F, 0, phase, A, B, 1]));
+            assert!(sound([F, 0, phase, A, B, u64::from(u32::MAX)]));
+        }
+    }
+
+    #[test]
+    fn unsound_records() {
+        const MALFORMED: [u64; 6] = [1, 19_999, 99_999, 200_000, 10u64.pow(16), u64::MAX];
+        for word in MALFORMED {
+            assert!(!table_is_sound(&[word, 0, 0, 0, 0, 0]));
+            assert!(!sound([F, word, 0, 0, 0, 0]));
+            assert!(!sound([F, 0, 1, word, B, 0]));
+            assert!(!sound([F, 0, 1, A, word, 0]));
+        }
+        assert!(!table_is_sound(&[0; 6]));
+        for phase in 1..=10 {
+            assert!(!sound([F, 0, phase, 0, B, 0]));
+            assert!(!sound([F, 0, phase, A, 0, 0]));
+            assert!(!sound([F, 0, phase, 0, 0, 0]));
+            assert!(!sound([F, 0, phase, A, A, 0]));
+            assert!(!sound([F, 0, phase, A, B, 1 << 32]));
+            assert!(!sound([F, 0, phase, A, B, u64::MAX]));
+        }
+        for phase in [11, 12, 13, 255, 256, 1 << 32, (1 << 32) + 3, u64::MAX] {
+            assert!(!sound([F, 0, phase, A, B, 0]));
+            assert!(!sound([F, 0, phase, 0, 0, 0]));
+        }
+        for phase in [1, 2, 4, 6, 8, 10] {
+            assert!(!sound([F, 0, phase, A, B, 1]));
+        }
+        assert!(!sound([F, 0, 0, A, 0, 0]));
+        assert!(!sound([F, 0, 0, 0, B, 0]));
+        assert!(!sound([F, 0, 0, A, B, 0]));
+        assert!(!sound([F, 0, 0, 0, 0, 1]));
+    }
+
+    #[test]
+    fn unsound_orders_and_lengths() {
+        let plain = |number| [number, 0, 0, 0, 0, 0];
+        let two = |first, second| table_is_sound([plain(first), plain(second)].as_flattened());
+        assert!(two(F, F + 1));
+        assert!(!two(F, F));
+        assert!(!two(F + 1, F));
+        // 99999 stands before 000000.
+        assert!(two(199_999, 1_000_000));
+        assert!(!two(1_000_000, 199_999));
+        let words = [plain(F), plain(F + 1)];
+        for length in 0..12 {
+            let table = &words.as_flattened()[..length];
+            assert_eq!(table_is_sound(table), length % 6 == 0);
+        }
+        let rows: Vec<Record> = (F..F + 1025).map(plain).collect();
+        assert!(table_is_sound(rows[..1024].as_flattened()));
+        assert!(!table_is_sound(rows.as_flattened()));
+    }
+
+    #[test]
+    fn lists() {
+        assert!(list_is_sound(&[]));
+        for flags in 0..=3 {
+            assert!(list_is_sound(&[A, flags]));
+        }
+        for flags in [4, 5, 7, 256, 1 << 32, u64::MAX] {
+            assert!(!list_is_sound(&[A, flags]));
+        }
+        assert!(list_is_sound(&[A, 1, B, 3]));
+        assert!(!list_is_sound(&[A, 1, A, 3]));
+        assert!(!list_is_sound(&[B, 3, A, 1]));
+        assert!(!list_is_sound(&[A]));
+        assert!(!list_is_sound(&[A, 1, B]));
+        for word in [0, 1, 19_999, 200_000, u64::MAX] {
+            assert!(!list_is_sound(&[word, 1]));
+        }
+        let rows: Vec<[u64; 2]> = (A..A + 4097).map(|msisdn| [msisdn, 1]).collect();
+        assert!(list_is_sound(rows[..4096].as_flattened()));
+        assert!(!list_is_sound(rows.as_flattened()));
+    }
+
+    #[test]
+    fn lookup() {
+        let mut records: Vec<Record> = (0..50).map(|n| [F + 2 * n, n, 0, 0, 0, 0]).collect();
+        let list: Vec<u64> = (0..50).flat_map(|n| [A + 2 * n, n % 4]).collect();
+        for n in 0..50 {
+            let found = find_record(&mut records, F + 2 * n).unwrap();
+            assert_eq!(found[HOLDER], n);
+            assert!(find_record(&mut records, F + 2 * n + 1).is_none());
+            assert_eq!(find_flags(&list, A + 2 * n), n % 4);
+            assert_eq!(find_flags(&list, A + 2 * n + 1), 0);
+        }
+        assert!(find_record(&mut [], F).is_none());
+        assert_eq!(find_flags(&[], A), 0);
+    }
+}

@@ -1,0 +1,76 @@
+//! What the tests share: document 01's people and numbers, and short ways to
+//! make a call and look at all it did.
+
+// Each test file is built by itself and uses a part of this.
+#![allow(dead_code)]
+
+use oracle::{number_from_digits, pack, request, unpack, Answer};
+
+/// F, the functional number of the examples.
+pub const F: u64 = 10_492_123_401;
+/// A has Follow Me, B is a supervisor too, C has neither.
+pub const A: u64 = 14_915_100_001;
+pub const B: u64 = 14_915_100_002;
+pub const C: u64 = 14_915_100_003;
+pub const LIST: [u64; 6] = [A, 1, B, 3, C, 0];
+
+/// The strings of the examples.
+pub const REGISTER: &str = "**214*0492123401***#";
+pub const ERASE: &str = "##214*0492123401***#";
+pub const INTERROGATE: &str = "*#214*0492123401***#";
+pub const FORCE_A: &str = "##214*0492123401*88*4915100001*#";
+pub const FORCE_B: &str = "##214*0492123401*88*4915100002*#";
+
+/// What a buffer holds before a call.
+pub const FILL: u8 = 0xA5;
+
+pub fn stored(digits: &str) -> u64 {
+    number_from_digits(digits.as_bytes()).unwrap()
+}
+
+pub fn packed(text: &str) -> Vec<u8> {
+    let mut out = vec![0; text.len()];
+    let count = pack(text.as_bytes(), &mut out).unwrap();
+    out.truncate(count);
+    out
+}
+
+pub fn unpacked(octets: &[u8]) -> String {
+    let mut out = vec![0; 2 * octets.len()];
+    let count = unpack(octets, &mut out).unwrap();
+    out.truncate(count);
+    String::from_utf8(out).unwrap()
+}
+
+/// Makes a request with a good buffer and scheme and returns the reply text,
+/// or how the call ended without one. Checks that errors and refusals leave
+/// table and buffer, and that octets beyond the reply stay.
+pub fn ask(table: &mut [u64], list: &[u64], requester: u64, string: &str) -> String {
+    let before = table.to_vec();
+    let mut reply = [FILL; 100];
+    match request(table, list, &mut reply, requester, 0x0F, &packed(string)) {
+        Answer::Outcome {
+            number,
+            octets,
+            msisdn,
+        } => {
+            let text = unpacked(&reply[..octets]);
+            assert!(reply[octets..].iter().all(|&octet| octet == FILL));
+            assert_eq!(text[..2], format!("{number:02}"));
+            if number == 3 {
+                assert_eq!(stored(&text[3..]), msisdn);
+            } else {
+                assert_eq!((text.len(), octets, msisdn), (2, 2, 0));
+            }
+            if ![1, 2].contains(&number) {
+                assert_eq!(table, before);
+            }
+            text
+        }
+        other => {
+            assert_eq!(table, before);
+            assert_eq!(reply, [FILL; 100]);
+            format!("{other:?}")
+        }
+    }
+}

@@ -1,0 +1,338 @@
+//! Generated calls and program inputs: that they reach everything document 01
+//! names, and that what holds of every call holds of them.
+
+use std::collections::BTreeMap;
+
+use oracle::generate::{Call, Generator, Reply};
+use oracle::{is_number, read_request, run, table_is_sound, unpack, write_request, Answer};
+
+const CALLS: usize = 200_000;
+
+/// How a call ended, in words fine enough to tell the rules apart.
+fn label(before: &Call, after: &Call, reply: &Reply) -> String {
+    let changed = before != after;
+    match (before, reply) {
+        (
+            Call::Request {
+                requester, string, ..
+            },
+            Reply::Answer(answer),
+        ) => match answer {
+            Answer::Error(35) if is_number(*requester) => "request: error 35, no octets".into(),
+            Answer::Error(35) => "request: error 35, requester".into(),
+            Answer::Error(36) if string.len() > 160 => "request: error 36, over 160".into(),
+            Answer::Outcome { number, .. } => {
+                let forced = read_request(string).unwrap().forced;
+                let who = match forced {
+                    None => "",
+                    Some(msisdn) if msisdn == *requester => ", forced, naming herself",
+                    Some(_) => ", forced",
+                };
+                let table = |call: &Call| match call {
+                    Call::Request { table, .. } => table.clone(),
+                    _ => unreachable!(),
+                };
+                let stores = match number {
+                    1 if table(before) == table(after) => ", nothing changes",
+                    _ => "",
+                };
+                format!("request: {number:02}{who}{stores}")
+            }
+            other => format!("request: {other:?}"),
+        },
+        (Call::Sending { number, .. }, Reply::Answer(answer)) => match answer {
+            Answer::Refusal(7) if is_number(*number) => "sending: Refusal(7), unknown".into(),
+            Answer::Sent { .. } => {
+                assert!(changed);
+                "sending: sent".into()
+            }
+            other => format!("sending: {other:?}"),
+        },
+        (Call::Result { kind, number, .. }, Reply::Answer(answer)) => match answer {
+            Answer::Refusal(7) if is_number(*number) => "result: Refusal(7), unknown".into(),
+            Answer::Dropped if *kind == 5 => "result: dropped, five sendings".into(),
+            other => format!("result: {other:?}"),
+        },
+        (Call::Finding { .. }, Reply::Answer(answer)) => match answer {
+            Answer::Found(_) => "finding: found".into(),
+            other => format!("finding: {other:?}"),
+        },
+        (Call::Pack { .. }, Reply::Count(Ok(_))) => "pack: count".into(),
+        (Call::Pack { .. }, Reply::Count(Err(number))) => format!("pack: refusal {number}"),
+        (Call::Unpack { octets, .. }, Reply::Count(Ok(count))) => {
+            let dropped = *count < 8 * octets.len() / 7;
+            format!("unpack: count{}", if dropped { ", dropped" } else { "" })
+        }
+        (Call::Unpack { .. }, Reply::Count(Err(number))) => format!("unpack: refusal {number}"),
+        (Call::WriteRequest { .. }, Reply::Count(Ok(_))) => "write: count".into(),
+        (Call::WriteRequest { .. }, Reply::Count(Err(number))) => {
+            format!("write: refusal {number}")
+        }
+        (Call::ReadRequest { .. }, Reply::Fields(fields)) => match fields {
+            Some(_) => "read: fields".into(),
+            None => "read: error 36".into(),
+        },
+        (Call::IsNumber { .. }, Reply::IsNumber(truth)) => format!("number: {truth}"),
+        _ => panic!("{reply:?} does not belong to {before:?}"),
+    }
+}
+
+/// What each call must come to at least a hundred times.
+const REACHED: [&str; 62] = [
+    "request: Refusal(1)",
+    "request: Refusal(8)",
+    "request: Refusal(2)",
+    "request: error 35, requester",
+    "request: error 35, no octets",
+    "request: Error(71)",
+    "request: Error(36)",
+    "request: error 36, over 160",
+    "request: 01",
+    "request: 01, nothing changes",
+    "request: 02",
+    "request: 02, forced",
+    "request: 02, forced, naming herself",
+    "request: 03",
+    "request: 22, forced",
+    "request: 22, forced, naming herself",
+    "request: 41",
+    "request: 41, forced",
+    "request: 41, forced, naming herself",
+    "request: 42",
+    "request: 42, forced",
+    "request: 42, forced, naming herself",
+    "request: 61",
+    "request: 62",
+    "request: 62, forced",
+    "request: 62, forced, naming herself",
+    "request: 63",
+    "request: 63, forced",
+    "request: 63, forced, naming herself",
+    "request: 67",
+    "request: 68, forced",
+    "sending: Refusal(1)",
+    "sending: Refusal(2)",
+    "sending: Refusal(7)",
+    "sending: Refusal(7), unknown",
+    "sending: Refusal(6)",
+    "sending: Refusal(4)",
+    "sending: Refusal(5)",
+    "sending: sent",
+    "result: Refusal(2)",
+    "result: Refusal(7)",
+    "result: Refusal(7), unknown",
+    "result: Refusal(3)",
+    "result: Refusal(4)",
+    "result: Delivered",
+    "result: Dropped",
+    "result: dropped, five sendings",
+    "result: Again",
+    "finding: Refusal(2)",
+    "finding: Refusal(6)",
+    "finding: found",
+    "finding: NoneDue",
+    "pack: count",
+    "pack: refusal 1",
+    "pack: refusal 9",
+    "unpack: count",
+    "unpack: count, dropped",
+    "unpack: refusal 1",
+    "unpack: refusal 9",
+    "write: count",
+    "write: refusal 1",
+    "write: refusal 9",
+];
+
+#[test]
+fn calls_reach_every_answer() {
+    let mut generator = Generator::new(0x0004_9212_3401);
+    let mut counts = BTreeMap::new();
+    for _ in 0..CALLS {
+        let before = generator.call();
+        let mut after = before.clone();
+        let reply = after.run();
+        *counts.entry(label(&before, &after, &reply)).or_insert(0) += 1;
+        check(&before, &after, &reply);
+    }
+    for (label, count) in &counts {
+        println!("{count:6} {label}");
+    }
+    for label in REACHED {
+        let count = counts.get(label).copied().unwrap_or(0);
+        assert!(count >= 100, "{label}: {count}");
+    }
+    // And nothing else but what reading and the test for a number return.
+    let others: Vec<&String> = counts
+        .keys()
+        .filter(|label| !REACHED.contains(&label.as_str()))
+        .collect();
+    assert_eq!(
+        others,
+        [
+            "number: false",
+            "number: true",
+            "read: error 36",
+            "read: fields"
+        ]
+    );
+}
+
+/// Checks what document 01 says of every call: refusals and errors touch
+/// nothing, what lies beyond a count stays, a sound table stays sound, and a
+/// call changes one record at most.
+fn check(before: &Call, after: &Call, reply: &Reply) {
+    match (before, after) {
+        (
+            Call::Request {
+                table: old,
+                reply: old_reply,
+                string,
+                ..
+            },
+            Call::Request {
+                table: new,
+                reply: new_reply,
+                ..
+            },
+        ) => match reply {
+            Reply::Answer(Answer::Outcome { octets, .. }) => {
+                let number = read_request(string).unwrap().number;
+                check_table(old, new, number);
+                check_beyond(old_reply, new_reply, *octets);
+            }
+            _ => assert_eq!(before, after),
+        },
+        (
+            Call::Sending {
+                table: old,
+                buffer: old_buffer,
+                number,
+                ..
+            },
+            Call::Sending {
+                table: new,
+                buffer: new_buffer,
+                ..
+            },
+        ) => match reply {
+            Reply::Answer(Answer::Sent { octets, .. }) => {
+                check_table(old, new, *number);
+                check_beyond(old_buffer, new_buffer, *octets);
+            }
+            _ => assert_eq!(before, after),
+        },
+        (
+            Call::Result {
+                table: old, number, ..
+            },
+            Call::Result { table: new, .. },
+        ) => match reply {
+            Reply::Answer(Answer::Refusal(_)) => assert_eq!(before, after),
+            _ => check_table(old, new, *number),
+        },
+        (Call::Pack { chars, out: old }, Call::Pack { out: new, .. }) => match reply {
+            Reply::Count(Ok(count)) => {
+                check_beyond(old, new, *count);
+                let mut back = vec![0; 2 * count];
+                let length = unpack(&new[..*count], &mut back).unwrap();
+                assert_eq!(back[..length], chars[..]);
+            }
+            _ => assert_eq!(before, after),
+        },
+        (Call::Unpack { out: old, .. }, Call::Unpack { out: new, .. }) => match reply {
+            Reply::Count(Ok(count)) => check_beyond(old, new, *count),
+            _ => assert_eq!(before, after),
+        },
+        (Call::WriteRequest { fields, out: old }, Call::WriteRequest { out: new, .. }) => {
+            match reply {
+                Reply::Count(Ok(count)) => {
+                    check_beyond(old, new, *count);
+                    let read = read_request(&new[..*count]).unwrap();
+                    assert_eq!(read.operation, fields.operation);
+                    assert_eq!(read.number, fields.number);
+                    assert_eq!(read.forced, fields.forced);
+                    assert_eq!(read.additional.as_ref(), fields.additional);
+                }
+                _ => assert_eq!(before, after),
+            }
+        }
+        (Call::ReadRequest { octets }, _) => {
+            if let Reply::Fields(Some(fields)) = reply {
+                let mut out = [0; 160];
+                let count = write_request(fields, &mut out).unwrap();
+                assert_eq!(out[..count], octets[..]);
+            }
+        }
+        _ => assert_eq!(before, after),
+    }
+}
+
+fn check_table(old: &[u64], new: &[u64], number: u64) {
+    assert!(table_is_sound(old) && table_is_sound(new));
+    assert_eq!(old.len(), new.len());
+    for (old, new) in old.chunks(6).zip(new.chunks(6)) {
+        assert_eq!(old[0], new[0]);
+        if old[0] != number {
+            assert_eq!(old, new);
+        }
+    }
+}
+
+fn check_beyond(old: &[u8], new: &[u8], count: usize) {
+    assert_eq!(old.len(), new.len());
+    assert_eq!(old[count..], new[count..]);
+}
+
+#[test]
+fn program_inputs_print_every_kind_of_line() {
+    let mut generator = Generator::new(0x0049_1510_0001);
+    let mut counts: BTreeMap<String, usize> = BTreeMap::new();
+    for _ in 0..3000 {
+        let input = generator.program();
+        let output = String::from_utf8(run(&input)).unwrap();
+        assert!(output.is_empty() || output.ends_with('\n'));
+        for line in output.lines() {
+            let kind = match line.split_once(' ') {
+                Some(("T", rest)) if rest.starts_with(|c: char| c.is_ascii_digit()) => "T sent",
+                Some(("R", rest)) if rest.starts_with("03 ") => "R 03",
+                _ => line,
+            };
+            *counts.entry(kind.into()).or_insert(0) += 1;
+        }
+    }
+    for (line, count) in &counts {
+        println!("{count:6} {line}");
+    }
+    let printed: Vec<&str> = counts.keys().map(String::as_str).collect();
+    assert_eq!(
+        printed,
+        [
+            "?",
+            "D again",
+            "D delivered",
+            "D dropped",
+            "D refused 3",
+            "D refused 4",
+            "D refused 7",
+            "R 01",
+            "R 02",
+            "R 03",
+            "R 22",
+            "R 41",
+            "R 42",
+            "R 61",
+            "R 62",
+            "R 63",
+            "R 67",
+            "R 68",
+            "R error 35",
+            "R error 36",
+            "R refused 9",
+            "T refused 4",
+            "T refused 5",
+            "T refused 7",
+            "T sent",
+        ]
+    );
+    assert!(counts.values().all(|&count| count >= 30));
+}
