@@ -5,4 +5,5 @@ pub mod Reading
 pub mod Writing
 pub mod Printing
 pub mod Bounds
+pub mod Memory
 pub mod Examples

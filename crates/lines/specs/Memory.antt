@@ -1,18 +1,23 @@
 -- What the code's answers say, and the program in the memory that the code is lent. Assumes nothing.
 use mathlib.Core.Path.{_≡_}
-use Prim.Native.Nat.{ℕ, _≤_}
+use Prim.Native.Nat.{ℕ, _+_, _*_, _≤_}
 use mathlib.Core.Bool.{true}
 use mathlib.Core.Option.{Option, none, some}
 use mathlib.Core.List.{List, _++_}
 use lib.ListN.{length, take, drop}
 use Rattle.packing.specs.Packing.{readable}
 use Rattle.numbers.specs.Numbers.{isNumber}
+use Rattle.records.specs.Rows.{rowWords}
+use Rattle.tables.specs.Tables.{mostNumbers, subscriberWords, mostSubscribers}
 use Rattle.rules.specs.Answers.{Answer, refusal, error, outcome, holder, sent, delivered, dropped, again, found, noneDue}
 use Rattle.lines.specs.declared.FieldRead.{FieldRead}
 use Rattle.lines.specs.declared.FieldRead.the-variants.{Value, Unreadable}
 use Rattle.lines.specs.declared.Line.{Line}
 use Rattle.lines.specs.declared.Line.the-variants as line
+use Rattle.lines.specs.declared.State.{State}
+use Rattle.lines.specs.declared.Done.{Done}
 use Rattle.lines.specs.Lines.{Form, number, subscriber, request, sending, result}
+use Rattle.lines.specs.Program.{Program, Effect}
 
 -- the value that a field's reader answers
 abbrev pub valueIn : FieldRead → Option ℕ
@@ -62,3 +67,31 @@ Printable dropped buffer = Unit {0}
 Printable again buffer = Unit {0}
 Printable (found n) buffer = Unit {0}
 Printable noneDue buffer = Unit {0}
+
+-- ---- the program in memory
+
+-- the program that the lent words hold: the rows in use, and whether they are still being filled
+abbrev pub held : State → List ℕ → List ℕ → Program
+held s table list = record {
+  table = take (rowWords * s .numbers) table;
+  list = take (subscriberWords * s .subscribers) list;
+  filling = s .filling;
+}
+
+-- the rows in use are within the lent words, which have room for the most
+pub record Stands (s : State) (table list : List ℕ) : Type 0 where
+  pub numbers : rowWords * s .numbers ≤ length table
+  pub subscribers : subscriberWords * s .subscribers ≤ length list
+  pub tableRoom : rowWords * mostNumbers ≤ length table
+  pub listRoom : subscriberWords * mostSubscribers ≤ length list
+
+-- room for the longest line: the letter, the space, what follows them and the line feed
+abbrev pub lineRoom : ℕ
+lineRoom = 3 + answerRoom
+
+-- what a line did to table, list and output: its effect stands at the front of each, what lies beyond stays
+pub record Did (e : Effect) (table list out : List ℕ) (d : Done) (newTable newList newOut : List ℕ) : Type 0 where
+  pub numbers : Put (e .leaves .table) table newTable (rowWords * d .state .numbers)
+  pub subscribers : Put (e .leaves .list) list newList (subscriberWords * d .state .subscribers)
+  pub filling : d .state .filling ≡ e .leaves .filling
+  pub printed : Put (e .prints) out newOut (d .printed)

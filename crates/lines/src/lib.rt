@@ -10,19 +10,39 @@ ghost use mathlib.Core.Path.{_≡_};
 ghost use mathlib.Core.Bool.{true};
 ghost use mathlib.Core.List.{List, [], _∷_, _++_};
 ghost use Prim.Native.Nat.{ℕ, _+_, _^_, _≤_, _<_};
-ghost use lib.ListN.{length};
+ghost use lib.ListN.{length, take};
 ghost use Rattle.packing.specs.Packing.{charsIn, readable, unpacked};
 ghost use Rattle.numbers.specs.Numbers.{isNumber, digitsOf};
 ghost use Rattle.node.specs.Said.{saidRequest, saidSending, saidResult};
 ghost use Rattle.bytes.specs.Bytes.{indexOf};
 ghost use Rattle.lines.specs.Lines.{space, isDigits, numberOf, askedOf, valueBelow, numberForm, subscriberForm, requestForm, sendingForm, resultAt, resultForm, lettered};
-ghost use Rattle.lines.specs.Program.{numeral, said};
-ghost use Rattle.lines.specs.Memory.{valueIn, formIn, Put, Printable, answerRoom};
+ghost use Rattle.lines.specs.Program.{questioned, lastKey, mayFollow, numeral, said};
+ghost use Rattle.lines.specs.Memory.{valueIn, formIn, Put, Printable, answerRoom, held, Stands, lineRoom, Did};
+
+// At most so many numbers and subscribers, in rows of six and of two words.
+const MOST_NUMBERS: usize = 1024;
+
+const MOST_SUBSCRIBERS: usize = 4096;
+
+const SUBSCRIBER_WORDS: usize = 2;
 
 // Flags, and now and kind, are below these.
 const FLAGS: u64 = 4;
 
 const SECONDS: u64 = 4_294_967_296;
+
+// How many rows of the lent table and list are in use, and whether they are still being filled.
+struct State {
+    numbers: usize,
+    subscribers: usize,
+    filling: bool,
+}
+
+// What a line leaves: the state, and how many octets it printed.
+struct Done {
+    state: State,
+    printed: usize,
+}
 
 // The form of a line behind its letter, with the values of its fields; a string by where it starts.
 enum Line {
@@ -322,4 +342,50 @@ fn put_result_answer(answer: ResultAnswer, out: &mut [u8]) -> usize
         ResultAnswer::Dropped => put(b"dropped", out),
         ResultAnswer::Again => put(b"again", out),
     }
+}
+
+// The first word of the last row, in rows of `width` words; 0 where there is none.
+fn last_key(words: &[u64], width: usize) -> u64
+    requires { ⌜ 0 < width ⌝ }
+    ensures { λ r. ⌜ r ≡ lastKey width (now (words .entry)) ⌝ }
+{
+    let n = words.len();
+    if n == 0 {
+        return 0;
+    }
+    if n < width {
+        return words[0];
+    }
+    words[n - width]
+}
+
+// Whether a row with this key may follow the rows.
+fn may_follow(width: usize, most: usize, key: u64, words: &[u64]) -> bool
+    requires { ⌜ 0 < width ⌝ }
+    ensures { λ r. ⌜ r ≡ mayFollow width most key (now (words .entry)) ⌝ }
+{
+    let rows = words.len() / width;
+    let last = last_key(words, width);
+    (rows < most) & (last < key)
+}
+
+// Puts a row behind the words in use.
+fn append(row: &[u64], used: usize, words: &mut [u64])
+    requires { ⌜ used + length (now row) ≤ length (now words) ⌝ }
+    ensures { λ _. ⌜ Put (take used (now (words .entry)) ++ now (row .entry)) (now (words .entry)) (now (words .exit)) (used + length (now (row .entry))) ⌝ }
+{
+    let mut i = 0;
+    while i < row.len() {
+        words[used + i] = row[i];
+        i += 1;
+    }
+}
+
+// Any other line.
+fn question(state: State, out: &mut [u8]) -> Done
+    requires { ⌜ lineRoom ≤ length (now out) ⌝ }
+    ensures { λ r. ⌜ ((table list : List ℕ) → Stands state table list → Did (questioned (held state table list)) table list (now (out .entry)) r table list (now (out .exit))) ⌝ }
+{
+    let printed = put(b"?\n", out);
+    Done { state, printed }
 }
