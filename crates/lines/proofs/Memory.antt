@@ -1,13 +1,22 @@
 -- The program in memory: rows in use and rows behind them, and what a line did. Assumes nothing.
 use mathlib.Core.Path.{_≡_, refl, sym, ap, _∙_}
+use mathlib.Core.Bool.{true, false}
 use mathlib.Core.List.{List, [], _∷_, _++_}
-use Prim.Native.Nat.{ℕ, suc, _+_, _-_, _*_, _≤_, _<_}
+use Prim.Native.Nat.{ℕ, suc, _+_, _-_, _*_, _/_, _≤_, _<_}
 use native.Mathlib.Numerals.{add-one}
 use native.Mathlib.Omega.{arith}
 use lib.ListN.{length, take, drop, set, getD, length-append, take-append-drop, List·getD-eq-default}
 use lib.Seq.{length-take-le, take-all, paste, paste-suc}
-use Rattle.lines.specs.Program.{lastKey}
-use Rattle.lines.specs.Memory.{Put}
+use lib.Dec.{ltb}
+use borrow.Author.Tests.{ltb-true}
+use Rattle.answers.proofs.Tests.{and-left, and-no}
+use Rattle.numbers.specs.declared.FunctionalNumber.{FunctionalNumber}
+use Rattle.numbers.specs.declared.Msisdn.{Msisdn}
+use Rattle.records.specs.Rows.{rowWords}
+use Rattle.tables.specs.Tables.{mostNumbers, subscriberWords, mostSubscribers}
+use Rattle.lines.specs.declared.Done.{Done}
+use Rattle.lines.specs.Program.{Program, Effect, questioned, lastKey, mayFollow, filled, withNumber, numbered, withSubscriber, subscribed}
+use Rattle.lines.specs.Memory.{Put, Did}
 
 -- ---- rows
 
@@ -36,3 +45,47 @@ append-done row words new used i h k l e =
       count = sym (length-append (take used words) row ∙ ap (λ (n : ℕ). n + length row) (length-take-le used words (omega arith)));
       buffer = e ∙ rw (take-all i row k, same);
     }
+
+-- a row that may follow the words in use is not over the limit
+pub follows-below : (width most key n : ℕ) (words : List ℕ) → n ≤ length words → mayFollow width most key (take n words) ≡ true → n / width < most
+unfolding mayFollow
+follows-below width most key n words h e = ltb-true (n / width) most (rw (length-take-le n words h) at (and-left (ltb (length (take n words) / width) most) (ltb (lastKey width (take n words)) key) e))
+
+pub put-count : {text old new : List ℕ} {n : ℕ} (m : ℕ) → Put text old new n → m ≡ n → Put text old new m
+put-count m p e = rw e p
+
+pub put-nothing : (old : List ℕ) → Put [] old old 0
+put-nothing old = record { count = refl; buffer = refl }
+
+-- ---- filling
+
+pub did-as :
+    {e f : Effect} {table list out : List ℕ} {d : Done} {newTable newList newOut : List ℕ} → Did f table list out d newTable newList newOut → e ≡ f
+    → Did e table list out d newTable newList newOut
+did-as did same = rw same did
+
+module _ (n : FunctionalNumber) (p : Program) where
+  pub numbered-late : p .filling ≡ false → numbered n p ≡ questioned p
+  unfolding numbered
+  numbered-late f = rw f
+
+  pub numbered-over : mayFollow rowWords mostNumbers (n .0) (p .table) ≡ false → numbered n p ≡ questioned p
+  unfolding numbered
+  numbered-over m = rw (and-no (p .filling) (mayFollow rowWords mostNumbers (n .0) (p .table)) m)
+
+  pub numbered-in : p .filling ≡ true → mayFollow rowWords mostNumbers (n .0) (p .table) ≡ true → numbered n p ≡ filled true (withNumber n p) p
+  unfolding numbered
+  numbered-in f m = rw (f, m)
+
+module _ (m : Msisdn) (flags : ℕ) (p : Program) where
+  pub subscribed-late : p .filling ≡ false → subscribed m flags p ≡ questioned p
+  unfolding subscribed
+  subscribed-late f = rw f
+
+  pub subscribed-over : mayFollow subscriberWords mostSubscribers (m .0) (p .list) ≡ false → subscribed m flags p ≡ questioned p
+  unfolding subscribed
+  subscribed-over e = rw (and-no (p .filling) (mayFollow subscriberWords mostSubscribers (m .0) (p .list)) e)
+
+  pub subscribed-in : p .filling ≡ true → mayFollow subscriberWords mostSubscribers (m .0) (p .list) ≡ true → subscribed m flags p ≡ filled true (withSubscriber m flags p) p
+  unfolding subscribed
+  subscribed-in f e = rw (f, e)

@@ -6,17 +6,20 @@ use node::SendingAnswer;
 use numbers::FunctionalNumber;
 use numbers::Msisdn;
 use numbers::NumberRead;
+use records::ROW_WORDS;
 ghost use mathlib.Core.Path.{_≡_};
 ghost use mathlib.Core.Bool.{true};
 ghost use mathlib.Core.List.{List, [], _∷_, _++_};
-ghost use Prim.Native.Nat.{ℕ, _+_, _^_, _≤_, _<_};
+ghost use Prim.Native.Nat.{ℕ, _+_, _*_, _^_, _≤_, _<_};
 ghost use lib.ListN.{length, take};
 ghost use Rattle.packing.specs.Packing.{charsIn, readable, unpacked};
 ghost use Rattle.numbers.specs.Numbers.{isNumber, digitsOf};
+ghost use Rattle.records.specs.Rows.{rowWords};
+ghost use Rattle.tables.specs.Tables.{mostNumbers, subscriberWords, mostSubscribers};
 ghost use Rattle.node.specs.Said.{saidRequest, saidSending, saidResult};
 ghost use Rattle.bytes.specs.Bytes.{indexOf};
 ghost use Rattle.lines.specs.Lines.{space, isDigits, numberOf, askedOf, valueBelow, numberForm, subscriberForm, requestForm, sendingForm, resultAt, resultForm, lettered};
-ghost use Rattle.lines.specs.Program.{questioned, lastKey, mayFollow, numeral, said};
+ghost use Rattle.lines.specs.Program.{questioned, lastKey, mayFollow, numbered, subscribed, numeral, said};
 ghost use Rattle.lines.specs.Memory.{valueIn, formIn, Put, Printable, answerRoom, held, Stands, lineRoom, Did};
 
 // At most so many numbers and subscribers, in rows of six and of two words.
@@ -388,4 +391,58 @@ fn question(state: State, out: &mut [u8]) -> Done
 {
     let printed = put(b"?\n", out);
     Done { state, printed }
+}
+
+// `N` number: a row more of the table.
+fn add_number(state: State, number: FunctionalNumber, table: &mut [u64], out: &mut [u8]) -> Done
+    requires { ⌜ (rowWords * state .numbers ≤ length (now table)) × (rowWords * mostNumbers ≤ length (now table)) ⌝ }
+    requires { ⌜ lineRoom ≤ length (now out) ⌝ }
+    ensures { λ r. ⌜ ((list : List ℕ) → Stands state (now (table .entry)) list → Did (numbered number (held state (now (table .entry)) list)) (now (table .entry)) list (now (out .entry)) r (now (table .exit)) list (now (out .exit))) ⌝ }
+{
+    let rows = state.numbers;
+    let used = ROW_WORDS * rows;
+    if !state.filling {
+        return question(state, out);
+    }
+    if !may_follow(ROW_WORDS, MOST_NUMBERS, number.0, &table[..used]) {
+        return question(state, out);
+    }
+    let row = [number.0, 0, 0, 0, 0, 0];
+    append(&row, used, table);
+    let next = State {
+        numbers: rows + 1,
+        subscribers: state.subscribers,
+        filling: true,
+    };
+    Done {
+        state: next,
+        printed: 0,
+    }
+}
+
+// `S` MSISDN flags: a row more of the list.
+fn add_subscriber(state: State, msisdn: Msisdn, flags: u8, list: &mut [u64], out: &mut [u8]) -> Done
+    requires { ⌜ (subscriberWords * state .subscribers ≤ length (now list)) × (subscriberWords * mostSubscribers ≤ length (now list)) ⌝ }
+    requires { ⌜ lineRoom ≤ length (now out) ⌝ }
+    ensures { λ r. ⌜ ((table : List ℕ) → Stands state table (now (list .entry)) → Did (subscribed msisdn flags (held state table (now (list .entry)))) table (now (list .entry)) (now (out .entry)) r table (now (list .exit)) (now (out .exit))) ⌝ }
+{
+    let rows = state.subscribers;
+    let used = SUBSCRIBER_WORDS * rows;
+    if !state.filling {
+        return question(state, out);
+    }
+    if !may_follow(SUBSCRIBER_WORDS, MOST_SUBSCRIBERS, msisdn.0, &list[..used]) {
+        return question(state, out);
+    }
+    let row = [msisdn.0, flags as u64];
+    append(&row, used, list);
+    let next = State {
+        numbers: state.numbers,
+        subscribers: rows + 1,
+        filling: true,
+    };
+    Done {
+        state: next,
+        printed: 0,
+    }
 }
