@@ -178,7 +178,7 @@ module _ (line : List ℕ) (p : Program) where
       filled-bounded line (p .filling && mayFollow subscriberWords mostSubscribers (m .0) (p .list)) (withSubscriber m flags p) p
   effect-bounded (some (form.request m string)) e =
       let l = form-long line (form.request m string) e in
-      replied-bounded (code "R") (asked m string p) (omega arith) (asked-replies m string p)
+      replied-bounded (code "R") (asked m string (p .table) (p .list)) (omega arith) (asked-replies m string (p .table) (p .list))
   effect-bounded (some (form.sending clock n)) e =
       let l = form-long line (form.sending clock n) e in
       let longer : isNumber (n .0) ≡ true → 8 ≤ length line = λ h. let k = l .2 h in omega arith in

@@ -6,4 +6,5 @@ pub mod Writing
 pub mod Printing
 pub mod Bounds
 pub mod Memory
+pub mod Calls
 pub mod Examples

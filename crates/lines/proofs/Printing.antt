@@ -40,7 +40,7 @@ use Rattle.rules.specs.Notices as notices
 use Rattle.rules.specs.Calls.{anyHolds}
 use Rattle.rules.proofs.Visits.{none-holds, one-holds, AllPass, all-pass, found-sound, found-number}
 use Rattle.node.proofs.Texts.{takes-two}
-use Rattle.lines.specs.Program.{Program, buffer, asked}
+use Rattle.lines.specs.Program.{buffer, asked}
 use Rattle.lines.specs.Memory.{Text, mostReplyOctets, mostNoticeOctets, Printable}
 
 -- ---- digits, of any word
@@ -151,12 +151,12 @@ module _ (table list reply : List ℕ) (requester : Msisdn) (scheme : ℕ) (stri
       )
       (done-replies (requestOf string) (rowOf table (requests.numberIn (requestOf string) .0)))
 
-pub asked-replies : (m : Msisdn) (string : List ℕ) (p : Program) → Replies (asked m string p)
+pub asked-replies : (m : Msisdn) (string table list : List ℕ) → Replies (asked m string table list)
 unfolding asked
-asked-replies m string p = go (takes string)
+asked-replies m string table list = go (takes string)
   where
-    go : (b : Bool) → Replies (cond b (requests.request (p .table) (p .list) buffer m requests.codingScheme (packed string)) (made (refusal 9) (p .table) buffer))
-    go true = request-replies (p .table) (p .list) buffer m requests.codingScheme (packed string)
+    go : (b : Bool) → Replies (cond b (requests.request table list buffer m requests.codingScheme (packed string)) (made (refusal 9) table buffer))
+    go true = request-replies table list buffer m requests.codingScheme (packed string)
     go false = (tt, refl)
 
 -- ---- a result

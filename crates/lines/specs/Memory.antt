@@ -9,7 +9,7 @@ use Rattle.packing.specs.Packing.{readable}
 use Rattle.numbers.specs.Numbers.{isNumber}
 use Rattle.records.specs.Rows.{rowWords}
 use Rattle.tables.specs.Tables.{mostNumbers, subscriberWords, mostSubscribers}
-use Rattle.rules.specs.Answers.{Answer, refusal, error, outcome, holder, sent, delivered, dropped, again, found, noneDue}
+use Rattle.rules.specs.Answers.{Answer, refusal, error, outcome, holder, sent, delivered, dropped, again, found, noneDue, Outcome}
 use Rattle.lines.specs.declared.FieldRead.{FieldRead}
 use Rattle.lines.specs.declared.FieldRead.the-variants.{Value, Unreadable}
 use Rattle.lines.specs.declared.Line.{Line}
@@ -17,7 +17,7 @@ use Rattle.lines.specs.declared.Line.the-variants as line
 use Rattle.lines.specs.declared.State.{State}
 use Rattle.lines.specs.declared.Done.{Done}
 use Rattle.lines.specs.Lines.{Form, number, subscriber, request, sending, result}
-use Rattle.lines.specs.Program.{Program, Effect}
+use Rattle.lines.specs.Program.{Program, Effect, said}
 
 -- the value that a field's reader answers
 abbrev pub valueIn : FieldRead → Option ℕ
@@ -67,6 +67,11 @@ Printable dropped buffer = Unit {0}
 Printable again buffer = Unit {0}
 Printable (found n) buffer = Unit {0}
 Printable noneDue buffer = Unit {0}
+
+-- a call's outcome: its table, and what it says, written
+pub record Answered (o : Outcome) (table old new : List ℕ) (n : ℕ) : Type 0 where
+  pub leaves : table ≡ o .table
+  pub says : Put (said (o .answer) (o .buffer)) old new n
 
 -- ---- the program in memory
 

@@ -104,13 +104,13 @@ abbrev pub buffer : List ℕ
 buffer = replicate bufferRoom 0
 
 -- "the program packs it", and "one the packer refuses" is refused 9, whoever the requester is
-unfoldable pub asked : Msisdn → List ℕ → Program → Outcome
-asked m string p =
-    cond (takes string) (requests.request (p .table) (p .list) buffer m requests.codingScheme (packed string)) (made (refusal 9) (p .table) buffer)
+unfoldable pub asked : Msisdn → List ℕ → List ℕ → List ℕ → Outcome
+asked m string table list =
+    cond (takes string) (requests.request table list buffer m requests.codingScheme (packed string)) (made (refusal 9) table buffer)
 
 -- "`R` requester string (unpacked …) prints `R` and the reply text"
 unfoldable pub requested : Msisdn → List ℕ → Program → Effect
-requested m string p = answered (code "R") (asked m string p) p
+requested m string p = answered (code "R") (asked m string (p .table) (p .list)) p
 
 -- "`T` now number prints `T`, addressee, notice", with "delay 0"
 unfoldable pub dispatched : ℕ → FunctionalNumber → Program → Effect

@@ -12,15 +12,16 @@ ghost use mathlib.Core.Bool.{true};
 ghost use mathlib.Core.List.{List, [], _∷_, _++_};
 ghost use Prim.Native.Nat.{ℕ, _+_, _*_, _^_, _≤_, _<_};
 ghost use lib.ListN.{length, take};
-ghost use Rattle.packing.specs.Packing.{charsIn, readable, unpacked};
+ghost use Rattle.packing.specs.Packing.{octetsFor, charsIn, readable, unpacked};
 ghost use Rattle.numbers.specs.Numbers.{isNumber, digitsOf};
 ghost use Rattle.records.specs.Rows.{rowWords};
 ghost use Rattle.tables.specs.Tables.{mostNumbers, subscriberWords, mostSubscribers};
+ghost use Rattle.rules.specs.Notices as notices;
 ghost use Rattle.node.specs.Said.{saidRequest, saidSending, saidResult};
 ghost use Rattle.bytes.specs.Bytes.{indexOf};
 ghost use Rattle.lines.specs.Lines.{space, isDigits, numberOf, askedOf, valueBelow, numberForm, subscriberForm, requestForm, sendingForm, resultAt, resultForm, lettered};
-ghost use Rattle.lines.specs.Program.{questioned, lastKey, mayFollow, numbered, subscribed, numeral, said};
-ghost use Rattle.lines.specs.Memory.{valueIn, formIn, Put, Printable, answerRoom, held, Stands, lineRoom, Did};
+ghost use Rattle.lines.specs.Program.{questioned, lastKey, mayFollow, numbered, subscribed, numeral, said, buffer, asked};
+ghost use Rattle.lines.specs.Memory.{valueIn, formIn, Put, Printable, answerRoom, held, Stands, lineRoom, Did, Answered};
 
 // At most so many numbers and subscribers, in rows of six and of two words.
 const MOST_NUMBERS: usize = 1024;
@@ -28,6 +29,11 @@ const MOST_NUMBERS: usize = 1024;
 const MOST_SUBSCRIBERS: usize = 4096;
 
 const SUBSCRIBER_WORDS: usize = 2;
+
+// The reply and notice buffers, and the data coding scheme.
+const BUFFER_ROOM: usize = 80;
+
+const CODING_SCHEME: u8 = 0x0F;
 
 // Flags, and now and kind, are below these.
 const FLAGS: u64 = 4;
@@ -445,4 +451,57 @@ fn add_subscriber(state: State, msisdn: Msisdn, flags: u8, list: &mut [u64], out
         state: next,
         printed: 0,
     }
+}
+
+// Asks the node, its string packed, and writes what follows the `R`.
+fn ask(
+    requester: Msisdn,
+    string: &[u8],
+    table: &mut [u64],
+    list: &[u64],
+    packed: &mut [u8],
+    out: &mut [u8],
+) -> usize
+    requires { ⌜ (octetsFor (length (now string)) ≤ length (now packed)) × (answerRoom ≤ length (now out)) ⌝ }
+    ensures { λ r. ⌜ Answered (asked requester (now (string .entry)) (now (table .entry)) (now (list .entry))) (now (table .exit)) (now (out .entry)) (now (out .exit)) r ⌝ }
+{
+    let written = packing::pack(string, packed);
+    let Written::Count(n) = written else {
+        return put_numbered(b"refused ", 9, out);
+    };
+    let mut reply = [0u8; BUFFER_ROOM];
+    let answer = node::request(
+        table,
+        list,
+        &mut reply,
+        requester,
+        CODING_SCHEME,
+        &packed[..n],
+    );
+    put_request_answer(answer, &reply, out)
+}
+
+// Sends the notice of a number, and writes what follows the `T`.
+fn send(clock: u32, number: FunctionalNumber, table: &mut [u64], out: &mut [u8]) -> usize
+    requires { ⌜ answerRoom ≤ length (now out) ⌝ }
+    ensures { λ r. ⌜ Answered (notices.sending (now (table .entry)) buffer number 0 clock) (now (table .exit)) (now (out .entry)) (now (out .exit)) r ⌝ }
+{
+    let mut notice = [0u8; BUFFER_ROOM];
+    let answer = node::sending(table, &mut notice, number, 0, clock);
+    put_sending_answer(answer, &notice, out)
+}
+
+// Reports the result of a sending, and writes what follows the `D`.
+fn report(
+    clock: u32,
+    number: FunctionalNumber,
+    kind: u32,
+    table: &mut [u64],
+    out: &mut [u8],
+) -> usize
+    requires { ⌜ answerRoom ≤ length (now out) ⌝ }
+    ensures { λ r. ⌜ Answered (notices.result (now (table .entry)) number kind clock) (now (table .exit)) (now (out .entry)) (now (out .exit)) r ⌝ }
+{
+    let answer = node::result(table, number, kind, clock);
+    put_result_answer(answer, out)
 }
