@@ -50,6 +50,13 @@ said-most again b h = omega arith
 said-most (found n) b h = omega arith
 said-most noneDue b h = omega arith
 
+pub said-room : (o : Outcome) → Printable (o .answer) (o .buffer) → length (said (o .answer) (o .buffer)) ≤ answerRoom
+said-room o h = go (isSent (o .answer)) (said-most (o .answer) (o .buffer) h)
+  where
+    go : (b : Bool) → length (said (o .answer) (o .buffer)) ≤ mostSaid b → length (said (o .answer) (o .buffer)) ≤ answerRoom
+    go true m = m
+    go false m = omega arith
+
 -- with the letter, the space and the line feed
 answered-most : (letter : ℕ) (o : Outcome) (p : Program) → Printable (o .answer) (o .buffer) → length (answered letter o p .prints) ≤ 3 + mostSaid (isSent (o .answer))
 answered-most letter o p h = omega (arith, said-most (o .answer) (o .buffer) h, length-append (said (o .answer) (o .buffer)) (lineFeed ∷ []))

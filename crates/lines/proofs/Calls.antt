@@ -20,14 +20,16 @@ use Rattle.rules.specs.Requests as requests
 use Rattle.node.proofs.Texts.{counts-only}
 use Rattle.lines.specs.Program.{said, buffer, asked}
 use Rattle.lines.specs.Memory.{Put, Printable, Answered}
+use Rattle.lines.proofs.Bounds.{said-room}
 
 module _ (a : Answer) (table b : List ℕ) (o : Outcome) (e : made a table b ≡ o) where
   -- an outcome that can be printed, as the code has it
   pub printable-by : Printable (o .answer) (o .buffer) → Printable a b
   printable-by = subst⁻¹ (λ (x : Outcome). Printable (x .answer) (x .buffer)) e
 
-  pub answered-by : {old new : List ℕ} {n : ℕ} → Put (said a b) old new n → Answered o table old new n
-  answered-by {old} {new} {n} p = subst (λ (x : Outcome). Answered x table old new n) e (record { leaves = refl; says = p })
+  pub answered-by : {old new : List ℕ} {n : ℕ} → Printable (o .answer) (o .buffer) → Put (said a b) old new n → Answered o table old new n
+  answered-by {old} {new} {n} h p =
+      subst (λ (x : Outcome). Answered x table old new n) e (record { leaves = refl; says = p; short = rw (p .count) (said-room (made a table b) (printable-by h)) })
 
 -- where the packer has room and does not count, it does not take the string
 pub pack-fails :

@@ -5,18 +5,24 @@ use mathlib.Core.List.{List, [], _∷_, _++_}
 use Prim.Native.Nat.{ℕ, suc, _+_, _-_, _*_, _/_, _≤_, _<_}
 use native.Mathlib.Numerals.{add-one}
 use native.Mathlib.Omega.{arith}
-use lib.ListN.{length, take, drop, set, getD, length-append, take-append-drop, List·getD-eq-default}
-use lib.Seq.{length-take-le, take-all, paste, paste-suc}
+use lib.ListN.{length, take, drop, set, getD, length-append, length-drop, take-append-drop, List·getD-eq-default}
+use lib.Seq.{drop-cons, set-at, append-snoc, length-take-le, take-all, paste, paste-suc}
 use lib.Dec.{ltb}
+use borrow.Rule.Slice.PartMut.{putMid}
 use borrow.Author.Tests.{ltb-true}
 use Rattle.answers.proofs.Tests.{and-left, and-no}
 use Rattle.numbers.specs.declared.FunctionalNumber.{FunctionalNumber}
 use Rattle.numbers.specs.declared.Msisdn.{Msisdn}
 use Rattle.records.specs.Rows.{rowWords}
 use Rattle.tables.specs.Tables.{mostNumbers, subscriberWords, mostSubscribers}
+use Rattle.rules.specs.Answers.{Outcome}
+use Rattle.lines.specs.declared.State.{State}
 use Rattle.lines.specs.declared.Done.{Done}
-use Rattle.lines.specs.Program.{Program, Effect, questioned, lastKey, mayFollow, filled, withNumber, numbered, withSubscriber, subscribed}
-use Rattle.lines.specs.Memory.{Put, Did}
+use Rattle.lines.specs.Lines.{lineFeed, space}
+use Rattle.lines.specs.Program.{Program, Effect, questioned, lastKey, mayFollow, filled, withNumber, numbered, withSubscriber, subscribed, answered}
+use Rattle.lines.specs.Memory.{Put, Answered, held, Stands, lineRoom, Did, ending}
+use Rattle.answers.proofs.Parts.{rest-of, rest-back}
+use Rattle.lines.proofs.Writing.{put-behind}
 
 -- ---- rows
 
@@ -89,3 +95,40 @@ module _ (m : Msisdn) (flags : ℕ) (p : Program) where
   pub subscribed-in : p .filling ≡ true → mayFollow subscriberWords mostSubscribers (m .0) (p .list) ≡ true → subscribed m flags p ≡ filled true (withSubscriber m flags p) p
   unfolding subscribed
   subscribed-in f e = rw (f, e)
+
+-- ---- a printed line
+
+-- a text, and a line feed behind it
+pub put-end : {text old new : List ℕ} {n : ℕ} → Put text old new n → n < length new → Put (text ++ (lineFeed ∷ [])) old (set new n lineFeed) (n + 1)
+put-end {text} {old} {new} {n} p h =
+    let l : n < length old = omega (arith, ap length (p .buffer), length-append text (drop n old), length-drop n old, p .count) in
+    record {
+      count = omega (arith, p .count, length-append text (lineFeed ∷ []));
+      buffer =
+          rw (p .buffer, drop-cons old n 0 l, set-at text (getD old n 0) (drop (suc n) old) lineFeed n (sym (p .count)), add-one n)
+          (sym (append-snoc text lineFeed (drop (suc n) old)));
+    }
+
+-- behind the letter, the space and what the call said there is room for the line feed
+pub line-room :
+    {letter h n : ℕ} {o : Outcome} {out t mid part : List ℕ} → Put (letter ∷ space ∷ []) out mid h → Answered o t (take (length mid - h) (drop h mid)) part n
+    → length part ≡ length (take (length mid - h) (drop h mid)) → lineRoom ≤ length mid → h + n < length (putMid h (length mid - h) mid part)
+line-room {h = h} {mid = mid} {part} head body same room =
+    let l = rw rest-of at same in
+    rw (rest-back h mid part) (omega (arith, head .count, body .short, length-append (take h mid) part, length-take-le h mid (omega (arith, head .count)), length-drop h mid))
+
+-- the letter, what the call said and the line feed were printed, over the rows in use and the table that the call left
+pub line-did :
+    {letter h n : ℕ} {o : Outcome} {s : State} {table list out t mid part new : List ℕ} {d : Done}
+    → Stands s table list → Put (letter ∷ space ∷ []) out mid h → Answered o t (take (length mid - h) (drop h mid)) part n
+    → length t ≡ rowWords * s .numbers → h + n < length (putMid h (length mid - h) mid part)
+    → d ≡ ending s (h + n) → new ≡ set (putMid h (length mid - h) mid part) (h + n) lineFeed
+    → Did (answered letter o (held s table list)) table list out d (t ++ drop (rowWords * s .numbers) table) list new
+line-did {s = s} {table} {list} stands head body rows room ended written =
+    rw (ended, written)
+    (record {
+      numbers = record { count = sym rows ∙ ap length (body .leaves); buffer = rw (← (body .leaves)) refl };
+      subscribers = put-kept (subscriberWords * s .subscribers) list (stands .subscribers);
+      filling = refl;
+      printed = put-end (put-behind head (body .says)) room;
+    })

@@ -1,7 +1,7 @@
 -- What the code's answers say, and the program in the memory that the code is lent. Assumes nothing.
 use mathlib.Core.Path.{_≡_}
 use Prim.Native.Nat.{ℕ, _+_, _*_, _≤_}
-use mathlib.Core.Bool.{true}
+use mathlib.Core.Bool.{true, false}
 use mathlib.Core.Option.{Option, none, some}
 use mathlib.Core.List.{List, _++_}
 use lib.ListN.{length, take, drop}
@@ -72,6 +72,7 @@ Printable noneDue buffer = Unit {0}
 pub record Answered (o : Outcome) (table old new : List ℕ) (n : ℕ) : Type 0 where
   pub leaves : table ≡ o .table
   pub says : Put (said (o .answer) (o .buffer)) old new n
+  pub short : n ≤ answerRoom
 
 -- ---- the program in memory
 
@@ -100,3 +101,7 @@ pub record Did (e : Effect) (table list out : List ℕ) (d : Done) (newTable new
   pub subscribers : Put (e .leaves .list) list newList (subscriberWords * d .state .subscribers)
   pub filling : d .state .filling ≡ e .leaves .filling
   pub printed : Put (e .prints) out newOut (d .printed)
+
+-- a printed line, of which n octets stand before its line feed, leaves the rows as they are counted and ends the filling
+abbrev pub ending : State → ℕ → Done
+ending s n = record { state = record { numbers = s .numbers; subscribers = s .subscribers; filling = false }; printed = n + 1 }

@@ -11,7 +11,7 @@ ghost use mathlib.Core.Path.{_≡_};
 ghost use mathlib.Core.Bool.{true};
 ghost use mathlib.Core.List.{List, [], _∷_, _++_};
 ghost use Prim.Native.Nat.{ℕ, _+_, _*_, _^_, _≤_, _<_};
-ghost use lib.ListN.{length, take};
+ghost use lib.ListN.{length, take, set};
 ghost use Rattle.packing.specs.Packing.{octetsFor, charsIn, readable, unpacked};
 ghost use Rattle.numbers.specs.Numbers.{isNumber, digitsOf};
 ghost use Rattle.records.specs.Rows.{rowWords};
@@ -19,9 +19,9 @@ ghost use Rattle.tables.specs.Tables.{mostNumbers, subscriberWords, mostSubscri
 ghost use Rattle.rules.specs.Notices as notices;
 ghost use Rattle.node.specs.Said.{saidRequest, saidSending, saidResult};
 ghost use Rattle.bytes.specs.Bytes.{indexOf};
-ghost use Rattle.lines.specs.Lines.{space, isDigits, numberOf, askedOf, valueBelow, numberForm, subscriberForm, requestForm, sendingForm, resultAt, resultForm, lettered};
-ghost use Rattle.lines.specs.Program.{questioned, lastKey, mayFollow, numbered, subscribed, numeral, said, buffer, asked};
-ghost use Rattle.lines.specs.Memory.{valueIn, formIn, Put, Printable, answerRoom, held, Stands, lineRoom, Did, Answered};
+ghost use Rattle.lines.specs.Lines.{lineFeed, space, isDigits, numberOf, askedOf, valueBelow, numberForm, subscriberForm, requestForm, sendingForm, resultAt, resultForm, lettered};
+ghost use Rattle.lines.specs.Program.{questioned, lastKey, mayFollow, numbered, subscribed, numeral, said, buffer, asked, requested, dispatched, reported};
+ghost use Rattle.lines.specs.Memory.{valueIn, formIn, Put, Printable, answerRoom, held, Stands, lineRoom, Did, Answered, ending};
 
 // At most so many numbers and subscribers, in rows of six and of two words.
 const MOST_NUMBERS: usize = 1024;
@@ -504,4 +504,84 @@ fn report(
 {
     let answer = node::result(table, number, kind, clock);
     put_result_answer(answer, out)
+}
+
+// Ends a printed line with its line feed, and with it the filling.
+fn end_line(state: State, at: usize, out: &mut [u8]) -> Done
+    requires { ⌜ at < length (now out) ⌝ }
+    ensures { λ r. ⌜ (r ≡ ending state at) × (now (out .exit) ≡ set (now (out .entry)) at lineFeed) ⌝ }
+{
+    out[at] = b'\n';
+    let next = State {
+        numbers: state.numbers,
+        subscribers: state.subscribers,
+        filling: false,
+    };
+    Done {
+        state: next,
+        printed: at + 1,
+    }
+}
+
+// `R` requester string.
+fn request_line(
+    state: State,
+    requester: Msisdn,
+    string: &[u8],
+    table: &mut [u64],
+    list: &[u64],
+    packed: &mut [u8],
+    out: &mut [u8],
+) -> Done
+    requires { ⌜ Stands state (now table) (now list) ⌝ }
+    requires { ⌜ (octetsFor (length (now string)) ≤ length (now packed)) × (lineRoom ≤ length (now out)) ⌝ }
+    ensures { λ r. ⌜ Did (requested requester (now (string .entry)) (held state (now (table .entry)) (now (list .entry)))) (now (table .entry)) (now (list .entry)) (now (out .entry)) r (now (table .exit)) (now (list .entry)) (now (out .exit)) ⌝ }
+{
+    let words = ROW_WORDS * state.numbers;
+    let entries = SUBSCRIBER_WORDS * state.subscribers;
+    let at = put(b"R ", out);
+    let n = ask(
+        requester,
+        string,
+        &mut table[..words],
+        &list[..entries],
+        packed,
+        &mut out[at..],
+    );
+    end_line(state, at + n, out)
+}
+
+// `T` now number.
+fn sending_line(
+    state: State,
+    clock: u32,
+    number: FunctionalNumber,
+    table: &mut [u64],
+    out: &mut [u8],
+) -> Done
+    requires { ⌜ (rowWords * state .numbers ≤ length (now table)) × (lineRoom ≤ length (now out)) ⌝ }
+    ensures { λ r. ⌜ ((list : List ℕ) → Stands state (now (table .entry)) list → Did (dispatched clock number (held state (now (table .entry)) list)) (now (table .entry)) list (now (out .entry)) r (now (table .exit)) list (now (out .exit))) ⌝ }
+{
+    let words = ROW_WORDS * state.numbers;
+    let at = put(b"T ", out);
+    let n = send(clock, number, &mut table[..words], &mut out[at..]);
+    end_line(state, at + n, out)
+}
+
+// `D` now number kind.
+fn result_line(
+    state: State,
+    clock: u32,
+    number: FunctionalNumber,
+    kind: u32,
+    table: &mut [u64],
+    out: &mut [u8],
+) -> Done
+    requires { ⌜ (rowWords * state .numbers ≤ length (now table)) × (lineRoom ≤ length (now out)) ⌝ }
+    ensures { λ r. ⌜ ((list : List ℕ) → Stands state (now (table .entry)) list → Did (reported clock number kind (held state (now (table .entry)) list)) (now (table .entry)) list (now (out .entry)) r (now (table .exit)) list (now (out .exit))) ⌝ }
+{
+    let words = ROW_WORDS * state.numbers;
+    let at = put(b"D ", out);
+    let n = report(clock, number, kind, &mut table[..words], &mut out[at..]);
+    end_line(state, at + n, out)
 }

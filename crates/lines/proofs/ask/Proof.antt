@@ -61,7 +61,7 @@ returns c =
     let k = p .before .before .before in
     let w = k .before .before .before in
     let s = w .before .before .before .before .before .before .before in
-    answered-by _ _ _ _ (asked-unfit (s .args .requester) (s .args .string .now) (s .args .table .now) (s .args .list .now) (pack-fails _ _ _ (w .pack .result) (w .pack .ensures) (s .pre .0) (k .match .keys2))) (p .put-numbered .ensures)
+    answered-by _ _ _ _ (asked-unfit (s .args .requester) (s .args .string .now) (s .args .table .now) (s .args .list .now) (pack-fails _ _ _ (w .pack .result) (w .pack .ensures) (s .pre .0) (k .match .keys2))) (asked-replies _ _ _ _ .0) (p .put-numbered .ensures)
 
 slice-aggregate-request : tie.Need-slice-aggregate-request
 slice-aggregate-request c = search needs
@@ -95,7 +95,7 @@ same-length-5 c = search needs
 returns-2 : tie.Need-returns-2
 returns-2 c =
     let p = c .before .before in
-    answered-by _ _ _ _ (answers (p .before .before .before .before .before .before)) (p .put-request-answer .ensures)
+    answered-by _ _ _ _ (answers (p .before .before .before .before .before .before)) (asked-replies _ _ _ _ .0) (p .put-request-answer .ensures)
 
 pub ask-spec : {M : Type 1} → statement M
 ask-spec =

@@ -1,4 +1,5 @@
 -- `lines::report` meets its contract. Assumes nothing.
+use Rattle.lines.proofs.Printing.{result-replies}
 use Rattle.lines.proofs.Calls.{answered-by}
 use borrow.Author.Needs.{needs}
 use Rattle.lines.proofs.report.Statement.{statement}
@@ -17,7 +18,7 @@ same-length-2 : tie.Need-same-length-2
 same-length-2 c = search needs
 
 returns : tie.Need-returns
-returns c = let p = c .before .before in answered-by _ _ _ _ (p .before .before .before .before .result .ensures) (p .put-result-answer .ensures)
+returns c = let p = c .before .before in answered-by _ _ _ _ (p .before .before .before .before .result .ensures) (result-replies _ _ _ _ .0) (p .put-result-answer .ensures)
 
 pub report-spec : {M : Type 1} → statement M
 report-spec =

@@ -29,7 +29,11 @@ same-length-2 : tie.Need-same-length-2
 same-length-2 c = search needs
 
 returns : tie.Need-returns
-returns c = let p = c .before .before in answered-by _ _ _ _ (p .before .before .before .before .before .before .sending .ensures) (p .put-sending-answer .ensures)
+returns c =
+    let p = c .before .before in
+    let s = p .before .before .before .before .before .before in
+    let a = s .before .before .before .before .before .args in
+    answered-by _ _ _ _ (s .sending .ensures) (sending-sends (a .table .now) buffer (a .number) 0 (a .clock) .0) (p .put-sending-answer .ensures)
 
 pub send-spec : {M : Type 1} → statement M
 send-spec =
