@@ -12,8 +12,9 @@ use Rattle.answers.proofs.Tests.{and-right}
 use Rattle.numbers.specs.Numbers.{pushed}
 use Rattle.lines.specs.declared.FieldRead.{FieldRead}
 use Rattle.lines.specs.declared.FieldRead.the-variants.{Value, Unreadable}
-use Rattle.lines.specs.Lines.{isDigits, valueBelow}
-use Rattle.lines.specs.Memory.{valueIn}
+use Rattle.lines.specs.declared.Line.{Line}
+use Rattle.lines.specs.Lines.{isDigits, valueBelow, Form}
+use Rattle.lines.specs.Memory.{valueIn, Reads}
 
 pub is-value : (r : FieldRead) (v : ℕ) {x : Option ℕ} → valueIn r ≡ x → r ≡ Value v → x ≡ some v
 is-value r v e told = sym e ∙ ap valueIn told
@@ -28,3 +29,6 @@ value-fits limit s v = go (isDigits s && ltb (pushed 0 s) limit) refl
     go : (b : Bool) → (isDigits s && ltb (pushed 0 s) limit) ≡ b → onlyIf b (pushed 0 s) ≡ some v → v < limit
     go true t e = let p : pushed 0 s ≡ v = cc in omega (arith, ltb-true (pushed 0 s) limit (and-right (isDigits s) _ t))
     go false t e = absurd (let z : _≡_ {A = ℕ} 0 1 = cc in omega arith)
+
+pub reads-as : {rest : List ℕ} {answer : Line} {f g : Option Form} → Reads rest answer f → f ≡ g → Reads rest answer g
+reads-as r e = record { form = r .form ∙ e; within = r .within }

@@ -33,6 +33,20 @@ formIn rest (line.Sending now n) = some (sending now n)
 formIn rest (line.Result now n kind) = some (result now n kind)
 formIn rest line.Other = none
 
+-- where the string of a line starts
+abbrev pub startIn : Line → ℕ
+startIn (line.Number n) = 0
+startIn (line.Subscriber m flags) = 0
+startIn (line.Request m start) = start
+startIn (line.Sending now n) = 0
+startIn (line.Result now n kind) = 0
+startIn line.Other = 0
+
+-- what a line's reader answers
+pub record Reads (rest : List ℕ) (answer : Line) (f : Option Form) : Type 0 where
+  pub form : formIn rest answer ≡ f
+  pub within : startIn answer ≤ length rest
+
 -- a text put over the front of a buffer, with its count; what lies beyond stays
 pub record Put (text old new : List ℕ) (n : ℕ) : Type 0 where
   pub count : n ≡ length text

@@ -21,7 +21,7 @@ ghost use Rattle.node.specs.Said.{saidRequest, saidSending, saidResult};
 ghost use Rattle.bytes.specs.Bytes.{indexOf};
 ghost use Rattle.lines.specs.Lines.{lineFeed, space, isDigits, numberOf, askedOf, valueBelow, numberForm, subscriberForm, requestForm, sendingForm, resultAt, resultForm, lettered};
 ghost use Rattle.lines.specs.Program.{questioned, lastKey, mayFollow, numbered, subscribed, numeral, said, buffer, asked, requested, dispatched, reported};
-ghost use Rattle.lines.specs.Memory.{valueIn, formIn, Put, Printable, answerRoom, held, Stands, lineRoom, Did, Answered, ending};
+ghost use Rattle.lines.specs.Memory.{valueIn, formIn, Reads, Put, Printable, answerRoom, held, Stands, lineRoom, Did, Answered, ending};
 
 // At most so many numbers and subscribers, in rows of six and of two words.
 const MOST_NUMBERS: usize = 1024;
@@ -142,7 +142,7 @@ fn asked_of(field: &[u8]) -> FieldRead
 
 // `N` number.
 fn read_number(rest: &[u8]) -> Line
-    ensures { λ r. ⌜ formIn (now (rest .entry)) r ≡ numberForm (now (rest .entry)) ⌝ }
+    ensures { λ r. ⌜ Reads (now (rest .entry)) r (numberForm (now (rest .entry))) ⌝ }
 {
     let field = number_of(rest);
     let FieldRead::Value(word) = field else {
@@ -153,7 +153,7 @@ fn read_number(rest: &[u8]) -> Line
 
 // `S` MSISDN flags.
 fn read_subscriber(rest: &[u8]) -> Line
-    ensures { λ r. ⌜ formIn (now (rest .entry)) r ≡ subscriberForm (now (rest .entry)) ⌝ }
+    ensures { λ r. ⌜ Reads (now (rest .entry)) r (subscriberForm (now (rest .entry))) ⌝ }
 {
     let end = place_of(b' ', rest);
     if end == rest.len() {
@@ -173,7 +173,7 @@ fn read_subscriber(rest: &[u8]) -> Line
 
 // `R` requester string.
 fn read_request(rest: &[u8]) -> Line
-    ensures { λ r. ⌜ formIn (now (rest .entry)) r ≡ requestForm (now (rest .entry)) ⌝ }
+    ensures { λ r. ⌜ Reads (now (rest .entry)) r (requestForm (now (rest .entry))) ⌝ }
 {
     let end = place_of(b' ', rest);
     if end == rest.len() {
@@ -188,7 +188,7 @@ fn read_request(rest: &[u8]) -> Line
 
 // `T` now number.
 fn read_sending(rest: &[u8]) -> Line
-    ensures { λ r. ⌜ formIn (now (rest .entry)) r ≡ sendingForm (now (rest .entry)) ⌝ }
+    ensures { λ r. ⌜ Reads (now (rest .entry)) r (sendingForm (now (rest .entry))) ⌝ }
 {
     let end = place_of(b' ', rest);
     if end == rest.len() {
@@ -208,7 +208,7 @@ fn read_sending(rest: &[u8]) -> Line
 
 // Number and kind of a `D`, behind its now.
 fn read_result_at(clock: u32, rest: &[u8]) -> Line
-    ensures { λ r. ⌜ ((line : List ℕ) → formIn line r ≡ resultAt clock (now (rest .entry))) ⌝ }
+    ensures { λ r. ⌜ ((line : List ℕ) → Reads line r (resultAt clock (now (rest .entry)))) ⌝ }
 {
     let end = place_of(b' ', rest);
     if end == rest.len() {
@@ -228,7 +228,7 @@ fn read_result_at(clock: u32, rest: &[u8]) -> Line
 
 // `D` now number kind.
 fn read_result(rest: &[u8]) -> Line
-    ensures { λ r. ⌜ formIn (now (rest .entry)) r ≡ resultForm (now (rest .entry)) ⌝ }
+    ensures { λ r. ⌜ Reads (now (rest .entry)) r (resultForm (now (rest .entry))) ⌝ }
 {
     let end = place_of(b' ', rest);
     if end == rest.len() {
@@ -244,7 +244,7 @@ fn read_result(rest: &[u8]) -> Line
 
 // The form of a line by its letter.
 fn read_form(letter: u8, rest: &[u8]) -> Line
-    ensures { λ r. ⌜ formIn (now (rest .entry)) r ≡ lettered letter (now (rest .entry)) ⌝ }
+    ensures { λ r. ⌜ Reads (now (rest .entry)) r (lettered letter (now (rest .entry))) ⌝ }
 {
     match letter {
         b'N' => read_number(rest),

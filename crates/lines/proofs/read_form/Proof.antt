@@ -1,7 +1,8 @@
 -- `lines::read_form` meets its contract: the letters are tried in the definition's order. Assumes nothing.
-use mathlib.Core.Path.{sym, _∙_}
+use Prim.Native.Nat.{zero-le}
 use borrow.Author.Tests.{ne-eqb}
 use Rattle.lines.specs.Lines.{lettered}
+use Rattle.lines.proofs.Reading.{reads-as}
 use borrow.Author.Needs.{needs}
 use Rattle.lines.proofs.read_form.Statement.{statement}
 use Rattle.lines.proofs.read_form.Tie as tie
@@ -23,29 +24,29 @@ read-result-requires c κs = search needs
 
 returns : tie.Need-returns
 unfolding lettered
-returns c = c .read-number .ensures ∙ rw (c .before .match .keys1)
+returns c = reads-as (c .read-number .ensures) (rw (c .before .match .keys1))
 
 returns-2 : tie.Need-returns-2
 unfolding lettered
-returns-2 c = c .read-subscriber .ensures ∙ rw (c .before .match .keys2)
+returns-2 c = reads-as (c .read-subscriber .ensures) (rw (c .before .match .keys2))
 
 returns-3 : tie.Need-returns-3
 unfolding lettered
-returns-3 c = c .read-request .ensures ∙ rw (c .before .match .keys3)
+returns-3 c = reads-as (c .read-request .ensures) (rw (c .before .match .keys3))
 
 returns-4 : tie.Need-returns-4
 unfolding lettered
-returns-4 c = c .read-sending .ensures ∙ rw (c .before .match .keys4)
+returns-4 c = reads-as (c .read-sending .ensures) (rw (c .before .match .keys4))
 
 returns-5 : tie.Need-returns-5
 unfolding lettered
-returns-5 c = c .read-result .ensures ∙ rw (c .before .match .keys5)
+returns-5 c = reads-as (c .read-result .ensures) (rw (c .before .match .keys5))
 
 returns-6 : tie.Need-returns-6
 unfolding lettered
 returns-6 c =
     let n = c .match .rest in
-    rw (ne-eqb _ _ (n .0 .0 .0 .0 .1), ne-eqb _ _ (n .0 .0 .0 .1), ne-eqb _ _ (n .0 .0 .1), ne-eqb _ _ (n .0 .1), ne-eqb _ _ (n .1))
+    record { form = rw (ne-eqb _ _ (n .0 .0 .0 .0 .1), ne-eqb _ _ (n .0 .0 .0 .1), ne-eqb _ _ (n .0 .0 .1), ne-eqb _ _ (n .0 .1), ne-eqb _ _ (n .1)); within = zero-le }
 
 pub read-form-spec : {M : Type 1} → statement M
 read-form-spec =

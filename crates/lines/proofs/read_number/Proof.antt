@@ -1,4 +1,5 @@
 -- `lines::read_number` meets its contract. Assumes nothing.
+use Prim.Native.Nat.{zero-le}
 use Rattle.lines.specs.Lines.{numberForm}
 use Rattle.lines.proofs.Reading.{is-value, is-none}
 use borrow.Author.Needs.{needs}
@@ -16,11 +17,11 @@ enum-told c = search needs
 
 returns : tie.Need-returns
 unfolding numberForm
-returns c = rw (is-none _ (c .before .before .number-of .ensures) (c .enum-told .given .1))
+returns c = record { form = rw (is-none _ (c .before .before .number-of .ensures) (c .enum-told .given .1)); within = zero-le }
 
 returns-2 : tie.Need-returns-2
 unfolding numberForm
-returns-2 c = rw (is-value _ _ (c .before .before .before .number-of .ensures) (c .before .field .given .1))
+returns-2 c = record { form = rw (is-value _ _ (c .before .before .before .number-of .ensures) (c .before .field .given .1)); within = zero-le }
 
 pub read-number-spec : {M : Type 1} → statement M
 read-number-spec =

@@ -1,5 +1,7 @@
 -- `lines::read_request` meets its contract. Assumes nothing.
+use Prim.Native.Nat.{zero-le}
 use mathlib.Core.Path.{sym}
+use native.Mathlib.Omega.{arith}
 use lib.Seq.{length-take-le}
 use Rattle.lines.specs.Lines.{requestForm}
 use Rattle.lines.proofs.Places.{Split, split, unsplit}
@@ -17,7 +19,7 @@ place-of-requires c κs = search needs
 
 returns : tie.Need-returns
 unfolding requestForm
-returns c = rw (unsplit _ _ (c .before .place-of .ensures) (c .if1 .taken))
+returns c = record { form = rw (unsplit _ _ (c .before .place-of .ensures) (c .if1 .taken)); within = zero-le }
 
 slice-aggregate-asked-of : tie.Need-slice-aggregate-asked-of
 slice-aggregate-asked-of c = sym (length-take-le _ _ (c .before .before .place-of .ensures .1))
@@ -36,7 +38,7 @@ unfolding requestForm
 returns-2 c =
     let a = c .before .before in
     let p = parts (a .before .before) in
-    rw (p .behind, p .field, is-none _ (a .asked-of .ensures) (c .enum-told .given .1))
+    record { form = rw (p .behind, p .field, is-none _ (a .asked-of .ensures) (c .enum-told .given .1)); within = zero-le }
 
 add-t5 : tie.Need-add-t5
 add-t5 c = search needs
@@ -46,7 +48,7 @@ unfolding requestForm
 returns-3 c =
     let a = c .before .before .before in
     let p = parts (a .before .before) in
-    rw (p .behind, p .field, is-value _ _ (a .asked-of .ensures) (c .before .field .given .1))
+    record { form = rw (p .behind, p .field, is-value _ _ (a .asked-of .ensures) (c .before .field .given .1)); within = omega arith }
 
 pub read-request-spec : {M : Type 1} → statement M
 read-request-spec =

@@ -1,4 +1,5 @@
 -- `lines::read_result` meets its contract. Assumes nothing.
+use Prim.Native.Nat.{zero-le}
 use mathlib.Core.Path.{sym}
 use native.Mathlib.Omega.{arith}
 use lib.Seq.{length-take-le}
@@ -19,7 +20,7 @@ place-of-requires c κs = search needs
 
 returns : tie.Need-returns
 unfolding resultForm
-returns c = rw (unsplit _ _ (c .before .place-of .ensures) (c .if1 .taken))
+returns c = record { form = rw (unsplit _ _ (c .before .place-of .ensures) (c .if1 .taken)); within = zero-le }
 
 add-next : tie.Need-add-next
 add-next c = search needs
@@ -41,7 +42,7 @@ unfolding resultForm
 returns-2 c =
     let a = c .before .before in
     let p = parts (a .before .before) in
-    rw (p .behind, p .field, is-none _ (a .value-below .ensures) (c .enum-told .given .1))
+    record { form = rw (p .behind, p .field, is-none _ (a .value-below .ensures) (c .enum-told .given .1)); within = zero-le }
 
 cast-read-result-at : tie.Need-cast-read-result-at
 cast-read-result-at c = omega (arith, value-fits _ _ _ (is-value _ _ (c .before .before .before .value-below .ensures) (c .before .field .given .1)))

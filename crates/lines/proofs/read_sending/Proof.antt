@@ -1,4 +1,5 @@
 -- `lines::read_sending` meets its contract. Assumes nothing.
+use Prim.Native.Nat.{zero-le}
 use mathlib.Core.Path.{sym}
 use native.Mathlib.Omega.{arith}
 use lib.Seq.{length-take-le}
@@ -19,7 +20,7 @@ place-of-requires c κs = search needs
 
 returns : tie.Need-returns
 unfolding sendingForm
-returns c = rw (unsplit _ _ (c .before .place-of .ensures) (c .if1 .taken))
+returns c = record { form = rw (unsplit _ _ (c .before .place-of .ensures) (c .if1 .taken)); within = zero-le }
 
 add-next : tie.Need-add-next
 add-next c = search needs
@@ -41,7 +42,7 @@ unfolding sendingForm
 returns-2 c =
     let a = c .before .before in
     let p = parts (a .before .before) in
-    rw (p .behind, p .field, is-none _ (a .value-below .ensures) (c .enum-told .given .1))
+    record { form = rw (p .behind, p .field, is-none _ (a .value-below .ensures) (c .enum-told .given .1)); within = zero-le }
 
 sub-asked-of : tie.Need-sub-asked-of
 sub-asked-of c = search needs
@@ -68,7 +69,7 @@ returns-3 c =
     let k = b .before .before in
     let a = k .before .before .before in
     let p = parts (a .before .before) in
-    rw (p .behind, p .field, is-value _ _ (a .value-below .ensures) (k .before .field .given .1), is-none _ (rw rest-of at (b .asked-of .ensures)) (c .enum-told2 .given .1))
+    record { form = rw (p .behind, p .field, is-value _ _ (a .value-below .ensures) (k .before .field .given .1), is-none _ (rw rest-of at (b .asked-of .ensures)) (c .enum-told2 .given .1)); within = zero-le }
 
 cast-t15 : tie.Need-cast-t15
 cast-t15 c =
@@ -83,7 +84,7 @@ returns-4 c =
     let k = b .before .before in
     let a = k .before .before .before in
     let p = parts (a .before .before) in
-    rw (p .behind, p .field, is-value _ _ (a .value-below .ensures) (k .before .field .given .1), is-value _ _ (rw rest-of at (b .asked-of .ensures)) (c .before .last .given .1))
+    record { form = rw (p .behind, p .field, is-value _ _ (a .value-below .ensures) (k .before .field .given .1), is-value _ _ (rw rest-of at (b .asked-of .ensures)) (c .before .last .given .1)); within = zero-le }
 
 pub read-sending-spec : {M : Type 1} → statement M
 read-sending-spec =

@@ -1,4 +1,5 @@
 -- `lines::read_subscriber` meets its contract. Assumes nothing.
+use Prim.Native.Nat.{zero-le}
 use mathlib.Core.Path.{sym}
 use native.Mathlib.Omega.{arith}
 use lib.Seq.{length-take-le}
@@ -19,7 +20,7 @@ place-of-requires c κs = search needs
 
 returns : tie.Need-returns
 unfolding subscriberForm
-returns c = rw (unsplit _ _ (c .before .place-of .ensures) (c .if1 .taken))
+returns c = record { form = rw (unsplit _ _ (c .before .place-of .ensures) (c .if1 .taken)); within = zero-le }
 
 add-next : tie.Need-add-next
 add-next c = search needs
@@ -41,7 +42,7 @@ unfolding subscriberForm
 returns-2 c =
     let a = c .before .before in
     let p = parts (a .before .before) in
-    rw (p .behind, p .field, is-none _ (a .number-of .ensures) (c .enum-told .given .1))
+    record { form = rw (p .behind, p .field, is-none _ (a .number-of .ensures) (c .enum-told .given .1)); within = zero-le }
 
 sub-value-below : tie.Need-sub-value-below
 sub-value-below c = search needs
@@ -68,7 +69,7 @@ returns-3 c =
     let k = b .before .before in
     let a = k .before .before .before in
     let p = parts (a .before .before) in
-    rw (p .behind, p .field, is-value _ _ (a .number-of .ensures) (k .before .field .given .1), is-none _ (rw rest-of at (b .value-below .ensures)) (c .enum-told2 .given .1))
+    record { form = rw (p .behind, p .field, is-value _ _ (a .number-of .ensures) (k .before .field .given .1), is-none _ (rw rest-of at (b .value-below .ensures)) (c .enum-told2 .given .1)); within = zero-le }
 
 cast-t16 : tie.Need-cast-t16
 cast-t16 c = omega (arith, value-fits _ _ _ (is-value _ _ (c .before .before .before .value-below .ensures) (c .before .last .given .1)))
@@ -80,7 +81,7 @@ returns-4 c =
     let k = b .before .before in
     let a = k .before .before .before in
     let p = parts (a .before .before) in
-    rw (p .behind, p .field, is-value _ _ (a .number-of .ensures) (k .before .field .given .1), is-value _ _ (rw rest-of at (b .value-below .ensures)) (c .before .last .given .1))
+    record { form = rw (p .behind, p .field, is-value _ _ (a .number-of .ensures) (k .before .field .given .1), is-value _ _ (rw rest-of at (b .value-below .ensures)) (c .before .last .given .1)); within = zero-le }
 
 pub read-subscriber-spec : {M : Type 1} → statement M
 read-subscriber-spec =
