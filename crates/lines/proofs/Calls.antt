@@ -6,7 +6,8 @@ use Prim.Native.Nat.{ℕ, _≤_}
 use native.Mathlib.Nat.{not-le-of-lt}
 use types.Run.{OneOf}
 use denote.Enum.Declared.{tagOf}
-use lib.ListN.{length}
+use native.Mathlib.Omega.{arith}
+use lib.ListN.{length, drop, length-drop}
 use Rattle.answers.specs.declared.Written.{Written}
 use Rattle.answers.specs.declared.Written.the-variants.{Count, TooShort, Unfit}
 use Rattle.answers.proofs.Written.{the-type}
@@ -48,3 +49,8 @@ pub asked-fit :
     → requests.request table list buffer m requests.codingScheme (packed string) ≡ asked m string table list
 unfolding asked
 asked-fit m string table list t = rw t
+
+-- the string of a line has no more octets than what stands behind the letter
+pub octets-behind : (n room : ℕ) (rest : List ℕ) → octetsFor (length rest) ≤ room → octetsFor (length (drop n rest)) ≤ room
+unfolding octetsFor
+octets-behind n room rest h = rw (length-drop n rest) (omega arith)

@@ -6,11 +6,12 @@ use mathlib.Core.List.{List, [], _∷_}
 use Prim.Native.Nat.{ℕ, suc, _+_, _≤_, _<_}
 use native.Mathlib.Numerals.{add-one}
 use native.Mathlib.Omega.{arith}
-use lib.ListN.{length, take, drop}
+use lib.ListN.{length, take, drop, getD}
 use lib.Seq.{take-all}
 use lib.Dec.{eqb}
+use borrow.Author.Tests.{eq-eqb, ne-eqb}
 use Rattle.bytes.specs.Bytes.{indexOf, indexAfter, slice}
-use Rattle.lines.specs.Lines.{lineFeed, onFirst, linesOf, space, fieldAt, behindField}
+use Rattle.lines.specs.Lines.{lineFeed, onFirst, linesOf, space, fieldAt, behindField, lettered, formOf}
 
 pub whole-slice : (s : List ℕ) → slice 0 (length s) s ≡ s
 unfolding slice
@@ -82,3 +83,23 @@ lines-first (c ∷ d ∷ s) h = go (eqb c lineFeed) (lines-first (d ∷ s) (omeg
         ≡ take (indexAfter b (indexOf lineFeed (d ∷ s))) (c ∷ d ∷ s) ∷ linesOf (drop (indexAfter b (indexOf lineFeed (d ∷ s)) + 1) (c ∷ d ∷ s))
     go true e = refl
     go false e = line-longer c (d ∷ s) (indexOf lineFeed (d ∷ s)) e
+
+-- ---- the form of a line
+
+pub form-short : (line : List ℕ) → length line < 2 → formOf line ≡ none
+unfolding formOf
+form-short [] h = refl
+form-short (c ∷ []) h = refl
+form-short (c ∷ g ∷ rest) h = absurd (omega arith)
+
+pub form-joined : (line : List ℕ) → 2 ≤ length line → (getD line 1 0 ≡ space → ⊥) → formOf line ≡ none
+unfolding formOf
+form-joined [] h n = absurd (omega arith)
+form-joined (c ∷ []) h n = absurd (omega arith)
+form-joined (c ∷ g ∷ rest) h n = rw (ne-eqb g space n)
+
+pub form-lettered : (line : List ℕ) → 2 ≤ length line → getD line 1 0 ≡ space → formOf line ≡ lettered (getD line 0 0) (drop 2 line)
+unfolding formOf
+form-lettered [] h e = absurd (omega arith)
+form-lettered (c ∷ []) h e = absurd (omega arith)
+form-lettered (c ∷ g ∷ rest) h e = rw (eq-eqb g space e)

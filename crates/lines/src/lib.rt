@@ -20,8 +20,8 @@ ghost use Rattle.rules.specs.Notices as notices;
 ghost use Rattle.node.specs.Said.{saidRequest, saidSending, saidResult};
 ghost use Rattle.bytes.specs.Bytes.{indexOf};
 ghost use Rattle.lines.specs.Lines.{lineFeed, space, isDigits, numberOf, askedOf, valueBelow, numberForm, subscriberForm, requestForm, sendingForm, resultAt, resultForm, lettered};
-ghost use Rattle.lines.specs.Program.{questioned, lastKey, mayFollow, numbered, subscribed, numeral, said, buffer, asked, requested, dispatched, reported};
-ghost use Rattle.lines.specs.Memory.{valueIn, formIn, Reads, Put, Printable, answerRoom, held, Stands, lineRoom, Did, Answered, ending};
+ghost use Rattle.lines.specs.Program.{questioned, lastKey, mayFollow, numbered, subscribed, numeral, said, buffer, asked, requested, dispatched, reported, effectOf, lineEffect};
+ghost use Rattle.lines.specs.Memory.{valueIn, formIn, startIn, Reads, Put, Printable, answerRoom, held, Stands, lineRoom, Did, Answered, ending};
 
 // At most so many numbers and subscribers, in rows of six and of two words.
 const MOST_NUMBERS: usize = 1024;
@@ -584,4 +584,54 @@ fn result_line(
     let at = put(b"D ", out);
     let n = report(clock, number, kind, &mut table[..words], &mut out[at..]);
     end_line(state, at + n, out)
+}
+
+// Carries a line out, by its form.
+fn carry_out(
+    line: Line,
+    rest: &[u8],
+    state: State,
+    table: &mut [u64],
+    list: &mut [u64],
+    packed: &mut [u8],
+    out: &mut [u8],
+) -> Done
+    requires { ⌜ (startIn line ≤ length (now rest)) × Stands state (now table) (now list) ⌝ }
+    requires { ⌜ (octetsFor (length (now rest)) ≤ length (now packed)) × (lineRoom ≤ length (now out)) ⌝ }
+    ensures { λ r. ⌜ Did (effectOf (formIn (now (rest .entry)) line) (held state (now (table .entry)) (now (list .entry)))) (now (table .entry)) (now (list .entry)) (now (out .entry)) r (now (table .exit)) (now (list .exit)) (now (out .exit)) ⌝ }
+{
+    match line {
+        Line::Number(number) => add_number(state, number, table, out),
+        Line::Subscriber(msisdn, flags) => add_subscriber(state, msisdn, flags, list, out),
+        Line::Request(requester, start) => {
+            request_line(state, requester, &rest[start..], table, list, packed, out)
+        }
+        Line::Sending(clock, number) => sending_line(state, clock, number, table, out),
+        Line::Result(clock, number, kind) => result_line(state, clock, number, kind, table, out),
+        Line::Other => question(state, out),
+    }
+}
+
+// What a line comes to.
+fn do_line(
+    line: &[u8],
+    state: State,
+    table: &mut [u64],
+    list: &mut [u64],
+    packed: &mut [u8],
+    out: &mut [u8],
+) -> Done
+    requires { ⌜ Stands state (now table) (now list) ⌝ }
+    requires { ⌜ (octetsFor (length (now line)) ≤ length (now packed)) × (lineRoom ≤ length (now out)) ⌝ }
+    ensures { λ r. ⌜ Did (lineEffect (now (line .entry)) (held state (now (table .entry)) (now (list .entry)))) (now (table .entry)) (now (list .entry)) (now (out .entry)) r (now (table .exit)) (now (list .exit)) (now (out .exit)) ⌝ }
+{
+    if line.len() < 2 {
+        return question(state, out);
+    }
+    if line[1] != b' ' {
+        return question(state, out);
+    }
+    let rest = &line[2..];
+    let form = read_form(line[0], rest);
+    carry_out(form, rest, state, table, list, packed, out)
 }
