@@ -66,8 +66,8 @@ put-nothing old = record { count = refl; buffer = refl }
 -- ---- filling
 
 pub did-as :
-    {e f : Effect} {table list out : List ℕ} {d : Done} {newTable newList newOut : List ℕ} → Did f table list out d newTable newList newOut → e ≡ f
-    → Did e table list out d newTable newList newOut
+    {e f : Effect} {s : State} {table list out : List ℕ} {d : Done} {newTable newList newOut : List ℕ} → Did f s table list out d newTable newList newOut
+    → e ≡ f → Did e s table list out d newTable newList newOut
 did-as did same = rw same did
 
 module _ (n : FunctionalNumber) (p : Program) where
@@ -123,7 +123,7 @@ pub line-did :
     → Stands s table list → Put (letter ∷ space ∷ []) out mid h → Answered o t (take (length mid - h) (drop h mid)) part n
     → length t ≡ rowWords * s .numbers → h + n < length (putMid h (length mid - h) mid part)
     → d ≡ ending s (h + n) → new ≡ set (putMid h (length mid - h) mid part) (h + n) lineFeed
-    → Did (answered letter o (held s table list)) table list out d (t ++ drop (rowWords * s .numbers) table) list new
+    → Did (answered letter o (held s table list)) s table list out d (t ++ drop (rowWords * s .numbers) table) list new
 line-did {s = s} {table} {list} stands head body rows room ended written =
     rw (ended, written)
     (record {
@@ -131,4 +131,6 @@ line-did {s = s} {table} {list} stands head body rows room ended written =
       subscribers = put-kept (subscriberWords * s .subscribers) list (stands .subscribers);
       filling = refl;
       printed = put-end (put-behind head (body .says)) room;
+      moreNumbers = omega arith;
+      moreSubscribers = omega arith;
     })

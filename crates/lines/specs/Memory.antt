@@ -109,12 +109,14 @@ pub record Stands (s : State) (table list : List ℕ) : Type 0 where
 abbrev pub lineRoom : ℕ
 lineRoom = 3 + answerRoom
 
--- what a line did to table, list and output: its effect stands at the front of each, what lies beyond stays
-pub record Did (e : Effect) (table list out : List ℕ) (d : Done) (newTable newList newOut : List ℕ) : Type 0 where
+-- what a line did to table, list and output: what it leaves and prints stands at the front of each, what lies beyond stays, and no row is given up
+pub record Did (e : Effect) (s : State) (table list out : List ℕ) (d : Done) (newTable newList newOut : List ℕ) : Type 0 where
   pub numbers : Put (e .leaves .table) table newTable (rowWords * d .state .numbers)
   pub subscribers : Put (e .leaves .list) list newList (subscriberWords * d .state .subscribers)
   pub filling : d .state .filling ≡ e .leaves .filling
   pub printed : Put (e .prints) out newOut (d .printed)
+  pub moreNumbers : s .numbers ≤ d .state .numbers
+  pub moreSubscribers : s .subscribers ≤ d .state .subscribers
 
 -- a printed line, of which n octets stand before its line feed, leaves the rows as they are counted and ends the filling
 abbrev pub ending : State → ℕ → Done

@@ -393,7 +393,7 @@ fn append(row: &[u64], used: usize, words: &mut [u64])
 // Any other line.
 fn question(state: State, out: &mut [u8]) -> Done
     requires { ⌜ lineRoom ≤ length (now out) ⌝ }
-    ensures { λ r. ⌜ ((table list : List ℕ) → Stands state table list → Did (questioned (held state table list)) table list (now (out .entry)) r table list (now (out .exit))) ⌝ }
+    ensures { λ r. ⌜ ((table list : List ℕ) → Stands state table list → Did (questioned (held state table list)) state table list (now (out .entry)) r table list (now (out .exit))) ⌝ }
 {
     let printed = put(b"?\n", out);
     Done { state, printed }
@@ -403,7 +403,7 @@ fn question(state: State, out: &mut [u8]) -> Done
 fn add_number(state: State, number: FunctionalNumber, table: &mut [u64], out: &mut [u8]) -> Done
     requires { ⌜ (rowWords * state .numbers ≤ length (now table)) × (rowWords * mostNumbers ≤ length (now table)) ⌝ }
     requires { ⌜ lineRoom ≤ length (now out) ⌝ }
-    ensures { λ r. ⌜ ((list : List ℕ) → Stands state (now (table .entry)) list → Did (numbered number (held state (now (table .entry)) list)) (now (table .entry)) list (now (out .entry)) r (now (table .exit)) list (now (out .exit))) ⌝ }
+    ensures { λ r. ⌜ ((list : List ℕ) → Stands state (now (table .entry)) list → Did (numbered number (held state (now (table .entry)) list)) state (now (table .entry)) list (now (out .entry)) r (now (table .exit)) list (now (out .exit))) ⌝ }
 {
     let rows = state.numbers;
     let used = ROW_WORDS * rows;
@@ -430,7 +430,7 @@ fn add_number(state: State, number: FunctionalNumber, table: &mut [u64], out: &m
 fn add_subscriber(state: State, msisdn: Msisdn, flags: u8, list: &mut [u64], out: &mut [u8]) -> Done
     requires { ⌜ (subscriberWords * state .subscribers ≤ length (now list)) × (subscriberWords * mostSubscribers ≤ length (now list)) ⌝ }
     requires { ⌜ lineRoom ≤ length (now out) ⌝ }
-    ensures { λ r. ⌜ ((table : List ℕ) → Stands state table (now (list .entry)) → Did (subscribed msisdn flags (held state table (now (list .entry)))) table (now (list .entry)) (now (out .entry)) r table (now (list .exit)) (now (out .exit))) ⌝ }
+    ensures { λ r. ⌜ ((table : List ℕ) → Stands state table (now (list .entry)) → Did (subscribed msisdn flags (held state table (now (list .entry)))) state table (now (list .entry)) (now (out .entry)) r table (now (list .exit)) (now (out .exit))) ⌝ }
 {
     let rows = state.subscribers;
     let used = SUBSCRIBER_WORDS * rows;
@@ -535,7 +535,7 @@ fn request_line(
 ) -> Done
     requires { ⌜ Stands state (now table) (now list) ⌝ }
     requires { ⌜ (octetsFor (length (now string)) ≤ length (now packed)) × (lineRoom ≤ length (now out)) ⌝ }
-    ensures { λ r. ⌜ Did (requested requester (now (string .entry)) (held state (now (table .entry)) (now (list .entry)))) (now (table .entry)) (now (list .entry)) (now (out .entry)) r (now (table .exit)) (now (list .entry)) (now (out .exit)) ⌝ }
+    ensures { λ r. ⌜ Did (requested requester (now (string .entry)) (held state (now (table .entry)) (now (list .entry)))) state (now (table .entry)) (now (list .entry)) (now (out .entry)) r (now (table .exit)) (now (list .entry)) (now (out .exit)) ⌝ }
 {
     let words = ROW_WORDS * state.numbers;
     let entries = SUBSCRIBER_WORDS * state.subscribers;
@@ -560,7 +560,7 @@ fn sending_line(
     out: &mut [u8],
 ) -> Done
     requires { ⌜ (rowWords * state .numbers ≤ length (now table)) × (lineRoom ≤ length (now out)) ⌝ }
-    ensures { λ r. ⌜ ((list : List ℕ) → Stands state (now (table .entry)) list → Did (dispatched clock number (held state (now (table .entry)) list)) (now (table .entry)) list (now (out .entry)) r (now (table .exit)) list (now (out .exit))) ⌝ }
+    ensures { λ r. ⌜ ((list : List ℕ) → Stands state (now (table .entry)) list → Did (dispatched clock number (held state (now (table .entry)) list)) state (now (table .entry)) list (now (out .entry)) r (now (table .exit)) list (now (out .exit))) ⌝ }
 {
     let words = ROW_WORDS * state.numbers;
     let at = put(b"T ", out);
@@ -578,7 +578,7 @@ fn result_line(
     out: &mut [u8],
 ) -> Done
     requires { ⌜ (rowWords * state .numbers ≤ length (now table)) × (lineRoom ≤ length (now out)) ⌝ }
-    ensures { λ r. ⌜ ((list : List ℕ) → Stands state (now (table .entry)) list → Did (reported clock number kind (held state (now (table .entry)) list)) (now (table .entry)) list (now (out .entry)) r (now (table .exit)) list (now (out .exit))) ⌝ }
+    ensures { λ r. ⌜ ((list : List ℕ) → Stands state (now (table .entry)) list → Did (reported clock number kind (held state (now (table .entry)) list)) state (now (table .entry)) list (now (out .entry)) r (now (table .exit)) list (now (out .exit))) ⌝ }
 {
     let words = ROW_WORDS * state.numbers;
     let at = put(b"D ", out);
@@ -598,7 +598,7 @@ fn carry_out(
 ) -> Done
     requires { ⌜ (startIn line ≤ length (now rest)) × Stands state (now table) (now list) ⌝ }
     requires { ⌜ (octetsFor (length (now rest)) ≤ length (now packed)) × (lineRoom ≤ length (now out)) ⌝ }
-    ensures { λ r. ⌜ Did (effectOf (formIn (now (rest .entry)) line) (held state (now (table .entry)) (now (list .entry)))) (now (table .entry)) (now (list .entry)) (now (out .entry)) r (now (table .exit)) (now (list .exit)) (now (out .exit)) ⌝ }
+    ensures { λ r. ⌜ Did (effectOf (formIn (now (rest .entry)) line) (held state (now (table .entry)) (now (list .entry)))) state (now (table .entry)) (now (list .entry)) (now (out .entry)) r (now (table .exit)) (now (list .exit)) (now (out .exit)) ⌝ }
 {
     match line {
         Line::Number(number) => add_number(state, number, table, out),
@@ -623,7 +623,7 @@ fn do_line(
 ) -> Done
     requires { ⌜ Stands state (now table) (now list) ⌝ }
     requires { ⌜ (octetsFor (length (now line)) ≤ length (now packed)) × (lineRoom ≤ length (now out)) ⌝ }
-    ensures { λ r. ⌜ Did (lineEffect (now (line .entry)) (held state (now (table .entry)) (now (list .entry)))) (now (table .entry)) (now (list .entry)) (now (out .entry)) r (now (table .exit)) (now (list .exit)) (now (out .exit)) ⌝ }
+    ensures { λ r. ⌜ Did (lineEffect (now (line .entry)) (held state (now (table .entry)) (now (list .entry)))) state (now (table .entry)) (now (list .entry)) (now (out .entry)) r (now (table .exit)) (now (list .exit)) (now (out .exit)) ⌝ }
 {
     if line.len() < 2 {
         return question(state, out);

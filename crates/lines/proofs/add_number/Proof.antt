@@ -88,6 +88,8 @@ returns-3 c = λ list s.
       subscribers = put-kept _ list (s .subscribers);
       filling = sym f;
       printed = put-nothing _;
+      moreNumbers = omega arith;
+      moreSubscribers = omega arith;
     }) (numbered-in _ _ f (may e))
 
 pub add-number-spec : {M : Type 1} → statement M

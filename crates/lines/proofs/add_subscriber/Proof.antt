@@ -87,6 +87,8 @@ returns-3 c = λ table s.
       subscribers = put-count _ (a .append .ensures) (omega arith);
       filling = sym f;
       printed = put-nothing _;
+      moreNumbers = omega arith;
+      moreSubscribers = omega arith;
     }) (subscribed-in _ _ _ f (may e))
 
 pub add-subscriber-spec : {M : Type 1} → statement M
