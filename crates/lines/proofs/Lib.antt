@@ -7,4 +7,5 @@ pub mod Printing
 pub mod Bounds
 pub mod Memory
 pub mod Calls
+pub mod Running
 pub mod Examples

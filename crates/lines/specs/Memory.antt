@@ -17,7 +17,7 @@ use Rattle.lines.specs.declared.Line.the-variants as line
 use Rattle.lines.specs.declared.State.{State}
 use Rattle.lines.specs.declared.Done.{Done}
 use Rattle.lines.specs.Lines.{Form, number, subscriber, request, sending, result}
-use Rattle.lines.specs.Program.{Program, Effect, said}
+use Rattle.lines.specs.Program.{Program, Effect, said, programEffect}
 
 -- the value that a field's reader answers
 abbrev pub valueIn : FieldRead → Option ℕ
@@ -121,3 +121,43 @@ pub record Did (e : Effect) (s : State) (table list out : List ℕ) (d : Done) (
 -- a printed line, of which n octets stand before its line feed, leaves the rows as they are counted and ends the filling
 abbrev pub ending : State → ℕ → Done
 ending s n = record { state = record { numbers = s .numbers; subscribers = s .subscribers; filling = false }; printed = n + 1 }
+
+-- ---- the whole input
+
+-- "It reads at most 64 KiB"
+abbrev pub mostInput : ℕ
+mostInput = 65536
+
+-- room for the octets of a string as long as that
+abbrev pub packedRoom : ℕ
+packedRoom = 57344
+
+-- an output with room for every line that an input can have: each prints at most seven times its length with its line feed
+abbrev pub outputRoom : ℕ → ℕ
+outputRoom n = 7 * n + lineRoom
+
+-- what is lent for an input
+pub record Lent (input table list out : List ℕ) : Type 0 where
+  pub short : length input ≤ mostInput
+  pub tableRoom : rowWords * mostNumbers ≤ length table
+  pub listRoom : subscriberWords * mostSubscribers ≤ length list
+  pub room : outputRoom (length input) ≤ length out
+
+-- how many octets the whole input prints, and what table, list and output then hold
+pub record Ran : Type 0 where
+  pub count : ℕ
+  pub table : List ℕ
+  pub list : List ℕ
+  pub out : List ℕ
+
+abbrev pub ran : ℕ → List ℕ → List ℕ → List ℕ → Ran
+ran n table list out = record { count = n; table = table; list = list; out = out }
+
+-- words over the front of lent ones; what lies beyond stays
+abbrev pub over : List ℕ → List ℕ → List ℕ
+over words lent = words ++ drop (length words) lent
+
+unfoldable pub running : List ℕ → List ℕ → List ℕ → List ℕ → Ran
+running input table list out =
+    let e = programEffect input in
+    ran (length (e .prints)) (over (e .leaves .table) table) (over (e .leaves .list) list) (over (e .prints) out)

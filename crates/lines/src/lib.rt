@@ -21,7 +21,7 @@ ghost use Rattle.node.specs.Said.{saidRequest, saidSending, saidResult};
 ghost use Rattle.bytes.specs.Bytes.{indexOf};
 ghost use Rattle.lines.specs.Lines.{lineFeed, space, isDigits, numberOf, askedOf, valueBelow, numberForm, subscriberForm, requestForm, sendingForm, resultAt, resultForm, lettered};
 ghost use Rattle.lines.specs.Program.{questioned, lastKey, mayFollow, numbered, subscribed, numeral, said, buffer, asked, requested, dispatched, reported, effectOf, lineEffect};
-ghost use Rattle.lines.specs.Memory.{valueIn, formIn, startIn, Reads, Put, Printable, answerRoom, held, Stands, lineRoom, Did, Answered, ending};
+ghost use Rattle.lines.specs.Memory.{valueIn, formIn, startIn, Reads, Put, Printable, answerRoom, held, Stands, lineRoom, Did, Answered, ending, packedRoom, Lent, ran, running};
 
 // At most so many numbers and subscribers, in rows of six and of two words.
 const MOST_NUMBERS: usize = 1024;
@@ -34,6 +34,9 @@ const SUBSCRIBER_WORDS: usize = 2;
 const BUFFER_ROOM: usize = 80;
 
 const CODING_SCHEME: u8 = 0x0F;
+
+// Room for the octets of a string as long as the longest input, packed.
+const PACKED_ROOM: usize = 57_344;
 
 // Flags, and now and kind, are below these.
 const FLAGS: u64 = 4;
@@ -634,4 +637,50 @@ fn do_line(
     let rest = &line[2..];
     let form = read_form(line[0], rest);
     carry_out(form, rest, state, table, list, packed, out)
+}
+
+// Every line of the input, one after the other.
+fn run_lines(
+    input: &[u8],
+    table: &mut [u64],
+    list: &mut [u64],
+    packed: &mut [u8],
+    out: &mut [u8],
+) -> usize
+    requires { ⌜ Lent (now input) (now table) (now list) (now out) × (octetsFor (length (now input)) ≤ length (now packed)) ⌝ }
+    ensures { λ r. ⌜ ran r (now (table .exit)) (now (list .exit)) (now (out .exit)) ≡ running (now (input .entry)) (now (table .entry)) (now (list .entry)) (now (out .entry)) ⌝ }
+{
+    let mut state = State {
+        numbers: 0,
+        subscribers: 0,
+        filling: true,
+    };
+    let mut at = 0;
+    let mut n = 0;
+    while at < input.len() {
+        let rest = &input[at..];
+        let end = place_of(b'\n', rest);
+        let done = do_line(&rest[..end], state, table, list, packed, &mut out[n..]);
+        let next = done.state;
+        state = next;
+        n += done.printed;
+        at += end + 1;
+    }
+    n
+}
+
+// An array for packed strings; a caller needs only its length.
+fn packed_room() -> [u8; PACKED_ROOM]
+    ensures { λ r. ⌜ packedRoom ≡ length r ⌝ }
+{
+    [0; PACKED_ROOM]
+}
+
+// The whole input: what its lines print is written over the front of the output, and table and list hold what they leave.
+pub fn run(input: &[u8], table: &mut [u64], list: &mut [u64], out: &mut [u8]) -> usize
+    requires { ⌜ Lent (now input) (now table) (now list) (now out) ⌝ }
+    ensures { λ r. ⌜ ran r (now (table .exit)) (now (list .exit)) (now (out .exit)) ≡ running (now (input .entry)) (now (table .entry)) (now (list .entry)) (now (out .entry)) ⌝ }
+{
+    let mut packed = packed_room();
+    run_lines(input, table, list, &mut packed, out)
 }
