@@ -1,12 +1,12 @@
 -- The lines of an input, carried out one after the other: what holds before each of them. Assumes nothing.
-use mathlib.Core.Path.{_≡_, refl, sym, ap, _∙_}
+use mathlib.Core.Path.{_≡_, refl, sym, ap, ap₂, _∙_}
 use mathlib.Core.Bool.{true}
 use mathlib.Core.List.{List, [], _∷_, _++_, append-nil, append-assoc}
 use Prim.Native.Nat.{ℕ, suc, _+_, _-_, _*_, _≤_, _<_}
 use native.Mathlib.Omega.{arith}
 use borrow.Rule.Slice.PartMut.{putMid}
 use lib.ListN.{length, take, drop, length-append, length-drop, take-append-drop, drop-of-length-le}
-use lib.Seq.{length-take-le, take-at, drop-at, take-append-add, drop-append-add, drop-drop}
+use lib.Seq.{length-take-le, take-at, drop-at, take-append-add, drop-append-add, take-append-seam, drop-drop}
 use Rattle.answers.proofs.Parts.{rest-of, rest-back}
 use Rattle.bytes.specs.Bytes.{indexOf}
 use Rattle.records.specs.Rows.{rowWords}
@@ -14,7 +14,7 @@ use Rattle.tables.specs.Tables.{subscriberWords}
 use Rattle.lines.specs.declared.State.{State}
 use Rattle.lines.specs.declared.Done.{Done}
 use Rattle.lines.specs.Lines.{lineFeed, linesOf}
-use Rattle.lines.specs.Program.{Program, Effect, behind, lineEffect, linesEffect, programEffect}
+use Rattle.lines.specs.Program.{Program, Effect, behind, lineEffect, linesEffect, programEffect, outputOf}
 use Rattle.lines.specs.Memory.{Put, held, Stands, Did, outputRoom, Lent, Ran, ran, over, running}
 use Rattle.lines.proofs.Places.{lines-first}
 use Rattle.lines.proofs.Bounds.{line-bounded}
@@ -178,3 +178,26 @@ run-end input table list out s at n t l o run lent done =
       list = whole (subscriberWords * s .subscribers) l list (run .stands .subscribers) (run .listStays) i;
       out = whole n o out wide (run .outStays) i;
     })
+
+-- ---- what a caller knows
+
+-- the octets counted are within the output
+pub count-within : (n : ℕ) (input table list out t l o : List ℕ) → ran n t l o ≡ running input table list out → n ≤ length o
+unfolding running
+count-within n input table list out t l o e =
+    let prints = programEffect input .prints in
+    omega (arith, ap (λ (r : Ran). r .count) e, ap (λ (r : Ran). length (r .out)) e, length-append prints (drop (length prints) out))
+
+-- and they are the whole output
+pub output-is : (n : ℕ) (input table list out t l o : List ℕ) → ran n t l o ≡ running input table list out → take n o ≡ outputOf input
+unfolding running outputOf
+output-is n input table list out t l o e =
+    let prints = programEffect input .prints in
+    ap₂ take (ap (λ (r : Ran). r .count) e) (ap (λ (r : Ran). r .out) e) ∙ take-append-seam prints (drop (length prints) out)
+
+-- no choice is left: two runs that the contract allows are equal, in their count, table, list and output
+pub run-one :
+    (n m : ℕ) (t l o u k p : List ℕ) {r : Ran} → ran n t l o ≡ r → ran m u k p ≡ r → (n ≡ m) × (t ≡ u) × (l ≡ k) × (o ≡ p)
+run-one n m t l o u k p {r} a b =
+    let e = a ∙ sym b in
+    (ap (λ (x : Ran). x .count) e, ap (λ (x : Ran). x .table) e, ap (λ (x : Ran). x .list) e, ap (λ (x : Ran). x .out) e)
