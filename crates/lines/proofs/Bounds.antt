@@ -1,0 +1,199 @@
+-- How much a line can print: at most 61 octets, and at most seven times its length with its line feed. Assumes nothing.
+use mathlib.Core.Path.{_≡_, refl, sym, ap, subst, _∙_}
+use mathlib.Core.Bool.{Bool, true, false, cond, _&&_}
+use mathlib.Core.Option.{Option, none, some}
+use mathlib.Core.List.{List, [], _∷_, _++_}
+use Prim.Native.Nat.{ℕ, suc, _+_, _*_, _^_, _≤_, _<_}
+use native.Mathlib.Omega.{arith}
+use Prim.Native.Char.{code}
+use lib.ListN.{length, length-append}
+use lib.Dec.{eqb, leb}
+use borrow.Author.Tests.{leb-true}
+use Rattle.answers.specs.Ascii.{ascii}
+use Rattle.answers.specs.Checks.{_>>=_, onlyIf}
+use Rattle.answers.proofs.Tests.{and-left}
+use Rattle.answers.proofs.Decide.{decide-each}
+use Rattle.answers.proofs.Checks.{not-some, bind-some, onlyIf-some}
+use Rattle.packing.specs.Packing.{charsIn, takes, packed, unpacked}
+use Rattle.numbers.specs.Numbers.{fewestDigits, mostDigits, isNumber, digitsOf, stored}
+use Rattle.numbers.specs.declared.FunctionalNumber.{FunctionalNumber}
+use Rattle.numbers.specs.declared.Msisdn.{Msisdn}
+use Rattle.numbers.proofs.Lengths.{number-some}
+use Rattle.rules.specs.Answers.{Answer, refusal, error, outcome, holder, sent, delivered, dropped, again, found, noneDue, Outcome, made}
+use Rattle.rules.specs.Requests as requests
+use Rattle.rules.specs.Notices as notices
+use Rattle.lines.specs.Lines as form
+use Rattle.lines.specs.Lines.{lineFeed, space, fieldAt, behindField, isDigits, isNumberLong, askedOf, valueBelow, Form, sendingForm, lettered, formOf}
+use Rattle.records.specs.Rows.{rowWords}
+use Rattle.tables.specs.Tables.{mostNumbers, subscriberWords, mostSubscribers}
+use Rattle.lines.specs.Program.{Program, Effect, mayFollow, filled, withNumber, withSubscriber, numeral, textIn, said, answered, buffer, numbered, subscribed, asked, requested, dispatched, reported, effectOf, lineEffect}
+use Rattle.lines.specs.Memory.{Printable, answerRoom}
+use Rattle.lines.proofs.Writing.{numeral-short, text-most}
+use Rattle.lines.proofs.Printing.{digits-short, isSent, Replies, asked-replies, result-replies, Sends, sending-sends}
+
+-- ---- what follows the letter
+
+-- a notice and its addressee, or at most `03`, a space and 15 digits
+abbrev mostSaid : Bool → ℕ
+mostSaid isNotice = cond isNotice answerRoom 18
+
+said-most : (a : Answer) (b : List ℕ) → Printable a b → length (said a b) ≤ mostSaid (isSent a)
+unfolding charsIn digitsOf
+said-most (refusal n) b h = omega (arith, numeral-short n)
+said-most (error n) b h = omega (arith, numeral-short n)
+said-most (outcome n count) b h = omega (arith, text-most h)
+said-most (holder msisdn count) b h = omega (arith, text-most h)
+said-most (sent addressee count) b h = omega (arith, text-most (h .1), digits-short 15 addressee, length-append (digitsOf addressee) (space ∷ textIn count b))
+said-most delivered b h = omega arith
+said-most dropped b h = omega arith
+said-most again b h = omega arith
+said-most (found n) b h = omega arith
+said-most noneDue b h = omega arith
+
+pub said-room : (o : Outcome) → Printable (o .answer) (o .buffer) → length (said (o .answer) (o .buffer)) ≤ answerRoom
+said-room o h = go (isSent (o .answer)) (said-most (o .answer) (o .buffer) h)
+  where
+    go : (b : Bool) → length (said (o .answer) (o .buffer)) ≤ mostSaid b → length (said (o .answer) (o .buffer)) ≤ answerRoom
+    go true m = m
+    go false m = omega arith
+
+-- with the letter, the space and the line feed
+answered-most : (letter : ℕ) (o : Outcome) (p : Program) → Printable (o .answer) (o .buffer) → length (answered letter o p .prints) ≤ 3 + mostSaid (isSent (o .answer))
+answered-most letter o p h = omega (arith, said-most (o .answer) (o .buffer) h, length-append (said (o .answer) (o .buffer)) (lineFeed ∷ []))
+
+replied-most : (letter : ℕ) (o : Outcome) (p : Program) → Replies o → length (answered letter o p .prints) ≤ 21
+replied-most letter o p h = rw (h .1) at (answered-most letter o p (h .0))
+
+-- ---- how long a line of each form is
+
+behind-shorter : (s r : List ℕ) → behindField s ≡ some r → suc (length r) ≤ length s
+unfolding behindField
+behind-shorter [] r e = not-some e
+behind-shorter (c ∷ s) r e = go (eqb c space) e (behind-shorter s r)
+  where
+    go : (b : Bool) → cond b (some s) (behindField s) ≡ some r → (behindField s ≡ some r → suc (length r) ≤ length s) → suc (length r) ≤ suc (length s)
+    go true e rest = let same : s ≡ r = cc in omega (arith, ap length same)
+    go false e rest = let h = rest e in omega arith
+
+-- a number that was asked for has 5 digits at least
+asked-long : (s : List ℕ) (w : ℕ) → askedOf s ≡ some w → isNumber w ≡ true → 5 ≤ length s
+unfolding askedOf
+asked-long s w e h = go (isNumberLong s) refl (onlyIf-some (isDigits s) e .1)
+  where
+    go : (b : Bool) → isNumberLong s ≡ b → cond b (stored s) 0 ≡ w → 5 ≤ length s
+    go true l same = leb-true 5 (length s) (and-left (leb 5 (length s)) (leb (length s) mostDigits) l)
+    go false l same = absurd (number-some w h (sym same))
+
+-- a form of a line: a `T` with a number has a space and 5 digits at least behind the letter and its space
+abbrev Long : ℕ → Option Form → Type 0
+Long n none = Unit {0}
+Long n (some (form.number number)) = Unit {0}
+Long n (some (form.subscriber msisdn flags)) = Unit {0}
+Long n (some (form.request msisdn string)) = Unit {0}
+Long n (some (form.sending clock number)) = isNumber (number .0) ≡ true → 6 ≤ n
+Long n (some (form.result clock number kind)) = Unit {0}
+
+-- what holds of nothing, and of what is read from everything that can be read first
+bind-each : {X Y : Type 0} (P : Option Y → Type 0) (m : Option X) (f : X → Option Y) → P none → ((x : X) → m ≡ some x → P (f x)) → P (m >>= f)
+bind-each P none f p q = p
+bind-each P (some x) f p q = q x refl
+
+module _ (rest : List ℕ) where
+  abbrev IsLong : Option Form → Type 0
+  IsLong = Long (length rest)
+
+  sending-long : IsLong (sendingForm rest)
+  unfolding sendingForm
+  sending-long =
+      bind-each IsLong (behindField rest) _ tt (λ last b.
+      bind-each IsLong (valueBelow (2 ^ 32) (fieldAt rest)) _ tt (λ clock c.
+      bind-each IsLong (askedOf last) _ tt (λ w a h. omega (arith, asked-long last w a h, behind-shorter rest last b))))
+
+  number-long : IsLong (form.numberForm rest)
+  unfolding form.numberForm
+  number-long = bind-each IsLong (form.numberOf rest) _ tt (λ w e. tt)
+
+  subscriber-long : IsLong (form.subscriberForm rest)
+  unfolding form.subscriberForm
+  subscriber-long =
+      bind-each IsLong (behindField rest) _ tt (λ last b.
+      bind-each IsLong (form.numberOf (fieldAt rest)) _ tt (λ w e. bind-each IsLong (valueBelow 4 last) _ tt (λ flags v. tt)))
+
+  request-long : IsLong (form.requestForm rest)
+  unfolding form.requestForm
+  request-long = bind-each IsLong (behindField rest) _ tt (λ string b. bind-each IsLong (askedOf (fieldAt rest)) _ tt (λ w a. tt))
+
+  result-long : IsLong (form.resultForm rest)
+  unfolding form.resultForm form.resultAt
+  result-long =
+      bind-each IsLong (behindField rest) _ tt (λ fields b.
+      bind-each IsLong (valueBelow (2 ^ 32) (fieldAt rest)) _ tt (λ clock c.
+      bind-each IsLong (behindField fields) _ tt (λ last d.
+      bind-each IsLong (askedOf (fieldAt fields)) _ tt (λ w a. bind-each IsLong (valueBelow (2 ^ 32) last) _ tt (λ kind v. tt)))))
+
+  letter-long : (letter : ℕ) → IsLong (lettered letter rest)
+  unfolding lettered
+  letter-long letter = decide-each IsLong (form.letters letter rest) none (number-long, (subscriber-long, (request-long, (sending-long, (result-long, tt))))) tt
+
+form-long : (line : List ℕ) (f : Form) → formOf line ≡ some f → (n : ℕ) × (length line ≡ suc (suc n)) × Long n (some f)
+unfolding formOf
+form-long [] f e = not-some e
+form-long (c ∷ []) f e = not-some e
+form-long (c ∷ g ∷ rest) f e = go (eqb g space) e
+  where
+    go : (b : Bool) → cond b (lettered c rest) none ≡ some f → (n : ℕ) × (suc (suc (length rest)) ≡ suc (suc n)) × Long n (some f)
+    go true e = (length rest, refl, subst (Long (length rest)) e (letter-long rest c))
+    go false e = not-some e
+
+-- ---- what a line prints
+
+-- room for every line: the letter, the space, what follows and the line feed
+abbrev pub mostPrinted : ℕ
+mostPrinted = 61
+
+pub record Bounded (line : List ℕ) (e : Effect) : Type 0 where
+  pub most : length (e .prints) ≤ mostPrinted
+  pub times : length (e .prints) ≤ 7 * (length line + 1)
+
+-- nothing, or `?`
+filled-bounded : (line : List ℕ) (b : Bool) (next p : Program) → Bounded line (filled b next p)
+filled-bounded line true next p = record { most = omega arith; times = omega arith }
+filled-bounded line false next p = record { most = omega arith; times = omega arith }
+
+module _ (line : List ℕ) (p : Program) where
+  replied-bounded : (letter : ℕ) (o : Outcome) → 2 ≤ length line → Replies o → Bounded line (answered letter o p)
+  replied-bounded letter o h r = let m = replied-most letter o p r in record { most = omega arith; times = omega arith }
+
+  sent-bounded :
+      (letter : ℕ) (o : Outcome) (n : FunctionalNumber) → 2 ≤ length line → (isNumber (n .0) ≡ true → 8 ≤ length line)
+      → Printable (o .answer) (o .buffer) × (isSent (o .answer) ≡ true → isNumber (n .0) ≡ true) → Bounded line (answered letter o p)
+  sent-bounded letter o n h l s = go (isSent (o .answer)) refl
+    where
+      go : (b : Bool) → isSent (o .answer) ≡ b → Bounded line (answered letter o p)
+      go true e =
+          let m = rw e at (answered-most letter o p (s .0)) in
+          let long = l (s .1 e) in
+          record { most = omega arith; times = omega arith }
+      go false e = replied-bounded letter o h (s .0, e)
+
+  effect-bounded : (f : Option Form) → formOf line ≡ f → Bounded line (effectOf f p)
+  unfolding numbered subscribed requested dispatched reported
+  effect-bounded none e = record { most = omega arith; times = omega arith }
+  effect-bounded (some (form.number n)) e =
+      filled-bounded line (p .filling && mayFollow rowWords mostNumbers (n .0) (p .table)) (withNumber n p) p
+  effect-bounded (some (form.subscriber m flags)) e =
+      filled-bounded line (p .filling && mayFollow subscriberWords mostSubscribers (m .0) (p .list)) (withSubscriber m flags p) p
+  effect-bounded (some (form.request m string)) e =
+      let l = form-long line (form.request m string) e in
+      replied-bounded (code "R") (asked m string (p .table) (p .list)) (omega arith) (asked-replies m string (p .table) (p .list))
+  effect-bounded (some (form.sending clock n)) e =
+      let l = form-long line (form.sending clock n) e in
+      let longer : isNumber (n .0) ≡ true → 8 ≤ length line = λ h. let k = l .2 h in omega arith in
+      sent-bounded (code "T") (notices.sending (p .table) buffer n 0 clock) n (omega arith) longer (sending-sends (p .table) buffer n 0 clock)
+  effect-bounded (some (form.result clock n kind)) e =
+      let l = form-long line (form.result clock n kind) e in
+      replied-bounded (code "D") (notices.result (p .table) n kind clock) (omega arith) (result-replies (p .table) n kind clock)
+
+  pub line-bounded : Bounded line (lineEffect line p)
+  unfolding lineEffect
+  line-bounded = effect-bounded (formOf line) refl

@@ -1,0 +1,30 @@
+-- Document 01, "The program": its whole input and its whole output, computed. Assumes nothing.
+use mathlib.Core.Path.{_≡_, refl}
+use Prim.Native.String.{String}
+use Rattle.answers.specs.Ascii.{ascii}
+use Rattle.packing.specs.Packing.{number, digits, octetsFor, charsIn, taken, takes, padded, packed, characters, readable, filled, kept, unpacked}
+use Rattle.numbers.specs.Numbers.{isDigit, areDigits, pushed, stored, isNumber, digitsUpTo, digitsOf, leadingDigits, numberAt}
+use Rattle.strings.specs.Text.{isAdditional, textOf, noticeOf}
+use Rattle.strings.specs.Reader.{begins, operationAt, serviceAt, numberFieldAt, forcedAt, erasingAt, leadingAdditional, additionalAt, fieldsOf}
+use Rattle.strings.specs.Outcomes.{requestOf}
+use Rattle.records.specs.Steps.{elapsed, delayOf, delayAllowed}
+use Rattle.records.specs.Rows as rows
+use Rattle.tables.specs.Keys.{placeOf}
+use Rattle.tables.specs.Tables.{tableSound, rowOf, recordOf, listSound, flagsOf}
+use Rattle.rules.specs.Requests as requests
+use Rattle.rules.specs.Notices as notices
+use Rattle.lines.specs.Lines as lines
+use Rattle.lines.specs.Program as program
+use Rattle.lines.specs.Program.{outputOf}
+
+abbrev wholeInput : String
+wholeInput =
+    "N 0492123401\nS 4915100001 1\nS 4915100002 3\nR 4915100001 **214*0492123401***#\nR 4915100002 ##214*0492123401*88*4915100001*#\nT 100 0492123401\nD 101 0492123401 5\nT 130 0492123401\nT 161 0492123401\nD 162 0492123401 0\n"
+
+abbrev wholeOutput : String
+wholeOutput =
+    "R 01\nR 02\nT 4915100001 ##214*0492123401*88*4915100002*#\nD again\nT refused 5\nT 4915100001 ##214*0492123401*88*4915100002*#\nD delivered\n"
+
+pub listing : outputOf (ascii wholeInput) ≡ ascii wholeOutput
+unfolding number digits octetsFor charsIn taken takes padded packed characters readable filled kept unpacked isDigit areDigits pushed stored isNumber digitsUpTo digitsOf leadingDigits numberAt isAdditional textOf noticeOf begins operationAt serviceAt numberFieldAt forcedAt erasingAt leadingAdditional additionalAt fieldsOf requestOf elapsed delayOf delayAllowed rows.noticeSound rows.rowSound rows.noticeOf rows.recordAt rows.stored placeOf tableSound rowOf recordOf listSound flagsOf requests.requestChecks requests.request notices.sending notices.result lines.linesOf lines.fieldAt lines.behindField lines.isDigits lines.numberOf lines.askedOf lines.valueBelow lines.numberForm lines.subscriberForm lines.requestForm lines.sendingForm lines.resultAt lines.resultForm lines.lettered lines.formOf program.mayFollow program.numbered program.subscribed program.asked program.requested program.dispatched program.reported program.lineEffect program.linesEffect program.programEffect program.outputOf
+listing = refl

@@ -1,0 +1,136 @@
+-- The program in memory: rows in use and rows behind them, and what a line did. Assumes nothing.
+use mathlib.Core.Path.{_≡_, refl, sym, ap, _∙_}
+use mathlib.Core.Bool.{true, false}
+use mathlib.Core.List.{List, [], _∷_, _++_}
+use Prim.Native.Nat.{ℕ, suc, _+_, _-_, _*_, _/_, _≤_, _<_}
+use native.Mathlib.Numerals.{add-one}
+use native.Mathlib.Omega.{arith}
+use lib.ListN.{length, take, drop, set, getD, length-append, length-drop, take-append-drop, List·getD-eq-default}
+use lib.Seq.{drop-cons, set-at, append-snoc, length-take-le, take-all, paste, paste-suc}
+use lib.Dec.{ltb}
+use borrow.Rule.Slice.PartMut.{putMid}
+use borrow.Author.Tests.{ltb-true}
+use Rattle.answers.proofs.Tests.{and-left, and-no}
+use Rattle.numbers.specs.declared.FunctionalNumber.{FunctionalNumber}
+use Rattle.numbers.specs.declared.Msisdn.{Msisdn}
+use Rattle.records.specs.Rows.{rowWords}
+use Rattle.tables.specs.Tables.{mostNumbers, subscriberWords, mostSubscribers}
+use Rattle.rules.specs.Answers.{Outcome}
+use Rattle.lines.specs.declared.State.{State}
+use Rattle.lines.specs.declared.Done.{Done}
+use Rattle.lines.specs.Lines.{lineFeed, space}
+use Rattle.lines.specs.Program.{Program, Effect, questioned, lastKey, mayFollow, filled, withNumber, numbered, withSubscriber, subscribed, answered}
+use Rattle.lines.specs.Memory.{Put, Answered, held, Stands, lineRoom, Did, ending}
+use Rattle.answers.proofs.Parts.{rest-of, rest-back}
+use Rattle.lines.proofs.Writing.{put-behind}
+
+-- ---- rows
+
+pub no-key : (width : ℕ) (words : List ℕ) → length words ≡ 0 → lastKey width words ≡ 0
+no-key width words h = List·getD-eq-default words 0 (omega arith)
+
+pub first-key : (width : ℕ) (words : List ℕ) → length words < width → lastKey width words ≡ getD words 0 0
+first-key width words h = ap (λ (i : ℕ). getD words i 0) (omega arith)
+
+-- the rows in use, as they were
+pub put-kept : (n : ℕ) (words : List ℕ) → n ≤ length words → Put (take n words) words words n
+put-kept n words h = record { count = sym (length-take-le n words h); buffer = sym (take-append-drop n words) }
+
+-- a word more of a row, copied behind the words in use
+pub append-more :
+    (row words new : List ℕ) (used i : ℕ) → i < length row → used + length row ≤ length words → new ≡ paste words used row i
+    → set new (used + i) (getD row i 0) ≡ paste words used row (i + 1)
+append-more row words new used i h l e = rw (e, add-one i) (paste-suc words used row i 0 (omega arith) h)
+
+pub append-done :
+    (row words new : List ℕ) (used i : ℕ) → i ≤ length row → length row ≤ i → used + length row ≤ length words → new ≡ paste words used row i
+    → Put (take used words ++ row) words new (used + length row)
+append-done row words new used i h k l e =
+    let same : i ≡ length row = omega arith in
+    record {
+      count = sym (length-append (take used words) row ∙ ap (λ (n : ℕ). n + length row) (length-take-le used words (omega arith)));
+      buffer = e ∙ rw (take-all i row k, same);
+    }
+
+-- a row that may follow the words in use is not over the limit
+pub follows-below : (width most key n : ℕ) (words : List ℕ) → n ≤ length words → mayFollow width most key (take n words) ≡ true → n / width < most
+unfolding mayFollow
+follows-below width most key n words h e = ltb-true (n / width) most (rw (length-take-le n words h) at (and-left (ltb (length (take n words) / width) most) (ltb (lastKey width (take n words)) key) e))
+
+pub put-count : {text old new : List ℕ} {n : ℕ} (m : ℕ) → Put text old new n → m ≡ n → Put text old new m
+put-count m p e = rw e p
+
+pub put-nothing : (old : List ℕ) → Put [] old old 0
+put-nothing old = record { count = refl; buffer = refl }
+
+-- ---- filling
+
+pub did-as :
+    {e f : Effect} {s : State} {table list out : List ℕ} {d : Done} {newTable newList newOut : List ℕ} → Did f s table list out d newTable newList newOut
+    → e ≡ f → Did e s table list out d newTable newList newOut
+did-as did same = rw same did
+
+module _ (n : FunctionalNumber) (p : Program) where
+  pub numbered-late : p .filling ≡ false → numbered n p ≡ questioned p
+  unfolding numbered
+  numbered-late f = rw f
+
+  pub numbered-over : mayFollow rowWords mostNumbers (n .0) (p .table) ≡ false → numbered n p ≡ questioned p
+  unfolding numbered
+  numbered-over m = rw (and-no (p .filling) (mayFollow rowWords mostNumbers (n .0) (p .table)) m)
+
+  pub numbered-in : p .filling ≡ true → mayFollow rowWords mostNumbers (n .0) (p .table) ≡ true → numbered n p ≡ filled true (withNumber n p) p
+  unfolding numbered
+  numbered-in f m = rw (f, m)
+
+module _ (m : Msisdn) (flags : ℕ) (p : Program) where
+  pub subscribed-late : p .filling ≡ false → subscribed m flags p ≡ questioned p
+  unfolding subscribed
+  subscribed-late f = rw f
+
+  pub subscribed-over : mayFollow subscriberWords mostSubscribers (m .0) (p .list) ≡ false → subscribed m flags p ≡ questioned p
+  unfolding subscribed
+  subscribed-over e = rw (and-no (p .filling) (mayFollow subscriberWords mostSubscribers (m .0) (p .list)) e)
+
+  pub subscribed-in : p .filling ≡ true → mayFollow subscriberWords mostSubscribers (m .0) (p .list) ≡ true → subscribed m flags p ≡ filled true (withSubscriber m flags p) p
+  unfolding subscribed
+  subscribed-in f e = rw (f, e)
+
+-- ---- a printed line
+
+-- a text, and a line feed behind it
+pub put-end : {text old new : List ℕ} {n : ℕ} → Put text old new n → n < length new → Put (text ++ (lineFeed ∷ [])) old (set new n lineFeed) (n + 1)
+put-end {text} {old} {new} {n} p h =
+    let l : n < length old = omega (arith, ap length (p .buffer), length-append text (drop n old), length-drop n old, p .count) in
+    record {
+      count = omega (arith, p .count, length-append text (lineFeed ∷ []));
+      buffer =
+          rw (p .buffer, drop-cons old n 0 l, set-at text (getD old n 0) (drop (suc n) old) lineFeed n (sym (p .count)), add-one n)
+          (sym (append-snoc text lineFeed (drop (suc n) old)));
+    }
+
+-- behind the letter, the space and what the call said there is room for the line feed
+pub line-room :
+    {letter h n : ℕ} {o : Outcome} {out t mid part : List ℕ} → Put (letter ∷ space ∷ []) out mid h → Answered o t (take (length mid - h) (drop h mid)) part n
+    → length part ≡ length (take (length mid - h) (drop h mid)) → lineRoom ≤ length mid → h + n < length (putMid h (length mid - h) mid part)
+line-room {h = h} {mid = mid} {part} head body same room =
+    let l = rw rest-of at same in
+    rw (rest-back h mid part) (omega (arith, head .count, body .short, length-append (take h mid) part, length-take-le h mid (omega (arith, head .count)), length-drop h mid))
+
+-- the letter, what the call said and the line feed were printed, over the rows in use and the table that the call left
+pub line-did :
+    {letter h n : ℕ} {o : Outcome} {s : State} {table list out t mid part new : List ℕ} {d : Done}
+    → Stands s table list → Put (letter ∷ space ∷ []) out mid h → Answered o t (take (length mid - h) (drop h mid)) part n
+    → length t ≡ rowWords * s .numbers → h + n < length (putMid h (length mid - h) mid part)
+    → d ≡ ending s (h + n) → new ≡ set (putMid h (length mid - h) mid part) (h + n) lineFeed
+    → Did (answered letter o (held s table list)) s table list out d (t ++ drop (rowWords * s .numbers) table) list new
+line-did {s = s} {table} {list} stands head body rows room ended written =
+    rw (ended, written)
+    (record {
+      numbers = record { count = sym rows ∙ ap length (body .leaves); buffer = rw (← (body .leaves)) refl };
+      subscribers = put-kept (subscriberWords * s .subscribers) list (stands .subscribers);
+      filling = refl;
+      printed = put-end (put-behind head (body .says)) room;
+      moreNumbers = omega arith;
+      moreSubscribers = omega arith;
+    })

@@ -1,0 +1,239 @@
+-- Every answer of a request or a sending can be printed: its octets are packed characters, and its addressee is a number. Assumes nothing.
+use mathlib.Core.Path.{_≡_, refl, sym, ap, subst, _∙_}
+use mathlib.Core.Bool.{Bool, true, false, not, cond}
+use mathlib.Core.Option.{Option, none, some}
+use mathlib.Core.List.{List, [], _∷_, _++_}
+use Prim.Native.Nat.{ℕ, zero, suc, _+_, _/_, _%_, _≤_, _<_, zero-le}
+use native.Mathlib.Nat.{le-refl, le-trans}
+use native.Mathlib.Omega.{arith}
+use lib.ListN.{length, take, drop, length-append}
+use lib.Seq.{take-append-seam}
+use lib.Dec.{eqb, ltb}
+use borrow.Author.Tests.{not-false}
+use Rattle.answers.specs.Ascii.{ascii}
+use Rattle.answers.specs.Checks.{decide}
+use Rattle.answers.proofs.Tests.{no-path}
+use Rattle.answers.proofs.Decide.{Each, decide-each}
+use Rattle.packing.specs.Packing.{octetsFor, taken, takes, packed, readable}
+use Rattle.packing.proofs.Laws.{length-packed, takes-append, takes-cons}
+use Rattle.packing.proofs.RoundTrip.{packed-reads}
+use Rattle.numbers.specs.Numbers.{isNumber, digitsUpTo, digitsOf}
+use Rattle.numbers.specs.declared.FunctionalNumber.{FunctionalNumber}
+use Rattle.numbers.specs.declared.Msisdn.{Msisdn}
+use Rattle.strings.specs.declared.Operation.{Operation}
+use Rattle.strings.specs.declared.Operation.the-variants.{Register, Erase, Interrogate}
+use Rattle.strings.specs.Text.{Request, textOf, noticeOf}
+use Rattle.strings.specs.Outcomes.{requestOf}
+use Rattle.tables.specs.declared.Found.{Found}
+use Rattle.tables.specs.declared.Found.the-variants.{At, Nothing}
+use Rattle.records.specs.declared.Notice.{Notice}
+use Rattle.records.specs.declared.Notice.the-variants.{Absent, Waiting, InFlight}
+use Rattle.records.specs.Steps.{isAbsent, isWaiting}
+use Rattle.records.specs.Rows.{recordAt}
+use Rattle.records.proofs.Rows.{record-sound}
+use Rattle.records.proofs.Kept.{pending-words}
+use Rattle.tables.specs.Tables.{tableSound, rowOf, recordOf}
+use Rattle.tables.proofs.Stored.{record-found}
+use Rattle.rules.specs.Answers.{Answer, refusal, error, outcome, holder, sent, delivered, dropped, again, found, noneDue, Outcome, made, twoDigits, holderText, over, octetCount, refusing}
+use Rattle.rules.specs.Requests as requests
+use Rattle.rules.specs.Notices as notices
+use Rattle.rules.specs.Calls.{anyHolds}
+use Rattle.rules.proofs.Visits.{none-holds, one-holds, AllPass, all-pass, found-sound, found-number}
+use Rattle.node.proofs.Texts.{takes-two}
+use Rattle.lines.specs.Program.{buffer, asked}
+use Rattle.lines.specs.Memory.{Text, mostReplyOctets, mostNoticeOctets, Printable}
+
+-- ---- digits, of any word
+
+pub digits-short : (room w : ℕ) → length (digitsUpTo room w) ≤ room
+unfolding digitsUpTo
+digits-short zero w = zero-le
+digits-short (suc room) w = go (ltb w 10) (digits-short room (w / 10))
+  where
+    go : (b : Bool) → length (digitsUpTo room (w / 10)) ≤ room → length (cond b [] (digitsUpTo room (w / 10) ++ ((48 + w % 10) ∷ []))) ≤ suc room
+    go true h = zero-le
+    go false h = omega (arith, length-append (digitsUpTo room (w / 10)) ((48 + w % 10) ∷ []))
+
+takes-digits : (room w : ℕ) → takes (digitsUpTo room w) ≡ true
+unfolding digitsUpTo
+takes-digits zero w = unfold takes in refl
+takes-digits (suc room) w = go (ltb w 10) (takes-digits room (w / 10))
+  where
+    go : (b : Bool) → takes (digitsUpTo room (w / 10)) ≡ true → takes (cond b [] (digitsUpTo room (w / 10) ++ ((48 + w % 10) ∷ []))) ≡ true
+    go true h = unfold takes in refl
+    go false h = takes-append (digitsUpTo room (w / 10)) ((48 + w % 10) ∷ []) ∙ rw h (takes-cons (48 + w % 10) [] (omega arith) (λ e. omega arith) (unfold takes in refl))
+
+-- ---- a packed text at the front of a buffer
+
+text-stands : (most : ℕ) (text buffer : List ℕ) → takes text ≡ true → octetsFor (length text) ≤ most → Text most (octetCount text) (over text buffer)
+text-stands most text buffer t h = record {
+  within = omega (arith, length-append (packed text) (drop (length (packed text)) buffer));
+  short = rw length-packed h;
+  reads = rw take-append-seam (packed-reads text t);
+}
+
+-- ---- a request
+
+said-stands : (n : ℕ) (reply : List ℕ) → n < 256 → Text mostReplyOctets (octetCount (twoDigits n)) (over (twoDigits n) reply)
+unfolding octetsFor
+said-stands n reply h = text-stands mostReplyOctets (twoDigits n) reply (takes-two n h) (omega arith)
+
+held-stands : (w : ℕ) (reply : List ℕ) → Text mostReplyOctets (octetCount (holderText w)) (over (holderText w) reply)
+unfolding octetsFor takes taken digitsOf
+held-stands w reply = text-stands mostReplyOctets (holderText w) reply (takes-digits 15 w) (omega (arith, digits-short 15 w))
+
+abbrev pub isSent : Answer → Bool
+isSent (refusal n) = false
+isSent (error n) = false
+isSent (outcome n count) = false
+isSent (holder msisdn count) = false
+isSent (sent addressee count) = true
+isSent delivered = false
+isSent dropped = false
+isSent again = false
+isSent (found n) = false
+isSent noneDue = false
+
+-- what an outcome says can be printed, and it is not a notice sent
+abbrev pub Replies : Outcome → Type 0
+Replies o = Printable (o .answer) (o .buffer) × (isSent (o .answer) ≡ false)
+
+says : (n : ℕ) (table reply : List ℕ) → n < 256 → Replies (requests.saying n table reply)
+says n table reply h = (said-stands n reply h, refl)
+
+module _ (table list reply : List ℕ) (requester : Msisdn) (scheme : ℕ) (string : List ℕ) where
+  carried-replies : (o : Operation) (f : Request) (i : ℕ) → Replies (requests.carriedOut o (f .erasing) requester table i reply)
+  carried-replies Register f i = says 1 table reply (omega arith)
+  carried-replies Erase f i = says 2 table reply (omega arith)
+  carried-replies Interrogate f i = (held-stands _ reply, refl)
+
+  done-replies : (q : Option Request) (place : Found) → Replies (requests.carriedOutAt q place requester table reply)
+  done-replies none place = (tt, refl)
+  done-replies (some f) Nothing = says 41 table reply (omega arith)
+  done-replies (some f) (At i) = carried-replies (f .operation) f i
+
+  request-replies : Replies (requests.request table list reply requester scheme string)
+  unfolding requests.requestChecks requests.request
+  request-replies =
+      decide-each Replies (requests.requestChecks table list reply requester scheme string) _ (
+        (tt, refl),
+        (
+          (tt, refl),
+          (
+            (tt, refl),
+            (
+              (tt, refl),
+              (
+                (tt, refl),
+                (
+                  (tt, refl),
+                  (
+                    (tt, refl),
+                    (
+                      says 42 table reply (omega arith),
+                      (
+                        says 22 table reply (omega arith),
+                        (
+                          says 41 table reply (omega arith),
+                          (
+                            says 67 table reply (omega arith),
+                            (says 61 table reply (omega arith), (says 62 table reply (omega arith), (says 63 table reply (omega arith), (says 68 table reply (omega arith), tt)))),
+                          ),
+                        ),
+                      ),
+                    ),
+                  ),
+                ),
+              ),
+            ),
+          ),
+        ),
+      )
+      (done-replies (requestOf string) (rowOf table (requests.numberIn (requestOf string) .0)))
+
+pub asked-replies : (m : Msisdn) (string table list : List ℕ) → Replies (asked m string table list)
+unfolding asked
+asked-replies m string table list = go (takes string)
+  where
+    go : (b : Bool) → Replies (cond b (requests.request table list buffer m requests.codingScheme (packed string)) (made (refusal 9) table buffer))
+    go true = request-replies table list buffer m requests.codingScheme (packed string)
+    go false = (tt, refl)
+
+-- ---- a result
+
+module _ (table : List ℕ) (number : FunctionalNumber) (kind clock : ℕ) where
+  returned-replies : (b c : Bool) → Replies (made (cond b delivered (cond c dropped again)) table [])
+  returned-replies true c = (tt, refl)
+  returned-replies false true = (tt, refl)
+  returned-replies false false = (tt, refl)
+
+  result-at-replies : (place : Found) → Replies (notices.resultAt kind clock place table)
+  result-at-replies Nothing = (tt, refl)
+  result-at-replies (At i) = returned-replies (eqb kind 0) (notices.clears kind (recordAt table i .notice))
+
+  pub result-replies : Replies (notices.result table number kind clock)
+  unfolding notices.result
+  result-replies =
+      decide-each Replies
+      (refusing table [] (notices.resultChecks (tableSound table) (number .0) (recordOf table (number .0)) kind))
+      _ ((tt, refl), ((tt, refl), ((tt, refl), ((tt, refl), tt)))) (result-at-replies (rowOf table (number .0)))
+
+-- ---- a sending
+
+-- `##214*` number `*88*` supervisor `*#`, the two by their digits
+abbrev notice : List ℕ → List ℕ → List ℕ
+notice number supervisor = ascii "##214*" ++ (number ++ (ascii "*88*" ++ (supervisor ++ ascii "*#")))
+
+notice-taken : (a b : List ℕ) → takes a ≡ true → takes b ≡ true → takes (notice a b) ≡ true
+unfolding takes taken
+notice-taken a b p q = rw (takes-append a, p, takes-append b, q)
+
+notice-short : (a b : List ℕ) → length a ≤ 15 → length b ≤ 15 → octetsFor (length (notice a b)) ≤ mostNoticeOctets
+unfolding octetsFor
+notice-short a b p q = omega (arith, length-append a (ascii "*88*" ++ (b ++ ascii "*#")), length-append b (ascii "*#"))
+
+notice-stands : (number : FunctionalNumber) (supervisor : Msisdn) (buffer : List ℕ)
+    → Text mostNoticeOctets (octetCount (textOf (noticeOf number supervisor))) (over (textOf (noticeOf number supervisor)) buffer)
+unfolding textOf noticeOf digitsOf
+notice-stands number supervisor buffer =
+    text-stands mostNoticeOctets (textOf (noticeOf number supervisor)) buffer
+    (notice-taken _ _ (takes-digits 15 (number .0)) (takes-digits 15 (supervisor .0)))
+    (notice-short (digitsOf (number .0)) (digitsOf (supervisor .0)) (digits-short 15 (number .0)) (digits-short 15 (supervisor .0)))
+
+present : (n : Notice) → isWaiting n ≡ true → isAbsent n ≡ false
+present Absent h = no-path h
+present (Waiting k s) h = refl
+present (InFlight k) h = refl
+
+module _ (table buffer : List ℕ) (number : FunctionalNumber) (delay clock : ℕ) where
+  -- what an outcome says can be printed, and what is sent names a number
+  abbrev pub Sends : Outcome → Type 0
+  Sends o = Printable (o .answer) (o .buffer) × (isSent (o .answer) ≡ true → isNumber (number .0) ≡ true)
+
+  -- a refusal
+  refuses : isSent (refusal 7) ≡ true → isNumber (number .0) ≡ true
+  refuses e = no-path e
+
+  abbrev checks : List (Bool × Outcome)
+  checks = refusing table buffer (notices.sendingChecks (tableSound table) buffer (number .0) (recordOf table (number .0)) delay clock)
+
+  sent-sends : AllPass checks → (place : Found) → rowOf table (number .0) ≡ place → Sends (notices.sentAt number place table buffer)
+  sent-sends pass Nothing e = (tt, refuses)
+  sent-sends pass (At i) e =
+      let sound : tableSound table ≡ true = not-false _ (pass .1 .0) in
+      let r = recordAt table i in
+      let waits : isWaiting (r .notice) ≡ true = rw (record-found table (number .0) i e) at (not-false (isWaiting (notices.noticeIn (recordOf table (number .0)))) (pass .1 .1 .1 .1 .0)) in
+      let words = pending-words r (record-sound table i (found-sound table (number .0) i sound e)) (present (r .notice) waits) in
+      ((words .addressed, notice-stands number (r .supervisor) buffer), λ _. found-number table (number .0) i sound e)
+
+  pub sending-sends : Sends (notices.sending table buffer number delay clock)
+  unfolding notices.sending
+  sending-sends = go (anyHolds checks) refl
+    where
+      done : Outcome
+      done = notices.sentAt number (rowOf table (number .0)) table buffer
+
+      go : (b : Bool) → anyHolds checks ≡ b → Sends (decide checks done)
+      go true h = rw (one-holds checks done (made (refusal 7) table buffer) h) (decide-each Sends checks (made (refusal 7) table buffer)
+          ((tt, refuses), ((tt, refuses), ((tt, refuses), ((tt, refuses), ((tt, refuses), ((tt, refuses), tt)))))) (tt, refuses))
+      go false h = rw (none-holds checks done h) (sent-sends (all-pass checks h) (rowOf table (number .0)) refl)

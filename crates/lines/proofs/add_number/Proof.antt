@@ -1,0 +1,114 @@
+-- `lines::add_number` meets its contract. Assumes nothing.
+use mathlib.Core.Path.{_≡_, refl, sym, _∙_}
+use mathlib.Core.Bool.{true}
+use Prim.Native.Nat.{_*_, _<_}
+use native.Mathlib.Omega.{arith}
+use lib.ListN.{length, take}
+use lib.Seq.{length-take-le}
+use borrow.Author.Tests.{not-true, not-false}
+use Rattle.records.specs.Rows.{rowWords}
+use Rattle.tables.specs.Tables.{mostNumbers}
+use Rattle.lines.specs.Program.{mayFollow}
+use Rattle.lines.proofs.Memory.{put-kept, follows-below, put-count, put-nothing, did-as, numbered-late, numbered-over, numbered-in}
+use borrow.Author.Needs.{needs}
+use Rattle.lines.proofs.add_number.Statement.{statement}
+use Rattle.lines.proofs.add_number.Tie as tie
+
+filling : (c : tie.Else1) → c .before .before .before .before .args .state .filling ≡ true
+filling c = not-false _ (c .if1 .left)
+
+abbrev start : tie.Else2 → tie.Start
+start c = c .before .before .before .before .before .before .before
+
+may :
+    (c : tie.Else2)
+    → mayFollow rowWords mostNumbers (start c .args .number .0) (take (rowWords * start c .args .state .numbers) (start c .args .table .now)) ≡ true
+may c = sym (c .before .may-follow .ensures) ∙ not-false _ (c .if2 .left)
+
+below : (c : tie.Else2) → start c .args .state .numbers < mostNumbers
+below c = omega (arith, follows-below rowWords mostNumbers (start c .args .number .0) (rowWords * start c .args .state .numbers) (start c .args .table .now) (start c .pre .0 .0) (may c))
+
+mul-used : tie.Need-mul-used
+mul-used c = search needs
+
+question-requires : tie.Need-question-requires
+question-requires c κs = search needs
+
+same-length : tie.Need-same-length
+same-length c = search needs
+
+returns : tie.Need-returns
+returns c = λ list s.
+    let q = c .before .before in
+    did-as (q .question .ensures _ list s) (numbered-late _ _ (not-true _ (q .before .before .if1 .taken)))
+
+slice-reshare-prefix-may-follow : tie.Need-slice-reshare-prefix-may-follow
+slice-reshare-prefix-may-follow c = search needs
+
+slice-aggregate-may-follow : tie.Need-slice-aggregate-may-follow
+slice-aggregate-may-follow c = sym (length-take-le _ _ (c .before .before .before .before .before .pre .0 .0))
+
+may-follow-requires : tie.Need-may-follow-requires
+may-follow-requires c κs = search needs
+
+question-requires-2 : tie.Need-question-requires-2
+question-requires-2 c κs = search needs
+
+same-length-2 : tie.Need-same-length-2
+same-length-2 c = search needs
+
+same-length-3 : tie.Need-same-length-3
+same-length-3 c = search needs
+
+returns-2 : tie.Need-returns-2
+returns-2 c = λ list s.
+    let q = c .before .before in
+    let t = q .before .before in
+    did-as (q .question2 .ensures _ list s) (numbered-over _ _ (sym (t .before .may-follow .ensures) ∙ not-true _ (t .if2 .taken)))
+
+slice-aggregate-append : tie.Need-slice-aggregate-append
+slice-aggregate-append c = search needs
+
+append-requires : tie.Need-append-requires
+append-requires c κs = omega (arith, below (c .before .before))
+
+add-t22 : tie.Need-add-t22
+add-t22 c = search needs
+
+same-length-4 : tie.Need-same-length-4
+same-length-4 c = search needs
+
+returns-3 : tie.Need-returns-3
+returns-3 c = λ list s.
+    let a = c .before .before in
+    let e = a .before .before .before in
+    let f = filling (e .before .before .before) in
+    did-as (record {
+      numbers = put-count _ (a .append .ensures) (omega arith);
+      subscribers = put-kept _ list (s .subscribers);
+      filling = sym f;
+      printed = put-nothing _;
+      moreNumbers = omega arith;
+      moreSubscribers = omega arith;
+    }) (numbered-in _ _ f (may e))
+
+pub add-number-spec : {M : Type 1} → statement M
+add-number-spec =
+    tie.close
+    (tie.spec
+    mul-used
+    question-requires
+    same-length
+    returns
+    slice-reshare-prefix-may-follow
+    slice-aggregate-may-follow
+    may-follow-requires
+    question-requires-2
+    same-length-2
+    same-length-3
+    returns-2
+    slice-aggregate-append
+    append-requires
+    add-t22
+    same-length-4
+    returns-3)

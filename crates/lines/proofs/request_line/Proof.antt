@@ -1,0 +1,92 @@
+-- `lines::request_line` meets its contract. Assumes nothing.
+use mathlib.Core.Path.{_≡_, sym, _∙_}
+use Prim.Native.Nat.{_+_, _-_, _<_}
+use native.Mathlib.Omega.{arith}
+use lib.ListN.{length}
+use lib.Seq.{length-take-le}
+use borrow.Rule.Slice.PartMut.{putMid}
+use Rattle.lines.specs.Program.{requested}
+use Rattle.lines.proofs.Memory.{line-room, line-did}
+use borrow.Author.Needs.{needs}
+use Rattle.lines.proofs.request_line.Statement.{statement}
+use Rattle.lines.proofs.request_line.Tie as tie
+
+room : (c : tie.After-ask) → c .before .before .before .before .before .before .before .put .result + c .ask .result < length (putMid (c .before .before .before .before .before .before .before .put .result) (length (c .before .before .before .before .before .before .before .put .last .1 .0) - c .before .before .before .before .before .before .before .put .result) (c .before .before .before .before .before .before .before .put .last .1 .0) (c .ask .last .1 .1 .1 .1 .1 .0))
+room c = let p = c .before .before .before .before .before .before .before in line-room (p .put .ensures) (c .ask .ensures) (c .ask .kept .1 .1 .1 .1 .1 .0) (omega arith)
+
+mul-words : tie.Need-mul-words
+mul-words c = search needs
+
+mul-entries : tie.Need-mul-entries
+mul-entries c = search needs
+
+slice-aggregate-put : tie.Need-slice-aggregate-put
+slice-aggregate-put c = search needs
+
+put-requires : tie.Need-put-requires
+put-requires c κs = search needs
+
+slice-relend-prefix-ask : tie.Need-slice-relend-prefix-ask
+slice-relend-prefix-ask c = search needs
+
+slice-aggregate-ask : tie.Need-slice-aggregate-ask
+slice-aggregate-ask c = sym (length-take-le _ _ (c .before .before .before .before .before .before .before .before .before .before .before .before .before .pre .0 .numbers))
+
+slice-aggregate-ask-2 : tie.Need-slice-aggregate-ask-2
+slice-aggregate-ask-2 c = sym (length-take-le _ _ (c .before .before .before .before .before .before .before .before .before .before .before .before .before .before .pre .0 .subscribers))
+
+sub-ask : tie.Need-sub-ask
+sub-ask c = search needs
+
+part-ask-start : tie.Need-part-ask-start
+part-ask-start c = search needs
+
+part-ask-end : tie.Need-part-ask-end
+part-ask-end c = search needs
+
+ask-requires : tie.Need-ask-requires
+ask-requires c κs = search needs
+
+add-end-line : tie.Need-add-end-line
+add-end-line c = let a = c .before .before .before .before .before .before in omega (arith, a .ask .ensures .short, a .before .before .before .before .before .before .before .put .ensures .count)
+
+end-line-requires : tie.Need-end-line-requires
+end-line-requires c κs = room (c .before .before .before .before .before .before .before)
+
+same-length : tie.Need-same-length
+same-length c = search needs
+
+same-length-2 : tie.Need-same-length-2
+same-length-2 c = search needs
+
+same-length-3 : tie.Need-same-length-3
+same-length-3 c = search needs
+
+returns : tie.Need-returns
+unfolding requested
+returns c =
+    let e = c .before .before in
+    let r = e .before .before .before .before .before .before .before .before in
+    line-did (r .before .before .before .before .before .before .before .before .before .before .before .before .before .before .before .before .before .pre .0) (r .before .before .before .before .before .before .before .put .ensures) (r .ask .ensures) (r .ask .kept .1 .1 .0 ∙ length-take-le _ _ (r .before .before .before .before .before .before .before .before .before .before .before .before .before .before .before .before .before .pre .0 .numbers)) (room r) (e .end-line .ensures .0) (e .end-line .ensures .1)
+
+pub request-line-spec : {M : Type 1} → statement M
+request-line-spec =
+    tie.close
+    (tie.spec
+    mul-words
+    mul-entries
+    slice-aggregate-put
+    put-requires
+    slice-relend-prefix-ask
+    slice-aggregate-ask
+    slice-aggregate-ask-2
+    sub-ask
+    part-ask-start
+    part-ask-end
+    ask-requires
+    add-end-line
+    end-line-requires
+    same-length
+    same-length-2
+    same-length-3
+    returns)

@@ -1,0 +1,80 @@
+-- `lines::result_line` meets its contract. Assumes nothing.
+use mathlib.Core.Path.{_≡_, sym, _∙_}
+use Prim.Native.Nat.{_+_, _-_, _<_}
+use native.Mathlib.Omega.{arith}
+use lib.ListN.{length}
+use lib.Seq.{length-take-le}
+use borrow.Rule.Slice.PartMut.{putMid}
+use Rattle.lines.specs.Program.{reported}
+use Rattle.lines.proofs.Memory.{line-room, line-did}
+use borrow.Author.Needs.{needs}
+use Rattle.lines.proofs.result_line.Statement.{statement}
+use Rattle.lines.proofs.result_line.Tie as tie
+
+room : (c : tie.After-report) → c .before .before .before .before .before .put .result + c .report .result < length (putMid (c .before .before .before .before .before .put .result) (length (c .before .before .before .before .before .put .last .1 .0) - c .before .before .before .before .before .put .result) (c .before .before .before .before .before .put .last .1 .0) (c .report .last .1 .1 .1 .1 .0))
+room c = let p = c .before .before .before .before .before in line-room (p .put .ensures) (c .report .ensures) (c .report .kept .1 .1 .1 .1 .0) (omega arith)
+
+mul-words : tie.Need-mul-words
+mul-words c = search needs
+
+slice-aggregate-put : tie.Need-slice-aggregate-put
+slice-aggregate-put c = search needs
+
+put-requires : tie.Need-put-requires
+put-requires c κs = search needs
+
+slice-relend-prefix-report : tie.Need-slice-relend-prefix-report
+slice-relend-prefix-report c = search needs
+
+slice-aggregate-report : tie.Need-slice-aggregate-report
+slice-aggregate-report c = sym (length-take-le _ _ (c .before .before .before .before .before .before .before .before .before .pre .0))
+
+sub-report : tie.Need-sub-report
+sub-report c = search needs
+
+part-report-start : tie.Need-part-report-start
+part-report-start c = search needs
+
+part-report-end : tie.Need-part-report-end
+part-report-end c = search needs
+
+report-requires : tie.Need-report-requires
+report-requires c κs = search needs
+
+add-end-line : tie.Need-add-end-line
+add-end-line c = search needs
+
+end-line-requires : tie.Need-end-line-requires
+end-line-requires c κs = room (c .before .before .before .before .before)
+
+same-length : tie.Need-same-length
+same-length c = search needs
+
+same-length-2 : tie.Need-same-length-2
+same-length-2 c = search needs
+
+returns : tie.Need-returns
+unfolding reported
+returns c = λ list s.
+    let e = c .before .before in
+    let r = e .before .before .before .before .before .before in
+    line-did s (r .before .before .before .before .before .put .ensures) (r .report .ensures) (r .report .kept .1 .1 .1 .0 ∙ length-take-le _ _ (s .numbers)) (room r) (e .end-line .ensures .0) (e .end-line .ensures .1)
+
+pub result-line-spec : {M : Type 1} → statement M
+result-line-spec =
+    tie.close
+    (tie.spec
+    mul-words
+    slice-aggregate-put
+    put-requires
+    slice-relend-prefix-report
+    slice-aggregate-report
+    sub-report
+    part-report-start
+    part-report-end
+    report-requires
+    add-end-line
+    end-line-requires
+    same-length
+    same-length-2
+    returns)

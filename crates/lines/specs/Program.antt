@@ -1,0 +1,151 @@
+-- Document 01, "The program": what each line prints and leaves, and the whole output for the whole input. Assumes nothing.
+use Prim.Native.Nat.{ℕ, _+_, _-_, _/_}
+use Prim.Native.Char.{code}
+use mathlib.Core.Bool.{Bool, true, false, cond, _&&_}
+use mathlib.Core.Option.{Option, none, some}
+use mathlib.Core.List.{List, [], _∷_, _++_}
+use lib.ListN.{length, take, getD, replicate}
+use lib.Dec.{ltb}
+use Rattle.answers.specs.Ascii.{ascii}
+use Rattle.packing.specs.Packing.{takes, packed, unpacked}
+use Rattle.numbers.specs.Numbers.{digitsOf}
+use Rattle.numbers.specs.declared.FunctionalNumber.{FunctionalNumber}
+use Rattle.numbers.specs.declared.Msisdn.{Msisdn}
+use Rattle.records.specs.Rows.{rowWords}
+use Rattle.tables.specs.Tables.{mostNumbers, subscriberWords, mostSubscribers}
+use Rattle.rules.specs.Answers.{Answer, refusal, error, outcome, holder, sent, delivered, dropped, again, found, noneDue, Outcome, made, bufferRoom, twoDigits}
+use Rattle.rules.specs.Requests as requests
+use Rattle.rules.specs.Notices as notices
+use Rattle.lines.specs.Lines.{lineFeed, space, linesOf, Form, number, subscriber, request, sending, result, formOf}
+
+-- the words of the table and of the list, and whether they are still being filled
+pub record Program : Type 0 where
+  pub table : List ℕ
+  pub list : List ℕ
+  pub filling : Bool
+
+abbrev pub start : Program
+start = record { table = []; list = []; filling = true }
+
+-- what a line comes to: what it prints, and the program behind it
+pub record Effect : Type 0 where
+  pub prints : List ℕ
+  pub leaves : Program
+
+-- "Any other line … prints `?` and changes nothing"
+abbrev pub questioned : Program → Effect
+questioned p = record { prints = ascii "?\n"; leaves = p }
+
+-- ---- filling
+
+-- the first word of the last row, in rows of `width` words; 0 where there is none
+abbrev pub lastKey : ℕ → List ℕ → ℕ
+lastKey width words = getD words (length words - width) 0
+
+-- "ascending as stored", and not over the limit
+unfoldable pub mayFollow : ℕ → ℕ → ℕ → List ℕ → Bool
+mayFollow width most key words = ltb (length words / width) most && ltb (lastKey width words) key
+
+-- "`N` number and `S` MSISDN flags fill table and list … before any `R`, `T` or `D`, and print nothing"
+abbrev pub filled : Bool → Program → Program → Effect
+filled allowed next p = cond allowed (record { prints = []; leaves = next }) (questioned p)
+
+-- a number's row, free and with no notice
+abbrev pub freeRow : FunctionalNumber → List ℕ
+freeRow n = n .0 ∷ 0 ∷ 0 ∷ 0 ∷ 0 ∷ 0 ∷ []
+
+abbrev pub withNumber : FunctionalNumber → Program → Program
+withNumber n p = record { table = p .table ++ freeRow n; list = p .list; filling = p .filling }
+
+unfoldable pub numbered : FunctionalNumber → Program → Effect
+numbered n p = filled (p .filling && mayFollow rowWords mostNumbers (n .0) (p .table)) (withNumber n p) p
+
+abbrev pub subscriberRow : Msisdn → ℕ → List ℕ
+subscriberRow m flags = m .0 ∷ flags ∷ []
+
+abbrev pub withSubscriber : Msisdn → ℕ → Program → Program
+withSubscriber m flags p = record { table = p .table; list = p .list ++ subscriberRow m flags; filling = p .filling }
+
+unfoldable pub subscribed : Msisdn → ℕ → Program → Effect
+subscribed m flags p = filled (p .filling && mayFollow subscriberWords mostSubscribers (m .0) (p .list)) (withSubscriber m flags p) p
+
+-- ---- answers
+
+-- the number n of `error n` (two digits) or `refused n` (one)
+abbrev pub numeral : ℕ → List ℕ
+numeral n = cond (ltb n 10) ((48 + n) ∷ []) (twoDigits n)
+
+-- the characters that the first octets of a buffer are
+abbrev pub textIn : ℕ → List ℕ → List ℕ
+textIn count buffer = unpacked (take count buffer)
+
+-- what follows the letter: "the reply text"; "addressee, notice"; "`D delivered`, `D dropped` or `D again`"; "Otherwise `error n` or `refused n`"
+abbrev pub said : Answer → List ℕ → List ℕ
+said (refusal n) buffer = ascii "refused " ++ numeral n
+said (error n) buffer = ascii "error " ++ numeral n
+said (outcome n count) buffer = textIn count buffer
+said (holder msisdn count) buffer = textIn count buffer
+said (sent addressee count) buffer = digitsOf addressee ++ (space ∷ textIn count buffer)
+said delivered buffer = ascii "delivered"
+said dropped buffer = ascii "dropped"
+said again buffer = ascii "again"
+said (found n) buffer = []
+said noneDue buffer = []
+
+-- an answer to an `R`, `T` or `D`, which ends the filling
+abbrev pub answered : ℕ → Outcome → Program → Effect
+answered letter o p = record {
+  prints = letter ∷ space ∷ said (o .answer) (o .buffer) ++ (lineFeed ∷ []);
+  leaves = record { table = o .table; list = p .list; filling = false };
+}
+
+-- the buffer that each request and each sending is lent
+abbrev pub buffer : List ℕ
+buffer = replicate bufferRoom 0
+
+-- "the program packs it", and "one the packer refuses" is refused 9, whoever the requester is
+unfoldable pub asked : Msisdn → List ℕ → List ℕ → List ℕ → Outcome
+asked m string table list =
+    cond (takes string) (requests.request table list buffer m requests.codingScheme (packed string)) (made (refusal 9) table buffer)
+
+-- "`R` requester string (unpacked …) prints `R` and the reply text"
+unfoldable pub requested : Msisdn → List ℕ → Program → Effect
+requested m string p = answered (code "R") (asked m string (p .table) (p .list)) p
+
+-- "`T` now number prints `T`, addressee, notice", with "delay 0"
+unfoldable pub dispatched : ℕ → FunctionalNumber → Program → Effect
+dispatched now n p = answered (code "T") (notices.sending (p .table) buffer n 0 now) p
+
+-- "`D` now number kind prints `D delivered`, `D dropped` or `D again`"
+unfoldable pub reported : ℕ → FunctionalNumber → ℕ → Program → Effect
+reported now n kind p = answered (code "D") (notices.result (p .table) n kind now) p
+
+-- ---- lines
+
+abbrev pub effectOf : Option Form → Program → Effect
+effectOf none p = questioned p
+effectOf (some (number n)) p = numbered n p
+effectOf (some (subscriber m flags)) p = subscribed m flags p
+effectOf (some (request m string)) p = requested m string p
+effectOf (some (sending now n)) p = dispatched now n p
+effectOf (some (result now n kind)) p = reported now n kind p
+
+unfoldable pub lineEffect : List ℕ → Program → Effect
+lineEffect line p = effectOf (formOf line) p
+
+-- an effect behind what was printed before
+abbrev pub behind : List ℕ → Effect → Effect
+behind printed e = record { prints = printed ++ e .prints; leaves = e .leaves }
+
+-- lines one after the other, each on the program that the one before it leaves
+unfoldable pub linesEffect : List (List ℕ) → Program → Effect
+linesEffect [] p = record { prints = []; leaves = p }
+linesEffect (line ∷ lines) p = let e = lineEffect line p in behind (e .prints) (linesEffect lines (e .leaves))
+
+-- the whole input, from empty table and list on
+unfoldable pub programEffect : List ℕ → Effect
+programEffect input = linesEffect (linesOf input) start
+
+-- "Whole output, no header"
+unfoldable pub outputOf : List ℕ → List ℕ
+outputOf input = programEffect input .prints
