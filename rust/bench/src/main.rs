@@ -1,0 +1,294 @@
+//! Side by side in one run: the proved library, the independent implementation,
+//! libosmocore where it is installed, and a bare pass that only adds up the
+//! words that a call has to test. Buffers are touched first; each figure is the
+//! best of many rounds, the rounds taken in turn.
+
+use ffn::c;
+use std::hint::black_box;
+use std::time::Instant;
+
+const ROUNDS: usize = 300;
+
+/// Nanoseconds a call, the best of the rounds, of several rivals taken in turn.
+fn best<const N: usize>(calls: usize, rivals: &mut [&mut dyn FnMut(); N]) -> [f64; N] {
+    let mut best = [f64::MAX; N];
+    for _ in 0..ROUNDS {
+        for (slot, rival) in best.iter_mut().zip(rivals.iter_mut()) {
+            let start = Instant::now();
+            for _ in 0..calls {
+                rival();
+            }
+            *slot = slot.min(start.elapsed().as_nanos() as f64 / calls as f64);
+        }
+    }
+    best
+}
+
+#[cfg(osmocore)]
+mod osmocore {
+    use std::ffi::{c_char, c_int};
+
+    extern "C" {
+        fn gsm_7bit_encode_n_ussd(
+            out: *mut u8,
+            n: usize,
+            text: *const c_char,
+            octets: *mut c_int,
+        ) -> c_int;
+        fn gsm_7bit_decode_n_ussd(
+            out: *mut c_char,
+            n: usize,
+            octets: *const u8,
+            length: u8,
+        ) -> c_int;
+    }
+
+    /// `text` ends with a zero.
+    pub fn pack(text: &[u8], out: &mut [u8]) -> usize {
+        let mut octets = 0;
+        // SAFETY: the text ends with a zero, and the output's length is given.
+        unsafe {
+            gsm_7bit_encode_n_ussd(
+                out.as_mut_ptr(),
+                out.len(),
+                text.as_ptr().cast(),
+                &mut octets,
+            )
+        };
+        octets as usize
+    }
+
+    pub fn unpack(octets: &[u8], out: &mut [u8]) -> usize {
+        let septets = (octets.len() * 8 / 7) as u8;
+        // SAFETY: the octets hold so many septets, and the output's length is given.
+        unsafe {
+            gsm_7bit_decode_n_ussd(out.as_mut_ptr().cast(), out.len(), octets.as_ptr(), septets)
+                as usize
+        }
+    }
+}
+
+fn packing() {
+    println!(
+        "characters   pack: ours, Rust, libosmocore (ns)   unpack: ours, Rust, libosmocore (ns)"
+    );
+    for n in [8, 23, 72, 160] {
+        let mut text: Vec<u8> = (0..n)
+            .map(|i| b"**214*0492123401*88*4915100001*#ABC"[i % 35])
+            .collect();
+        let (mut a, mut b) = ([1u8; 512], [1u8; 512]);
+        let count = oracle::pack(&text, &mut a).unwrap();
+        let octets = a[..count].to_vec();
+        text.push(0);
+        let chars = &text[..n];
+        #[cfg(osmocore)]
+        let mut third = [1u8; 512];
+        let mut osmo_pack = || {
+            #[cfg(osmocore)]
+            black_box(osmocore::pack(black_box(&text), &mut third));
+        };
+        let p = best(
+            1000,
+            &mut [
+                &mut || {
+                    black_box(c::pack(black_box(chars), &mut a));
+                },
+                &mut || {
+                    black_box(oracle::pack(black_box(chars), &mut b).ok());
+                },
+                &mut osmo_pack,
+            ],
+        );
+        #[cfg(osmocore)]
+        let mut third = [1u8; 512];
+        let mut osmo_unpack = || {
+            #[cfg(osmocore)]
+            black_box(osmocore::unpack(black_box(&octets), &mut third));
+        };
+        let u = best(
+            1000,
+            &mut [
+                &mut || {
+                    black_box(c::unpack(black_box(&octets), &mut a));
+                },
+                &mut || {
+                    black_box(oracle::unpack(black_box(&octets), &mut b).ok());
+                },
+                &mut osmo_unpack,
+            ],
+        );
+        println!(
+            "{n:10}   {:7.1} {:7.1} {:8.1}  x{:.1}               {:7.1} {:7.1} {:8.1}  x{:.1}",
+            p[0],
+            p[1],
+            p[2],
+            p[2] / p[0],
+            u[0],
+            u[1],
+            u[2],
+            u[2] / u[0]
+        );
+    }
+    if !cfg!(osmocore) {
+        println!("(libosmocore-dev is not installed: its columns say nothing)");
+    }
+}
+
+const NUMBERS: u64 = 10_492_000_000;
+const SUBSCRIBERS: u64 = 14_915_100_000;
+
+/// Numbers held by subscribers, none with a notice.
+fn table(rows: usize) -> Vec<u64> {
+    (0..rows as u64)
+        .flat_map(|i| [NUMBERS + 7 * i, SUBSCRIBERS + 3 * i, 0, 0, 0, 0])
+        .collect()
+}
+
+fn list(rows: usize) -> Vec<u64> {
+    (0..rows as u64)
+        .flat_map(|i| [SUBSCRIBERS + 3 * i, 1 + 2 * (i % 2)])
+        .collect()
+}
+
+fn sum(words: &[u64]) -> u64 {
+    words.iter().fold(0, |a, &w| a.wrapping_add(w))
+}
+
+fn line(call: &str, numbers: usize, subscribers: usize, t: [f64; 3]) {
+    println!(
+        "{call:10} {numbers:7} {subscribers:11}   {:9.1} {:9.1} {:9.1}   {:5.2}  {:5.2}",
+        t[0],
+        t[1],
+        t[2],
+        t[0] / t[1],
+        t[0] / t[2]
+    );
+}
+
+fn calls(numbers: usize, subscribers: usize) {
+    let (mut ours, mut theirs, people) = (table(numbers), table(numbers), list(subscribers));
+    let middle = numbers / 2;
+    let number = NUMBERS + 7 * middle as u64;
+    let requester = SUBSCRIBERS + 3 * (subscribers / 2) as u64;
+    let (mut a, mut b, mut string) = ([1u8; 80], [1u8; 80], [1u8; 160]);
+    let count = c::write_request(2, number, 0, &[], &mut string).count;
+    let (words, string) = (ours.clone(), &string[..count]);
+    let turns = if numbers + subscribers > 64 { 50 } else { 1000 };
+
+    line(
+        "request",
+        numbers,
+        subscribers,
+        best(
+            turns,
+            &mut [
+                &mut || {
+                    black_box(c::request(
+                        &mut ours,
+                        black_box(&people),
+                        &mut a,
+                        requester,
+                        15,
+                        string,
+                    ));
+                },
+                &mut || {
+                    black_box(oracle::request(
+                        &mut theirs,
+                        black_box(&people),
+                        &mut b,
+                        requester,
+                        15,
+                        string,
+                    ));
+                },
+                &mut || {
+                    black_box(sum(black_box(&words)).wrapping_add(sum(black_box(&people))));
+                },
+            ],
+        ),
+    );
+    if subscribers > 0 {
+        return;
+    }
+    // A notice to send, and one in flight, set anew before each call.
+    let row = |phase: u64| [number, 0, phase, SUBSCRIBERS, SUBSCRIBERS + 3, 0];
+    let set = |t: &mut [u64], phase: u64| {
+        if numbers > 0 {
+            t[6 * middle..6 * middle + 6].copy_from_slice(&row(phase));
+        }
+    };
+    line(
+        "sending",
+        numbers,
+        0,
+        best(
+            turns,
+            &mut [
+                &mut || {
+                    set(&mut ours, 1);
+                    black_box(c::sending(&mut ours, &mut a, number, 0, 7));
+                },
+                &mut || {
+                    set(&mut theirs, 1);
+                    black_box(oracle::sending(&mut theirs, &mut b, number, 0, 7));
+                },
+                &mut || {
+                    black_box(sum(black_box(&words)));
+                },
+            ],
+        ),
+    );
+    line(
+        "result",
+        numbers,
+        0,
+        best(
+            turns,
+            &mut [
+                &mut || {
+                    set(&mut ours, 2);
+                    black_box(c::result(&mut ours, number, 5, 7));
+                },
+                &mut || {
+                    set(&mut theirs, 2);
+                    black_box(oracle::result(&mut theirs, number, 5, 7));
+                },
+                &mut || {
+                    black_box(sum(black_box(&words)));
+                },
+            ],
+        ),
+    );
+    set(&mut ours, 2);
+    set(&mut theirs, 2);
+    line(
+        "finding",
+        numbers,
+        0,
+        best(
+            turns,
+            &mut [
+                &mut || {
+                    black_box(c::finding(black_box(&ours), 0, 7));
+                },
+                &mut || {
+                    black_box(oracle::finding(black_box(&theirs), 0, 7));
+                },
+                &mut || {
+                    black_box(sum(black_box(&words)));
+                },
+            ],
+        ),
+    );
+}
+
+fn main() {
+    packing();
+    println!("\ncall       numbers subscribers        ours      Rust      bare   ours/Rust  ours/bare (ns)");
+    for numbers in [0, 1, 64, 1024] {
+        for subscribers in [0, 64, 4096] {
+            calls(numbers, subscribers);
+        }
+    }
+}
