@@ -12,11 +12,11 @@ use lib.ListN.{length, take, drop}
 use lib.Seq.{take-length, length-take-le}
 use lib.Dec.{ltb}
 use Rattle.answers.proofs.Written.{the-type}
-use Rattle.answers.specs.Writing.{made, wrote}
+use Rattle.answers.specs.Writing.{Stands, made, wrote}
 use Rattle.answers.specs.declared.Written.{Written}
 use Rattle.answers.specs.declared.Written.the-variants.{Count}
-use Rattle.answers.proofs.Writing.{made-one, wrote-count, all-good}
-use Rattle.answers.proofs.Parts.{count-wrote, wrote-behind}
+use Rattle.answers.proofs.Writing.{made-one, all-good}
+use Rattle.answers.proofs.Parts.{counted-stands, stands-behind}
 use Rattle.packing.specs.Packing.{charsIn, readable, unpacked}
 use Rattle.packing.specs.Outcomes.{unpacking}
 use Rattle.packing.proofs.Laws.{length-unpacked-le}
@@ -29,17 +29,16 @@ use Rattle.lines.specs.Memory.{Put, Text}
 
 -- ---- a text, and another behind it
 
-as-put : (text old new : List ℕ) (n : ℕ) → made (Count n) new ≡ wrote text old → Put text old new n
-as-put text old new n e = let c = count-wrote text old new n e in record { count = c .0; buffer = c .1 }
+as-stands : {text old new : List ℕ} {n : ℕ} → Put text old new n → Stands text old n new
+as-stands p = record { count = p .count; buffer = p .buffer }
 
-as-wrote : {text old new : List ℕ} {n : ℕ} → Put text old new n → made (Count n) new ≡ wrote text old
-as-wrote {text} {old} {new} {n} p = wrote-count text old new n (sym (p .count)) (p .buffer)
+as-put : {text old new : List ℕ} {n : ℕ} → Stands text old n new → Put text old new n
+as-put s = record { count = s .count; buffer = s .buffer }
 
 pub put-behind :
     {a b old mid part : List ℕ} {n m : ℕ} → Put a old mid n → Put b (take (length mid - n) (drop n mid)) part m
     → Put (a ++ b) old (putMid n (length mid - n) mid part) (n + m)
-put-behind {a} {b} {old} {mid} {part} {n} {m} p q =
-    as-put (a ++ b) old (putMid n (length mid - n) mid part) (n + m) (wrote-behind a b old mid part n m (as-wrote p) (as-wrote q))
+put-behind p q = as-put (stands-behind (as-stands p) (as-stands q))
 
 pub put-copy : {text out new : List ℕ} {n : ℕ} → n ≡ length text → new ≡ take (length text) text ++ drop (length text) out → Put text out new n
 put-copy {text} e f = record { count = e; buffer = f ∙ rw (e, take-length text) }
@@ -53,7 +52,7 @@ pub other-arm : {A : Type 0} {text old new : List ℕ} (r : Written) → Writes 
 other-arm {text = text} {old} {new} r w = counts-only r (length text) (made-one r (Count (length text)) new _ (w .said) refl .0)
 
 pub count-arm : {text old new : List ℕ} {r : Written} {n : ℕ} → Writes text old new r → r ≡ Count n → Put text old new n
-count-arm {text} {old} {new} {n = n} w e = as-put text old new n (ap (λ (x : Written). made x new) (sym e) ∙ w .said)
+count-arm {text} {old} {new} {r} w e = as-put (counted-stands text old (made-one r (Count (length text)) new (text ++ drop (length text) old) (w .said) refl) e)
 
 pub text-writes :
     (os old new : List ℕ) (r : Written) → readable os ≡ true → charsIn (length os) ≤ length old → made r new ≡ unpacking os old
