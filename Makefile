@@ -3,6 +3,7 @@
 
 run:
 	@command -v rt >/dev/null || { echo "missing: rt, the Rattle kit's command"; exit 1; }
+	@test -x target/bin/ffn || echo "proving and building the program first: some minutes" >&2
 	@mkdir -p target
 	@rt check ffn >target/run.log 2>&1 || { tail -n 20 target/run.log; exit 1; }
 	@target/bin/ffn <crates/ffn/stdin

@@ -1,11 +1,11 @@
 // Document 01's examples of the four calls, run on the proved code over lent tables and lists. A line has the answer; of a request or a
 // sending also the octets that it wrote and how many beyond still hold the 0xEE that the buffer was filled with; and what became of the table.
-use node::FindingAnswer;
-use node::RequestAnswer;
-use node::ResultAnswer;
-use node::SendingAnswer;
 use numbers::FunctionalNumber;
 use numbers::Msisdn;
+use visits::FindingAnswer;
+use visits::RequestAnswer;
+use visits::ResultAnswer;
+use visits::SendingAnswer;
 ghost use mathlib.Core.Path.{_≡_};
 ghost use Prim.Native.Nat.{_≤_, _<_};
 ghost use lib.ListN.{length};

@@ -1,22 +1,22 @@
 // The C functions of the static library, thin over the packer, the request string and the node. Each returns one struct by value and has no `requires`.
 use answers::Written;
-use node::FindingAnswer;
-use node::RequestAnswer;
-use node::ResultAnswer;
-use node::SendingAnswer;
 use numbers::FunctionalNumber;
 use numbers::Msisdn;
 use strings::Erasing;
 use strings::Fields;
 use strings::Operation;
 use strings::Reading;
+use visits::FindingAnswer;
+use visits::RequestAnswer;
+use visits::ResultAnswer;
+use visits::SendingAnswer;
 ghost use mathlib.Core.Path.{_≡_};
 ghost use mathlib.Core.List.{[]};
 ghost use Rattle.answers.specs.Writing.{said};
 ghost use Rattle.packing.specs.Outcomes.{packing, unpacking};
 ghost use Rattle.rules.specs.Requests as requests;
 ghost use Rattle.rules.specs.Notices as notices;
-ghost use Rattle.node.specs.Said.{saidRequest, saidSending, saidResult, saidFinding};
+ghost use Rattle.visits.specs.Said.{saidRequest, saidSending, saidResult, saidFinding};
 ghost use Rattle.ffn_c.specs.Numbers.{ofSaid, ofAnswer, ofOperation, ofErasing, ofFields, four};
 ghost use Rattle.ffn_c.specs.Calls.{returned, ofCall, ofWriter, operationOf, erasingOf, writingFields, readingInto};
 
@@ -252,7 +252,7 @@ pub extern "C" fn ffn_write_request(
     let erasing = erasing_of(msisdn);
     let Operating::Known(operation) = operation_of(operation) else {
         // breaks the string's rules, as nobody's number does: the writer refuses that 9, after 1
-        return of_written(strings::write_request(
+        return of_written(writers::write_request(
             Operation::Register,
             FunctionalNumber(0),
             erasing,
@@ -260,7 +260,7 @@ pub extern "C" fn ffn_write_request(
             out,
         ));
     };
-    of_written(strings::write_request(
+    of_written(writers::write_request(
         operation,
         FunctionalNumber(number),
         erasing,

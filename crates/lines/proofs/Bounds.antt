@@ -1,35 +1,32 @@
 -- How much a line can print: at most 61 octets, and at most seven times its length with its line feed. Assumes nothing.
-use mathlib.Core.Path.{_≡_, refl, sym, ap, subst, _∙_}
+use mathlib.Core.Path.{_≡_, refl, sym, ap, subst}
 use mathlib.Core.Bool.{Bool, true, false, cond, _&&_}
 use mathlib.Core.Option.{Option, none, some}
-use mathlib.Core.List.{List, [], _∷_, _++_}
-use Prim.Native.Nat.{ℕ, suc, _+_, _*_, _^_, _≤_, _<_}
+use mathlib.Core.List.{List, [], _∷_}
+use Prim.Native.Nat.{ℕ, suc, _+_, _*_, _^_, _≤_}
 use native.Mathlib.Omega.{arith}
 use Prim.Native.Char.{code}
 use lib.ListN.{length, length-append}
 use lib.Dec.{eqb, leb}
 use borrow.Author.Tests.{leb-true}
-use Rattle.answers.specs.Ascii.{ascii}
-use Rattle.answers.specs.Checks.{_>>=_, onlyIf}
+use Rattle.answers.specs.Checks.{_>>=_}
 use Rattle.answers.proofs.Tests.{and-left}
 use Rattle.answers.proofs.Decide.{decide-each}
-use Rattle.answers.proofs.Checks.{not-some, bind-some, onlyIf-some}
-use Rattle.packing.specs.Packing.{charsIn, takes, packed, unpacked}
-use Rattle.numbers.specs.Numbers.{fewestDigits, mostDigits, isNumber, digitsOf, stored}
+use Rattle.answers.proofs.Checks.{not-some, onlyIf-some}
+use Rattle.packing.specs.Packing.{charsIn}
+use Rattle.numbers.specs.Numbers.{mostDigits, isNumber, digitsOf, stored}
 use Rattle.numbers.specs.declared.FunctionalNumber.{FunctionalNumber}
-use Rattle.numbers.specs.declared.Msisdn.{Msisdn}
 use Rattle.numbers.proofs.Lengths.{number-some}
-use Rattle.rules.specs.Answers.{Answer, refusal, error, outcome, holder, sent, delivered, dropped, again, found, noneDue, Outcome, made}
-use Rattle.rules.specs.Requests as requests
+use Rattle.rules.specs.Answers.{Answer, refusal, error, outcome, holder, sent, delivered, dropped, again, found, noneDue, Outcome}
 use Rattle.rules.specs.Notices as notices
-use Rattle.lines.specs.Lines as form
-use Rattle.lines.specs.Lines.{lineFeed, space, fieldAt, behindField, isDigits, isNumberLong, askedOf, valueBelow, Form, sendingForm, lettered, formOf}
+use Rattle.forms.specs.Lines as form
+use Rattle.forms.specs.Lines.{lineFeed, space, fieldAt, behindField, isDigits, isNumberLong, askedOf, valueBelow, Form, sendingForm, lettered, formOf}
 use Rattle.records.specs.Rows.{rowWords}
 use Rattle.tables.specs.Tables.{mostNumbers, subscriberWords, mostSubscribers}
-use Rattle.lines.specs.Program.{Program, Effect, mayFollow, filled, withNumber, withSubscriber, numeral, textIn, said, answered, buffer, numbered, subscribed, asked, requested, dispatched, reported, effectOf, lineEffect}
-use Rattle.lines.specs.Memory.{Printable, answerRoom}
-use Rattle.lines.proofs.Writing.{numeral-short, text-most}
-use Rattle.lines.proofs.Printing.{digits-short, isSent, Replies, asked-replies, result-replies, Sends, sending-sends}
+use Rattle.lines.specs.Program.{Program, Effect, mayFollow, filled, withNumber, withSubscriber, answered, buffer, numbered, subscribed, asked, requested, dispatched, reported, effectOf, lineEffect}
+use Rattle.replies.specs.Replies.{textIn, said, Printable, answerRoom}
+use Rattle.replies.proofs.Writing.{numeral-short, text-most}
+use Rattle.lines.proofs.Printing.{digits-short, isSent, Replies, asked-replies, result-replies, sending-sends}
 
 -- ---- what follows the letter
 

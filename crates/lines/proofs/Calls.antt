@@ -1,5 +1,5 @@
 -- What a line knows of the node's answer to its call. Assumes nothing.
-use mathlib.Core.Path.{_≡_, refl, sym, ap, subst, subst⁻¹, _∙_}
+use mathlib.Core.Path.{_≡_, refl, subst, subst⁻¹}
 use mathlib.Core.Bool.{true, false}
 use mathlib.Core.List.{List, [], _∷_}
 use Prim.Native.Nat.{ℕ, _≤_}
@@ -18,9 +18,11 @@ use Rattle.packing.proofs.Outcomes.{pack-short, pack-unfit}
 use Rattle.numbers.specs.declared.Msisdn.{Msisdn}
 use Rattle.rules.specs.Answers.{Answer, refusal, Outcome, made}
 use Rattle.rules.specs.Requests as requests
-use Rattle.node.proofs.Texts.{counts-only}
-use Rattle.lines.specs.Program.{said, buffer, asked}
-use Rattle.lines.specs.Memory.{Put, Printable, Answered}
+use Rattle.visits.proofs.Texts.{counts-only}
+use Rattle.replies.specs.Replies.{said, Printable}
+use Rattle.lines.specs.Program.{buffer, asked}
+use Rattle.answers.specs.Writing.{Stands}
+use Rattle.lines.specs.Memory.{Answered}
 use Rattle.lines.proofs.Bounds.{said-room}
 
 module _ (a : Answer) (table b : List ℕ) (o : Outcome) (e : made a table b ≡ o) where
@@ -28,7 +30,7 @@ module _ (a : Answer) (table b : List ℕ) (o : Outcome) (e : made a table b ≡
   pub printable-by : Printable (o .answer) (o .buffer) → Printable a b
   printable-by = subst⁻¹ (λ (x : Outcome). Printable (x .answer) (x .buffer)) e
 
-  pub answered-by : {old new : List ℕ} {n : ℕ} → Printable (o .answer) (o .buffer) → Put (said a b) old new n → Answered o table old new n
+  pub answered-by : {old new : List ℕ} {n : ℕ} → Printable (o .answer) (o .buffer) → Stands (said a b) old n new → Answered o table old new n
   answered-by {old} {new} {n} h p =
       subst (λ (x : Outcome). Answered x table old new n) e (record { leaves = refl; says = p; short = rw (p .count) (said-room (made a table b) (printable-by h)) })
 

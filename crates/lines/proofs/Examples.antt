@@ -13,7 +13,7 @@ use Rattle.tables.specs.Keys.{placeOf}
 use Rattle.tables.specs.Tables.{tableSound, rowOf, recordOf, listSound, flagsOf}
 use Rattle.rules.specs.Requests as requests
 use Rattle.rules.specs.Notices as notices
-use Rattle.lines.specs.Lines as lines
+use Rattle.forms.specs.Lines as lines
 use Rattle.lines.specs.Program as program
 use Rattle.lines.specs.Program.{outputOf}
 

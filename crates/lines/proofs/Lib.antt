@@ -1,8 +1,5 @@
--- `Places`: lines and fields by the place where they end. `Digits`: fields of digits. `Reading`: what their readers tell. `Examples`: document 01's whole input and output, computed.
-pub mod Places
-pub mod Digits
-pub mod Reading
-pub mod Writing
+-- `Printing`: what can be printed. `Bounds`: how much. `Memory`: rows in use, and what a line did. `Calls`, `Running`: the calls, and lines one after the other.
+-- `Examples`: document 01's whole input and output, computed.
 pub mod Printing
 pub mod Bounds
 pub mod Memory

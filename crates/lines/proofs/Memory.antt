@@ -18,11 +18,12 @@ use Rattle.tables.specs.Tables.{mostNumbers, subscriberWords, mostSubscribers}
 use Rattle.rules.specs.Answers.{Outcome}
 use Rattle.lines.specs.declared.State.{State}
 use Rattle.lines.specs.declared.Done.{Done}
-use Rattle.lines.specs.Lines.{lineFeed, space}
+use Rattle.forms.specs.Lines.{lineFeed, space}
 use Rattle.lines.specs.Program.{Program, Effect, questioned, lastKey, mayFollow, filled, withNumber, numbered, withSubscriber, subscribed, answered}
-use Rattle.lines.specs.Memory.{Put, Answered, held, Stands, lineRoom, Did, ending}
+use Rattle.answers.specs.Writing.{Stands}
+use Rattle.lines.specs.Memory.{Answered, held, Fits, lineRoom, Did, ending}
 use Rattle.answers.proofs.Parts.{rest-of, rest-back}
-use Rattle.lines.proofs.Writing.{put-behind}
+use Rattle.answers.proofs.Parts.{stands-behind}
 
 -- ---- rows
 
@@ -33,7 +34,7 @@ pub first-key : (width : ℕ) (words : List ℕ) → length words < width → la
 first-key width words h = ap (λ (i : ℕ). getD words i 0) (omega arith)
 
 -- the rows in use, as they were
-pub put-kept : (n : ℕ) (words : List ℕ) → n ≤ length words → Put (take n words) words words n
+pub put-kept : (n : ℕ) (words : List ℕ) → n ≤ length words → Stands (take n words) words n words
 put-kept n words h = record { count = sym (length-take-le n words h); buffer = sym (take-append-drop n words) }
 
 -- a word more of a row, copied behind the words in use
@@ -44,7 +45,7 @@ append-more row words new used i h l e = rw (e, add-one i) (paste-suc words used
 
 pub append-done :
     (row words new : List ℕ) (used i : ℕ) → i ≤ length row → length row ≤ i → used + length row ≤ length words → new ≡ paste words used row i
-    → Put (take used words ++ row) words new (used + length row)
+    → Stands (take used words ++ row) words (used + length row) new
 append-done row words new used i h k l e =
     let same : i ≡ length row = omega arith in
     record {
@@ -57,10 +58,10 @@ pub follows-below : (width most key n : ℕ) (words : List ℕ) → n ≤ length
 unfolding mayFollow
 follows-below width most key n words h e = ltb-true (n / width) most (rw (length-take-le n words h) at (and-left (ltb (length (take n words) / width) most) (ltb (lastKey width (take n words)) key) e))
 
-pub put-count : {text old new : List ℕ} {n : ℕ} (m : ℕ) → Put text old new n → m ≡ n → Put text old new m
+pub put-count : {text old new : List ℕ} {n : ℕ} (m : ℕ) → Stands text old n new → m ≡ n → Stands text old m new
 put-count m p e = rw e p
 
-pub put-nothing : (old : List ℕ) → Put [] old old 0
+pub put-nothing : (old : List ℕ) → Stands [] old 0 old
 put-nothing old = record { count = refl; buffer = refl }
 
 -- ---- filling
@@ -99,7 +100,7 @@ module _ (m : Msisdn) (flags : ℕ) (p : Program) where
 -- ---- a printed line
 
 -- a text, and a line feed behind it
-pub put-end : {text old new : List ℕ} {n : ℕ} → Put text old new n → n < length new → Put (text ++ (lineFeed ∷ [])) old (set new n lineFeed) (n + 1)
+pub put-end : {text old new : List ℕ} {n : ℕ} → Stands text old n new → n < length new → Stands (text ++ (lineFeed ∷ [])) old (n + 1) (set new n lineFeed)
 put-end {text} {old} {new} {n} p h =
     let l : n < length old = omega (arith, ap length (p .buffer), length-append text (drop n old), length-drop n old, p .count) in
     record {
@@ -111,7 +112,7 @@ put-end {text} {old} {new} {n} p h =
 
 -- behind the letter, the space and what the call said there is room for the line feed
 pub line-room :
-    {letter h n : ℕ} {o : Outcome} {out t mid part : List ℕ} → Put (letter ∷ space ∷ []) out mid h → Answered o t (take (length mid - h) (drop h mid)) part n
+    {letter h n : ℕ} {o : Outcome} {out t mid part : List ℕ} → Stands (letter ∷ space ∷ []) out h mid → Answered o t (take (length mid - h) (drop h mid)) part n
     → length part ≡ length (take (length mid - h) (drop h mid)) → lineRoom ≤ length mid → h + n < length (putMid h (length mid - h) mid part)
 line-room {h = h} {mid = mid} {part} head body same room =
     let l = rw rest-of at same in
@@ -120,7 +121,7 @@ line-room {h = h} {mid = mid} {part} head body same room =
 -- the letter, what the call said and the line feed were printed, over the rows in use and the table that the call left
 pub line-did :
     {letter h n : ℕ} {o : Outcome} {s : State} {table list out t mid part new : List ℕ} {d : Done}
-    → Stands s table list → Put (letter ∷ space ∷ []) out mid h → Answered o t (take (length mid - h) (drop h mid)) part n
+    → Fits s table list → Stands (letter ∷ space ∷ []) out h mid → Answered o t (take (length mid - h) (drop h mid)) part n
     → length t ≡ rowWords * s .numbers → h + n < length (putMid h (length mid - h) mid part)
     → d ≡ ending s (h + n) → new ≡ set (putMid h (length mid - h) mid part) (h + n) lineFeed
     → Did (answered letter o (held s table list)) s table list out d (t ++ drop (rowWords * s .numbers) table) list new
@@ -130,7 +131,7 @@ line-did {s = s} {table} {list} stands head body rows room ended written =
       numbers = record { count = sym rows ∙ ap length (body .leaves); buffer = rw (← (body .leaves)) refl };
       subscribers = put-kept (subscriberWords * s .subscribers) list (stands .subscribers);
       filling = refl;
-      printed = put-end (put-behind head (body .says)) room;
+      printed = put-end (stands-behind head (body .says)) room;
       moreNumbers = omega arith;
       moreSubscribers = omega arith;
     })

@@ -1,20 +1,19 @@
 -- Every answer of a request or a sending can be printed: its octets are packed characters, and its addressee is a number. Assumes nothing.
-use mathlib.Core.Path.{_≡_, refl, sym, ap, subst, _∙_}
-use mathlib.Core.Bool.{Bool, true, false, not, cond}
+use mathlib.Core.Path.{_≡_, refl, _∙_}
+use mathlib.Core.Bool.{Bool, true, false, cond}
 use mathlib.Core.Option.{Option, none, some}
 use mathlib.Core.List.{List, [], _∷_, _++_}
 use Prim.Native.Nat.{ℕ, zero, suc, _+_, _/_, _%_, _≤_, _<_, zero-le}
-use native.Mathlib.Nat.{le-refl, le-trans}
 use native.Mathlib.Omega.{arith}
-use lib.ListN.{length, take, drop, length-append}
+use lib.ListN.{length, drop, length-append}
 use lib.Seq.{take-append-seam}
 use lib.Dec.{eqb, ltb}
 use borrow.Author.Tests.{not-false}
 use Rattle.answers.specs.Ascii.{ascii}
 use Rattle.answers.specs.Checks.{decide}
 use Rattle.answers.proofs.Tests.{no-path}
-use Rattle.answers.proofs.Decide.{Each, decide-each}
-use Rattle.packing.specs.Packing.{octetsFor, taken, takes, packed, readable}
+use Rattle.answers.proofs.Decide.{decide-each}
+use Rattle.packing.specs.Packing.{octetsFor, taken, takes, packed}
 use Rattle.packing.proofs.Laws.{length-packed, takes-append, takes-cons}
 use Rattle.packing.proofs.RoundTrip.{packed-reads}
 use Rattle.numbers.specs.Numbers.{isNumber, digitsUpTo, digitsOf}
@@ -39,9 +38,9 @@ use Rattle.rules.specs.Requests as requests
 use Rattle.rules.specs.Notices as notices
 use Rattle.rules.specs.Calls.{anyHolds}
 use Rattle.rules.proofs.Visits.{none-holds, one-holds, AllPass, all-pass, found-sound, found-number}
-use Rattle.node.proofs.Texts.{takes-two}
+use Rattle.visits.proofs.Texts.{takes-two}
 use Rattle.lines.specs.Program.{buffer, asked}
-use Rattle.lines.specs.Memory.{Text, mostReplyOctets, mostNoticeOctets, Printable}
+use Rattle.replies.specs.Replies.{Text, mostReplyOctets, mostNoticeOctets, Printable}
 
 -- ---- digits, of any word
 

@@ -1,8 +1,8 @@
 -- The lines of an input, carried out one after the other: what holds before each of them. Assumes nothing.
 use mathlib.Core.Path.{_≡_, refl, sym, ap, ap₂, _∙_}
 use mathlib.Core.Bool.{true}
-use mathlib.Core.List.{List, [], _∷_, _++_, append-nil, append-assoc}
-use Prim.Native.Nat.{ℕ, suc, _+_, _-_, _*_, _≤_, _<_}
+use mathlib.Core.List.{List, _∷_, _++_, append-nil, append-assoc}
+use Prim.Native.Nat.{ℕ, _+_, _-_, _*_, _≤_, _<_}
 use native.Mathlib.Omega.{arith}
 use borrow.Rule.Slice.PartMut.{putMid}
 use lib.ListN.{length, take, drop, length-append, length-drop, take-append-drop, drop-of-length-le}
@@ -13,15 +13,16 @@ use Rattle.records.specs.Rows.{rowWords}
 use Rattle.tables.specs.Tables.{subscriberWords}
 use Rattle.lines.specs.declared.State.{State}
 use Rattle.lines.specs.declared.Done.{Done}
-use Rattle.lines.specs.Lines.{lineFeed, linesOf}
+use Rattle.forms.specs.Lines.{lineFeed, linesOf}
 use Rattle.lines.specs.Program.{Program, Effect, behind, lineEffect, linesEffect, programEffect, outputOf}
-use Rattle.lines.specs.Memory.{Put, held, Stands, Did, outputRoom, Lent, Ran, ran, over, running}
-use Rattle.lines.proofs.Places.{lines-first}
+use Rattle.answers.specs.Writing.{Stands}
+use Rattle.lines.specs.Memory.{held, Fits, Did, Lent, Ran, ran, over, running}
+use Rattle.forms.proofs.Places.{lines-first}
 use Rattle.lines.proofs.Bounds.{line-bounded}
 
 -- at a place of the input, with n octets printed: the rows in use and the lines that are left make the whole effect
 pub record Run (input table list out : List ℕ) (s : State) (at n : ℕ) (t l o : List ℕ) : Type 0 where
-  pub stands : Stands s t l
+  pub stands : Fits s t l
   pub tableLong : length t ≡ length table
   pub listLong : length l ≡ length list
   pub outLong : length o ≡ length out
@@ -49,13 +50,13 @@ run-start input table list out lent = record {
 }
 
 -- words put over the front of others, and what lies beyond
-put-front : {text old new : List ℕ} {n : ℕ} → Put text old new n → take n new ≡ text
+put-front : {text old new : List ℕ} {n : ℕ} → Stands text old n new → take n new ≡ text
 put-front {text} {old} {n = n} p = ap (take n) (p .buffer) ∙ take-at text (drop n old) n (sym (p .count))
 
-put-rest : {text old new : List ℕ} {n : ℕ} → Put text old new n → drop n new ≡ drop n old
+put-rest : {text old new : List ℕ} {n : ℕ} → Stands text old n new → drop n new ≡ drop n old
 put-rest {text} {old} {n = n} p = ap (drop n) (p .buffer) ∙ drop-at text (drop n old) n (sym (p .count))
 
-put-length : {text old new : List ℕ} {n : ℕ} → Put text old new n → n ≤ length new
+put-length : {text old new : List ℕ} {n : ℕ} → Stands text old n new → n ≤ length new
 put-length {text} {old} {n = n} p = omega (arith, p .count, ap length (p .buffer), length-append text (drop n old))
 
 -- what stays behind a place stays behind a later one
@@ -201,3 +202,4 @@ pub run-one :
 run-one n m t l o u k p {r} a b =
     let e = a ∙ sym b in
     (ap (λ (x : Ran). x .count) e, ap (λ (x : Ran). x .table) e, ap (λ (x : Ran). x .list) e, ap (λ (x : Ran). x .out) e)
+-- x

@@ -1,22 +1,22 @@
 -- Document 01, "The program": what each line prints and leaves, and the whole output for the whole input. Assumes nothing.
-use Prim.Native.Nat.{ℕ, _+_, _-_, _/_}
+use Prim.Native.Nat.{ℕ, _-_, _/_}
 use Prim.Native.Char.{code}
 use mathlib.Core.Bool.{Bool, true, false, cond, _&&_}
 use mathlib.Core.Option.{Option, none, some}
 use mathlib.Core.List.{List, [], _∷_, _++_}
-use lib.ListN.{length, take, getD, replicate}
+use lib.ListN.{length, getD, replicate}
 use lib.Dec.{ltb}
 use Rattle.answers.specs.Ascii.{ascii}
-use Rattle.packing.specs.Packing.{takes, packed, unpacked}
-use Rattle.numbers.specs.Numbers.{digitsOf}
+use Rattle.packing.specs.Packing.{takes, packed}
 use Rattle.numbers.specs.declared.FunctionalNumber.{FunctionalNumber}
 use Rattle.numbers.specs.declared.Msisdn.{Msisdn}
 use Rattle.records.specs.Rows.{rowWords}
 use Rattle.tables.specs.Tables.{mostNumbers, subscriberWords, mostSubscribers}
-use Rattle.rules.specs.Answers.{Answer, refusal, error, outcome, holder, sent, delivered, dropped, again, found, noneDue, Outcome, made, bufferRoom, twoDigits}
+use Rattle.rules.specs.Answers.{refusal, Outcome, made, bufferRoom}
 use Rattle.rules.specs.Requests as requests
 use Rattle.rules.specs.Notices as notices
-use Rattle.lines.specs.Lines.{lineFeed, space, linesOf, Form, number, subscriber, request, sending, result, formOf}
+use Rattle.replies.specs.Replies.{said}
+use Rattle.forms.specs.Lines.{lineFeed, space, linesOf, Form, number, subscriber, request, sending, result, formOf}
 
 -- the words of the table and of the list, and whether they are still being filled
 pub record Program : Type 0 where
@@ -70,27 +70,6 @@ unfoldable pub subscribed : Msisdn → ℕ → Program → Effect
 subscribed m flags p = filled (p .filling && mayFollow subscriberWords mostSubscribers (m .0) (p .list)) (withSubscriber m flags p) p
 
 -- ---- answers
-
--- the number n of `error n` (two digits) or `refused n` (one)
-abbrev pub numeral : ℕ → List ℕ
-numeral n = cond (ltb n 10) ((48 + n) ∷ []) (twoDigits n)
-
--- the characters that the first octets of a buffer are
-abbrev pub textIn : ℕ → List ℕ → List ℕ
-textIn count buffer = unpacked (take count buffer)
-
--- what follows the letter: "the reply text"; "addressee, notice"; "`D delivered`, `D dropped` or `D again`"; "Otherwise `error n` or `refused n`"
-abbrev pub said : Answer → List ℕ → List ℕ
-said (refusal n) buffer = ascii "refused " ++ numeral n
-said (error n) buffer = ascii "error " ++ numeral n
-said (outcome n count) buffer = textIn count buffer
-said (holder msisdn count) buffer = textIn count buffer
-said (sent addressee count) buffer = digitsOf addressee ++ (space ∷ textIn count buffer)
-said delivered buffer = ascii "delivered"
-said dropped buffer = ascii "dropped"
-said again buffer = ascii "again"
-said (found n) buffer = []
-said noneDue buffer = []
 
 -- an answer to an `R`, `T` or `D`, which ends the filling
 abbrev pub answered : ℕ → Outcome → Program → Effect

@@ -1,27 +1,24 @@
 // What a line of the program comes to: its form is read, carried out over the lent table and list, and what it prints is written.
 use answers::Written;
-use node::RequestAnswer;
-use node::ResultAnswer;
-use node::SendingAnswer;
+use forms::Line;
 use numbers::FunctionalNumber;
 use numbers::Msisdn;
-use numbers::NumberRead;
 use records::ROW_WORDS;
 ghost use mathlib.Core.Path.{_≡_};
 ghost use mathlib.Core.Bool.{true};
-ghost use mathlib.Core.List.{List, [], _∷_, _++_};
-ghost use Prim.Native.Nat.{ℕ, _+_, _*_, _^_, _≤_, _<_};
+ghost use mathlib.Core.List.{List, _++_};
+ghost use Prim.Native.Nat.{ℕ, _+_, _*_, _≤_, _<_};
 ghost use lib.ListN.{length, take, set};
-ghost use Rattle.packing.specs.Packing.{octetsFor, charsIn, readable, unpacked};
-ghost use Rattle.numbers.specs.Numbers.{isNumber, digitsOf};
+ghost use Rattle.packing.specs.Packing.{octetsFor};
 ghost use Rattle.records.specs.Rows.{rowWords};
 ghost use Rattle.tables.specs.Tables.{mostNumbers, subscriberWords, mostSubscribers};
 ghost use Rattle.rules.specs.Notices as notices;
-ghost use Rattle.node.specs.Said.{saidRequest, saidSending, saidResult};
-ghost use Rattle.bytes.specs.Bytes.{indexOf};
-ghost use Rattle.lines.specs.Lines.{lineFeed, space, isDigits, numberOf, askedOf, valueBelow, numberForm, subscriberForm, requestForm, sendingForm, resultAt, resultForm, lettered};
-ghost use Rattle.lines.specs.Program.{questioned, lastKey, mayFollow, numbered, subscribed, numeral, said, buffer, asked, requested, dispatched, reported, effectOf, lineEffect};
-ghost use Rattle.lines.specs.Memory.{valueIn, formIn, startIn, Reads, Put, Printable, answerRoom, held, Stands, lineRoom, Did, Answered, ending, packedRoom, Lent, ran, running};
+ghost use Rattle.forms.specs.Lines.{lineFeed};
+ghost use Rattle.lines.specs.Program.{questioned, lastKey, mayFollow, numbered, subscribed, buffer, asked, requested, dispatched, reported, effectOf, lineEffect};
+ghost use Rattle.forms.specs.Reads.{formIn, startIn};
+ghost use Rattle.answers.specs.Writing.{Stands};
+ghost use Rattle.replies.specs.Replies.{answerRoom};
+ghost use Rattle.lines.specs.Memory.{held, Fits, lineRoom, Did, Answered, ending, packedRoom, Lent, ran, running};
 
 // At most so many numbers and subscribers, in rows of six and of two words.
 const MOST_NUMBERS: usize = 1024;
@@ -38,11 +35,6 @@ const CODING_SCHEME: u8 = 0x0F;
 // Room for the octets of a string as long as the longest input, packed.
 const PACKED_ROOM: usize = 57_344;
 
-// Flags, and now and kind, are below these.
-const FLAGS: u64 = 4;
-
-const SECONDS: u64 = 4_294_967_296;
-
 // How many rows of the lent table and list are in use, and whether they are still being filled.
 struct State {
     numbers: usize,
@@ -54,306 +46,6 @@ struct State {
 struct Done {
     state: State,
     printed: usize,
-}
-
-// The form of a line behind its letter, with the values of its fields; a string by where it starts.
-enum Line {
-    Number(FunctionalNumber),
-    Subscriber(Msisdn, u8),
-    Request(Msisdn, usize),
-    Sending(u32, FunctionalNumber),
-    Result(u32, FunctionalNumber, u32),
-    Other,
-}
-
-// What a field of digits is read as, or that the line cannot have it.
-enum FieldRead {
-    Value(u64),
-    Unreadable,
-}
-
-// Where an octet first stands in a part; the part's length where it does not.
-fn place_of(octet: u8, part: &[u8]) -> usize
-    ensures { λ r. ⌜ (r ≡ indexOf octet (now (part .entry))) × (r ≤ length (now (part .entry))) ⌝ }
-{
-    bytes::scan::find(part, 0, part.len(), octet)
-}
-
-// Whether a field is digits, at least one.
-fn is_digits(field: &[u8]) -> bool
-    ensures { λ r. ⌜ r ≡ isDigits (now (field .entry)) ⌝ }
-{
-    if field.len() == 0 {
-        return false;
-    }
-    let mut i = 0;
-    while i < field.len() {
-        let c = field[i];
-        if !((b'0' <= c) & (c <= b'9')) {
-            return false;
-        }
-        i += 1;
-    }
-    true
-}
-
-// The value of a field of digits, which has to be below the limit.
-fn value_below(field: &[u8], limit: u64) -> FieldRead
-    requires { ⌜ (0 < limit) × (limit ≤ 2 ^ 32) ⌝ }
-    ensures { λ r. ⌜ valueIn r ≡ valueBelow limit (now (field .entry)) ⌝ }
-{
-    if !is_digits(field) {
-        return FieldRead::Unreadable;
-    }
-    let mut value: u64 = 0;
-    let mut i = 0;
-    while i < field.len() {
-        value = 10 * value + (field[i] - b'0') as u64;
-        if limit <= value {
-            return FieldRead::Unreadable;
-        }
-        i += 1;
-    }
-    FieldRead::Value(value)
-}
-
-// A number of `N` or `S`, in stored form.
-fn number_of(field: &[u8]) -> FieldRead
-    ensures { λ r. ⌜ valueIn r ≡ numberOf (now (field .entry)) ⌝ }
-{
-    if !is_digits(field) {
-        return FieldRead::Unreadable;
-    }
-    match numbers::read_number(field) {
-        NumberRead::Number(word, _) => FieldRead::Value(word),
-        NumberRead::Unreadable => FieldRead::Unreadable,
-    }
-}
-
-// A number of `R`, `T` or `D`, in stored form; 0 where it has not 5 to 15 digits.
-fn asked_of(field: &[u8]) -> FieldRead
-    ensures { λ r. ⌜ valueIn r ≡ askedOf (now (field .entry)) ⌝ }
-{
-    if !is_digits(field) {
-        return FieldRead::Unreadable;
-    }
-    match numbers::read_number(field) {
-        NumberRead::Number(word, _) => FieldRead::Value(word),
-        NumberRead::Unreadable => FieldRead::Value(0),
-    }
-}
-
-// `N` number.
-fn read_number(rest: &[u8]) -> Line
-    ensures { λ r. ⌜ Reads (now (rest .entry)) r (numberForm (now (rest .entry))) ⌝ }
-{
-    let field = number_of(rest);
-    let FieldRead::Value(word) = field else {
-        return Line::Other;
-    };
-    Line::Number(FunctionalNumber(word))
-}
-
-// `S` MSISDN flags.
-fn read_subscriber(rest: &[u8]) -> Line
-    ensures { λ r. ⌜ Reads (now (rest .entry)) r (subscriberForm (now (rest .entry))) ⌝ }
-{
-    let end = place_of(b' ', rest);
-    if end == rest.len() {
-        return Line::Other;
-    }
-    let next = end + 1;
-    let field = number_of(&rest[..end]);
-    let FieldRead::Value(word) = field else {
-        return Line::Other;
-    };
-    let last = value_below(&rest[next..], FLAGS);
-    let FieldRead::Value(flags) = last else {
-        return Line::Other;
-    };
-    Line::Subscriber(Msisdn(word), flags as u8)
-}
-
-// `R` requester string.
-fn read_request(rest: &[u8]) -> Line
-    ensures { λ r. ⌜ Reads (now (rest .entry)) r (requestForm (now (rest .entry))) ⌝ }
-{
-    let end = place_of(b' ', rest);
-    if end == rest.len() {
-        return Line::Other;
-    }
-    let field = asked_of(&rest[..end]);
-    let FieldRead::Value(word) = field else {
-        return Line::Other;
-    };
-    Line::Request(Msisdn(word), end + 1)
-}
-
-// `T` now number.
-fn read_sending(rest: &[u8]) -> Line
-    ensures { λ r. ⌜ Reads (now (rest .entry)) r (sendingForm (now (rest .entry))) ⌝ }
-{
-    let end = place_of(b' ', rest);
-    if end == rest.len() {
-        return Line::Other;
-    }
-    let next = end + 1;
-    let field = value_below(&rest[..end], SECONDS);
-    let FieldRead::Value(clock) = field else {
-        return Line::Other;
-    };
-    let last = asked_of(&rest[next..]);
-    let FieldRead::Value(word) = last else {
-        return Line::Other;
-    };
-    Line::Sending(clock as u32, FunctionalNumber(word))
-}
-
-// Number and kind of a `D`, behind its now.
-fn read_result_at(clock: u32, rest: &[u8]) -> Line
-    ensures { λ r. ⌜ ((line : List ℕ) → Reads line r (resultAt clock (now (rest .entry)))) ⌝ }
-{
-    let end = place_of(b' ', rest);
-    if end == rest.len() {
-        return Line::Other;
-    }
-    let next = end + 1;
-    let field = asked_of(&rest[..end]);
-    let FieldRead::Value(word) = field else {
-        return Line::Other;
-    };
-    let last = value_below(&rest[next..], SECONDS);
-    let FieldRead::Value(kind) = last else {
-        return Line::Other;
-    };
-    Line::Result(clock, FunctionalNumber(word), kind as u32)
-}
-
-// `D` now number kind.
-fn read_result(rest: &[u8]) -> Line
-    ensures { λ r. ⌜ Reads (now (rest .entry)) r (resultForm (now (rest .entry))) ⌝ }
-{
-    let end = place_of(b' ', rest);
-    if end == rest.len() {
-        return Line::Other;
-    }
-    let next = end + 1;
-    let field = value_below(&rest[..end], SECONDS);
-    let FieldRead::Value(clock) = field else {
-        return Line::Other;
-    };
-    read_result_at(clock as u32, &rest[next..])
-}
-
-// The form of a line by its letter.
-fn read_form(letter: u8, rest: &[u8]) -> Line
-    ensures { λ r. ⌜ Reads (now (rest .entry)) r (lettered letter (now (rest .entry))) ⌝ }
-{
-    match letter {
-        b'N' => read_number(rest),
-        b'S' => read_subscriber(rest),
-        b'R' => read_request(rest),
-        b'T' => read_sending(rest),
-        b'D' => read_result(rest),
-        _ => Line::Other,
-    }
-}
-
-// Writes characters over the front of a part.
-fn put(text: &[u8], out: &mut [u8]) -> usize
-    requires { ⌜ length (now text) ≤ length (now out) ⌝ }
-    ensures { λ r. ⌜ Put (now (text .entry)) (now (out .entry)) (now (out .exit)) r ⌝ }
-{
-    bytes::copy(text, out)
-}
-
-// Writes the number of an error or a refusal.
-fn put_numeral(n: u8, out: &mut [u8]) -> usize
-    requires { ⌜ 2 ≤ length (now out) ⌝ }
-    ensures { λ r. ⌜ Put (numeral n) (now (out .entry)) (now (out .exit)) r ⌝ }
-{
-    if n < 10 {
-        out[0] = b'0' + n;
-        return 1;
-    }
-    out[0] = b'0' + n / 10;
-    out[1] = b'0' + n % 10;
-    2
-}
-
-// Writes `error ` or `refused ` and the number.
-fn put_numbered(words: &[u8], n: u8, out: &mut [u8]) -> usize
-    requires { ⌜ length (now words) + 2 ≤ length (now out) ⌝ }
-    ensures { λ r. ⌜ Put (now (words .entry) ++ numeral n) (now (out .entry)) (now (out .exit)) r ⌝ }
-{
-    let at = put(words, out);
-    at + put_numeral(n, &mut out[at..])
-}
-
-// Writes the characters that readable octets are.
-fn put_text(octets: &[u8], out: &mut [u8]) -> usize
-    requires { ⌜ (readable (now octets) ≡ true) × (charsIn (length (now octets)) ≤ length (now out)) ⌝ }
-    ensures { λ r. ⌜ Put (unpacked (now (octets .entry))) (now (out .entry)) (now (out .exit)) r ⌝ }
-{
-    let written = packing::unpack(octets, out);
-    let Written::Count(n) = written else {
-        return 0;
-    };
-    n
-}
-
-// Writes an addressee's digits and the space behind them.
-fn put_addressee(addressee: Msisdn, out: &mut [u8]) -> usize
-    requires { ⌜ (isNumber (addressee .0) ≡ true) × (16 ≤ length (now out)) ⌝ }
-    ensures { λ r. ⌜ Put (digitsOf (addressee .0) ++ (space ∷ [])) (now (out .entry)) (now (out .exit)) r ⌝ }
-{
-    let written = numbers::write_digits(addressee.0, out);
-    let Written::Count(at) = written else {
-        return 0;
-    };
-    at + put(b" ", &mut out[at..])
-}
-
-// Writes what follows an `R`.
-fn put_request_answer(answer: RequestAnswer, reply: &[u8], out: &mut [u8]) -> usize
-    requires { ⌜ Printable (saidRequest answer) (now reply) ⌝ }
-    requires { ⌜ answerRoom ≤ length (now out) ⌝ }
-    ensures { λ r. ⌜ Put (said (saidRequest answer) (now (reply .entry))) (now (out .entry)) (now (out .exit)) r ⌝ }
-{
-    match answer {
-        RequestAnswer::Refused(n) => put_numbered(b"refused ", n, out),
-        RequestAnswer::Error(n) => put_numbered(b"error ", n, out),
-        RequestAnswer::Outcome(_, count) => put_text(&reply[..count], out),
-        RequestAnswer::Held(_, count) => put_text(&reply[..count], out),
-    }
-}
-
-// Writes what follows a `T`.
-fn put_sending_answer(answer: SendingAnswer, notice: &[u8], out: &mut [u8]) -> usize
-    requires { ⌜ Printable (saidSending answer) (now notice) ⌝ }
-    requires { ⌜ answerRoom ≤ length (now out) ⌝ }
-    ensures { λ r. ⌜ Put (said (saidSending answer) (now (notice .entry))) (now (out .entry)) (now (out .exit)) r ⌝ }
-{
-    match answer {
-        SendingAnswer::Refused(n) => put_numbered(b"refused ", n, out),
-        SendingAnswer::Sent(addressee, count) => {
-            let at = put_addressee(addressee, out);
-            at + put_text(&notice[..count], &mut out[at..])
-        }
-    }
-}
-
-// Writes what follows a `D`.
-fn put_result_answer(answer: ResultAnswer, out: &mut [u8]) -> usize
-    requires { ⌜ answerRoom ≤ length (now out) ⌝ }
-    ensures { λ r. ⌜ Put (said (saidResult answer) []) (now (out .entry)) (now (out .exit)) r ⌝ }
-{
-    match answer {
-        ResultAnswer::Refused(n) => put_numbered(b"refused ", n, out),
-        ResultAnswer::Delivered => put(b"delivered", out),
-        ResultAnswer::Dropped => put(b"dropped", out),
-        ResultAnswer::Again => put(b"again", out),
-    }
 }
 
 // The first word of the last row, in rows of `width` words; 0 where there is none.
@@ -384,7 +76,7 @@ fn may_follow(width: usize, most: usize, key: u64, words: &[u64]) -> bool
 // Puts a row behind the words in use.
 fn append(row: &[u64], used: usize, words: &mut [u64])
     requires { ⌜ used + length (now row) ≤ length (now words) ⌝ }
-    ensures { λ _. ⌜ Put (take used (now (words .entry)) ++ now (row .entry)) (now (words .entry)) (now (words .exit)) (used + length (now (row .entry))) ⌝ }
+    ensures { λ _. ⌜ Stands (take used (now (words .entry)) ++ now (row .entry)) (now (words .entry)) (used + length (now (row .entry))) (now (words .exit)) ⌝ }
 {
     let mut i = 0;
     while i < row.len() {
@@ -396,9 +88,9 @@ fn append(row: &[u64], used: usize, words: &mut [u64])
 // Any other line.
 fn question(state: State, out: &mut [u8]) -> Done
     requires { ⌜ lineRoom ≤ length (now out) ⌝ }
-    ensures { λ r. ⌜ ((table list : List ℕ) → Stands state table list → Did (questioned (held state table list)) state table list (now (out .entry)) r table list (now (out .exit))) ⌝ }
+    ensures { λ r. ⌜ ((table list : List ℕ) → Fits state table list → Did (questioned (held state table list)) state table list (now (out .entry)) r table list (now (out .exit))) ⌝ }
 {
-    let printed = put(b"?\n", out);
+    let printed = writers::put(b"?\n", out);
     Done { state, printed }
 }
 
@@ -406,7 +98,7 @@ fn question(state: State, out: &mut [u8]) -> Done
 fn add_number(state: State, number: FunctionalNumber, table: &mut [u64], out: &mut [u8]) -> Done
     requires { ⌜ (rowWords * state .numbers ≤ length (now table)) × (rowWords * mostNumbers ≤ length (now table)) ⌝ }
     requires { ⌜ lineRoom ≤ length (now out) ⌝ }
-    ensures { λ r. ⌜ ((list : List ℕ) → Stands state (now (table .entry)) list → Did (numbered number (held state (now (table .entry)) list)) state (now (table .entry)) list (now (out .entry)) r (now (table .exit)) list (now (out .exit))) ⌝ }
+    ensures { λ r. ⌜ ((list : List ℕ) → Fits state (now (table .entry)) list → Did (numbered number (held state (now (table .entry)) list)) state (now (table .entry)) list (now (out .entry)) r (now (table .exit)) list (now (out .exit))) ⌝ }
 {
     let rows = state.numbers;
     let used = ROW_WORDS * rows;
@@ -433,7 +125,7 @@ fn add_number(state: State, number: FunctionalNumber, table: &mut [u64], out: &m
 fn add_subscriber(state: State, msisdn: Msisdn, flags: u8, list: &mut [u64], out: &mut [u8]) -> Done
     requires { ⌜ (subscriberWords * state .subscribers ≤ length (now list)) × (subscriberWords * mostSubscribers ≤ length (now list)) ⌝ }
     requires { ⌜ lineRoom ≤ length (now out) ⌝ }
-    ensures { λ r. ⌜ ((table : List ℕ) → Stands state table (now (list .entry)) → Did (subscribed msisdn flags (held state table (now (list .entry)))) state table (now (list .entry)) (now (out .entry)) r table (now (list .exit)) (now (out .exit))) ⌝ }
+    ensures { λ r. ⌜ ((table : List ℕ) → Fits state table (now (list .entry)) → Did (subscribed msisdn flags (held state table (now (list .entry)))) state table (now (list .entry)) (now (out .entry)) r table (now (list .exit)) (now (out .exit))) ⌝ }
 {
     let rows = state.subscribers;
     let used = SUBSCRIBER_WORDS * rows;
@@ -470,7 +162,7 @@ fn ask(
 {
     let written = packing::pack(string, packed);
     let Written::Count(n) = written else {
-        return put_numbered(b"refused ", 9, out);
+        return replies::put_numbered(b"refused ", 9, out);
     };
     let mut reply = [0u8; BUFFER_ROOM];
     let answer = node::request(
@@ -481,7 +173,7 @@ fn ask(
         CODING_SCHEME,
         &packed[..n],
     );
-    put_request_answer(answer, &reply, out)
+    replies::put_request_answer(answer, &reply, out)
 }
 
 // Sends the notice of a number, and writes what follows the `T`.
@@ -491,7 +183,7 @@ fn send(clock: u32, number: FunctionalNumber, table: &mut [u64], out: &mut [u8])
 {
     let mut notice = [0u8; BUFFER_ROOM];
     let answer = node::sending(table, &mut notice, number, 0, clock);
-    put_sending_answer(answer, &notice, out)
+    replies::put_sending_answer(answer, &notice, out)
 }
 
 // Reports the result of a sending, and writes what follows the `D`.
@@ -506,7 +198,7 @@ fn report(
     ensures { λ r. ⌜ Answered (notices.result (now (table .entry)) number kind clock) (now (table .exit)) (now (out .entry)) (now (out .exit)) r ⌝ }
 {
     let answer = node::result(table, number, kind, clock);
-    put_result_answer(answer, out)
+    replies::put_result_answer(answer, out)
 }
 
 // Ends a printed line with its line feed, and with it the filling.
@@ -536,13 +228,13 @@ fn request_line(
     packed: &mut [u8],
     out: &mut [u8],
 ) -> Done
-    requires { ⌜ Stands state (now table) (now list) ⌝ }
+    requires { ⌜ Fits state (now table) (now list) ⌝ }
     requires { ⌜ (octetsFor (length (now string)) ≤ length (now packed)) × (lineRoom ≤ length (now out)) ⌝ }
     ensures { λ r. ⌜ Did (requested requester (now (string .entry)) (held state (now (table .entry)) (now (list .entry)))) state (now (table .entry)) (now (list .entry)) (now (out .entry)) r (now (table .exit)) (now (list .entry)) (now (out .exit)) ⌝ }
 {
     let words = ROW_WORDS * state.numbers;
     let entries = SUBSCRIBER_WORDS * state.subscribers;
-    let at = put(b"R ", out);
+    let at = writers::put(b"R ", out);
     let n = ask(
         requester,
         string,
@@ -563,10 +255,10 @@ fn sending_line(
     out: &mut [u8],
 ) -> Done
     requires { ⌜ (rowWords * state .numbers ≤ length (now table)) × (lineRoom ≤ length (now out)) ⌝ }
-    ensures { λ r. ⌜ ((list : List ℕ) → Stands state (now (table .entry)) list → Did (dispatched clock number (held state (now (table .entry)) list)) state (now (table .entry)) list (now (out .entry)) r (now (table .exit)) list (now (out .exit))) ⌝ }
+    ensures { λ r. ⌜ ((list : List ℕ) → Fits state (now (table .entry)) list → Did (dispatched clock number (held state (now (table .entry)) list)) state (now (table .entry)) list (now (out .entry)) r (now (table .exit)) list (now (out .exit))) ⌝ }
 {
     let words = ROW_WORDS * state.numbers;
-    let at = put(b"T ", out);
+    let at = writers::put(b"T ", out);
     let n = send(clock, number, &mut table[..words], &mut out[at..]);
     end_line(state, at + n, out)
 }
@@ -581,10 +273,10 @@ fn result_line(
     out: &mut [u8],
 ) -> Done
     requires { ⌜ (rowWords * state .numbers ≤ length (now table)) × (lineRoom ≤ length (now out)) ⌝ }
-    ensures { λ r. ⌜ ((list : List ℕ) → Stands state (now (table .entry)) list → Did (reported clock number kind (held state (now (table .entry)) list)) state (now (table .entry)) list (now (out .entry)) r (now (table .exit)) list (now (out .exit))) ⌝ }
+    ensures { λ r. ⌜ ((list : List ℕ) → Fits state (now (table .entry)) list → Did (reported clock number kind (held state (now (table .entry)) list)) state (now (table .entry)) list (now (out .entry)) r (now (table .exit)) list (now (out .exit))) ⌝ }
 {
     let words = ROW_WORDS * state.numbers;
-    let at = put(b"D ", out);
+    let at = writers::put(b"D ", out);
     let n = report(clock, number, kind, &mut table[..words], &mut out[at..]);
     end_line(state, at + n, out)
 }
@@ -599,7 +291,7 @@ fn carry_out(
     packed: &mut [u8],
     out: &mut [u8],
 ) -> Done
-    requires { ⌜ (startIn line ≤ length (now rest)) × Stands state (now table) (now list) ⌝ }
+    requires { ⌜ (startIn line ≤ length (now rest)) × Fits state (now table) (now list) ⌝ }
     requires { ⌜ (octetsFor (length (now rest)) ≤ length (now packed)) × (lineRoom ≤ length (now out)) ⌝ }
     ensures { λ r. ⌜ Did (effectOf (formIn (now (rest .entry)) line) (held state (now (table .entry)) (now (list .entry)))) state (now (table .entry)) (now (list .entry)) (now (out .entry)) r (now (table .exit)) (now (list .exit)) (now (out .exit)) ⌝ }
 {
@@ -624,7 +316,7 @@ fn do_line(
     packed: &mut [u8],
     out: &mut [u8],
 ) -> Done
-    requires { ⌜ Stands state (now table) (now list) ⌝ }
+    requires { ⌜ Fits state (now table) (now list) ⌝ }
     requires { ⌜ (octetsFor (length (now line)) ≤ length (now packed)) × (lineRoom ≤ length (now out)) ⌝ }
     ensures { λ r. ⌜ Did (lineEffect (now (line .entry)) (held state (now (table .entry)) (now (list .entry)))) state (now (table .entry)) (now (list .entry)) (now (out .entry)) r (now (table .exit)) (now (list .exit)) (now (out .exit)) ⌝ }
 {
@@ -635,7 +327,7 @@ fn do_line(
         return question(state, out);
     }
     let rest = &line[2..];
-    let form = read_form(line[0], rest);
+    let form = forms::read_form(line[0], rest);
     carry_out(form, rest, state, table, list, packed, out)
 }
 
@@ -659,7 +351,7 @@ fn run_lines(
     let mut n = 0;
     while at < input.len() {
         let rest = &input[at..];
-        let end = place_of(b'\n', rest);
+        let end = forms::place_of(b'\n', rest);
         let done = do_line(&rest[..end], state, table, list, packed, &mut out[n..]);
         let next = done.state;
         state = next;

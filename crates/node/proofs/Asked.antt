@@ -21,7 +21,8 @@ use Rattle.rules.specs.Requests.{hasFollowMe, isForced, isSupervisor, refusalCh
 use Rattle.rules.specs.Calls.{anyHolds}
 use Rattle.rules.proofs.Visits.{request-visits, request-misses}
 use Rattle.rules.specs.Visits.{storing, decided}
-use Rattle.node.specs.Asked.{deciding, asked}
+use Rattle.visits.specs.Deciding.{deciding}
+use Rattle.node.specs.Asked.{asked}
 
 module _ (t : List ℕ) (flags : ℕ) (b : List ℕ) (q : Msisdn) (f : Request) (found : Found) (sound : (i : ℕ) → found ≡ At i → rowSound t i ≡ true) (said : Answer) (after : List ℕ) where
   -- the outcome n, with the table as it was

@@ -3,15 +3,15 @@ use mathlib.Core.Path.{_≡_, refl, sym, ap, _∙_}
 use mathlib.Core.List.{List}
 use Prim.Native.Nat.{ℕ}
 use Rattle.rules.specs.Answers.{Answer, refusal, error, outcome, holder, sent, delivered, dropped, again, found, noneDue, Outcome, made}
-use Rattle.node.specs.Said.{saidRequest, saidSending, saidResult, saidFinding}
-use Rattle.node.specs.declared.RequestAnswer.{RequestAnswer}
-use Rattle.node.specs.declared.RequestAnswer.the-variants as request
-use Rattle.node.specs.declared.SendingAnswer.{SendingAnswer}
-use Rattle.node.specs.declared.SendingAnswer.the-variants as sending
-use Rattle.node.specs.declared.ResultAnswer.{ResultAnswer}
-use Rattle.node.specs.declared.ResultAnswer.the-variants as result
-use Rattle.node.specs.declared.FindingAnswer.{FindingAnswer}
-use Rattle.node.specs.declared.FindingAnswer.the-variants as finding
+use Rattle.visits.specs.Said.{saidRequest, saidSending, saidResult, saidFinding}
+use Rattle.visits.specs.declared.RequestAnswer.{RequestAnswer}
+use Rattle.visits.specs.declared.RequestAnswer.the-variants as request
+use Rattle.visits.specs.declared.SendingAnswer.{SendingAnswer}
+use Rattle.visits.specs.declared.SendingAnswer.the-variants as sending
+use Rattle.visits.specs.declared.ResultAnswer.{ResultAnswer}
+use Rattle.visits.specs.declared.ResultAnswer.the-variants as result
+use Rattle.visits.specs.declared.FindingAnswer.{FindingAnswer}
+use Rattle.visits.specs.declared.FindingAnswer.the-variants as finding
 
 -- what can be read back from what was said is told apart by it
 module _ {X : Type 0} (said : X → Answer) (unsaid : Answer → X) (back : (x : X) → unsaid (said x) ≡ x) where

@@ -1,7 +1,4 @@
--- `Choice`: no contract of the four calls leaves a choice. `Checks`: what a call comes to at each of its checks.
+-- `Choice`: no contract of the four calls leaves a choice. `Checks`: what a call comes to at each of its checks. `Asked`: the same once the string was read.
 pub mod Choice
 pub mod Checks
-pub mod Texts
-pub mod Placed
 pub mod Asked
-pub mod Due

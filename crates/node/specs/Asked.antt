@@ -1,19 +1,14 @@
 -- What a request comes to once its string was read. Assumes nothing.
 use Prim.Native.Nat.{ℕ}
 use mathlib.Core.Option.{some}
-use mathlib.Core.List.{List, []}
+use mathlib.Core.List.{List}
 use Rattle.numbers.specs.declared.Msisdn.{Msisdn}
-use Rattle.strings.specs.declared.Fields.{Fields}
 use Rattle.strings.specs.Text.{Request}
 use Rattle.records.specs.Rows.{recordAt}
 use Rattle.tables.specs.declared.Found.{Found}
 use Rattle.tables.specs.declared.Found.the-variants.{At, Nothing}
 use Rattle.rules.specs.Answers.{Outcome}
 use Rattle.rules.specs.Visits.{storing, leaving, visitRequest, missedRequest}
-
--- the fields that decide; the additional field's "content is ignored"
-abbrev pub deciding : Fields → Request
-deciding f = record { operation = f .operation; number = f .number; erasing = f .erasing; additional = [] }
 
 -- a request whose string was read, by the row of its number
 abbrev pub asked : List ℕ → ℕ → List ℕ → Msisdn → Request → Found → Outcome

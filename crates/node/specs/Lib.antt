@@ -1,3 +1,2 @@
--- `Said`: the paper's class, number and values for each case of an answer.
-pub mod Said
+-- `Asked`: what a request comes to once its string was read.
 pub mod Asked

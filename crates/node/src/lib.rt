@@ -1,62 +1,27 @@
 // The four calls of the node over lent memory: a request, a sending, a result and a finding, each equal to document 01's rules for every input.
-use answers::Written;
 use numbers::FunctionalNumber;
 use numbers::Msisdn;
-use records::Holder;
-use records::Record;
-use records::Resulted;
-use records::Step;
 use strings::Erasing;
 use strings::Fields;
-use strings::Operation;
 use strings::Reading;
 use tables::Found;
+use visits::FindingAnswer;
+use visits::RequestAnswer;
+use visits::ResultAnswer;
+use visits::SendingAnswer;
 ghost use mathlib.Core.Path.{_≡_};
 ghost use mathlib.Core.Bool.{true, not, _&&_};
 ghost use mathlib.Core.List.{[]};
-ghost use Prim.Native.Nat.{_≤_, _<_};
+ghost use Prim.Native.Nat.{_≤_};
 ghost use lib.ListN.{length};
-ghost use Rattle.packing.specs.Packing.{takes, octetsFor};
-ghost use Rattle.numbers.specs.Numbers.{isNumber};
-ghost use Rattle.records.specs.Steps.{interrogated, sent, isDue};
-ghost use Rattle.records.specs.Rows.{recordAt, rowSound, recordSound};
-ghost use Rattle.tables.specs.Tables.{tableSound, listSound, rowsIn, rowOf, flagsOf};
-ghost use Rattle.rules.specs.Answers.{made, outcome, holder, bufferRoom, over, octetCount, twoDigits, holderText};
+ghost use Rattle.tables.specs.Tables.{tableSound, listSound, rowOf, flagsOf};
+ghost use Rattle.rules.specs.Answers.{made, bufferRoom};
 ghost use Rattle.rules.specs.Requests.{isForced, isSupervisor};
 ghost use Rattle.rules.specs.Requests as requests;
 ghost use Rattle.rules.specs.Notices as notices;
-ghost use Rattle.rules.specs.Visits.{visited, storing, stepped, told, erases, decided, sentStep, visitResult};
-ghost use Rattle.node.specs.Asked.{deciding, asked};
-ghost use Rattle.node.specs.Said.{saidRequest, saidSending, saidResult, saidFinding};
-
-// The answer to a request: a refusal, an error or an outcome by its number, an outcome with its octet count; 03 with the holder.
-pub enum RequestAnswer {
-    Refused(u8),
-    Error(u8),
-    Outcome(u8, usize),
-    Held(Msisdn, usize),
-}
-
-// The answer to a sending: a refusal by its number, or the addressee and the notice's octet count.
-pub enum SendingAnswer {
-    Refused(u8),
-    Sent(Msisdn, usize),
-}
-
-// The answer to a result: a refusal by its number, or what became of the notice.
-pub enum ResultAnswer {
-    Refused(u8),
-    Delivered,
-    Dropped,
-    Again,
-}
-
-// The answer to a finding: a refusal by its number, or the lowest due number, if one is due.
-pub enum FindingAnswer {
-    Refused(u8),
-    Due(FunctionalNumber),
-    NoneDue,
-}
+ghost use Rattle.visits.specs.Deciding.{deciding};
+ghost use Rattle.node.specs.Asked.{asked};
+ghost use Rattle.visits.specs.Said.{saidRequest, saidSending, saidResult, saidFinding};
 
 // Reply and notice buffers have at least so many octets.
 const BUFFER_ROOM: usize = 80;
@@ -66,109 +31,6 @@ const MOST_STRING_OCTETS: usize = 160;
 
 // The data coding scheme of a request's string.
 const CODING_SCHEME: u8 = 0x0F;
-
-// Packs a text that the packer takes into a buffer that has room for it.
-fn put(text: &[u8], out: &mut [u8]) -> usize
-    requires { ⌜ (takes (now text) ≡ true) × (octetsFor (length (now text)) ≤ length (now out)) ⌝ }
-    ensures { λ r. ⌜ (r ≡ octetCount (now (text .entry))) × (now (out .exit) ≡ over (now (text .entry)) (now (out .entry))) ⌝ }
-{
-    let written = packing::pack(text, out);
-    match written {
-        Written::Count(n) => n,
-        Written::TooShort => 0,
-        Written::Unfit => 0,
-    }
-}
-
-// An outcome: its two characters in the reply.
-fn say(n: u8, reply: &mut [u8]) -> RequestAnswer
-    requires { ⌜ bufferRoom ≤ length (now reply) ⌝ }
-    ensures { λ r. ⌜ (saidRequest r ≡ outcome n (octetCount (twoDigits n))) × (now (reply .exit) ≡ over (twoDigits n) (now (reply .entry))) ⌝ }
-{
-    let text = [48 + n / 10, 48 + n % 10];
-    let octets = put(&text, reply);
-    RequestAnswer::Outcome(n, octets)
-}
-
-// Outcome 03: the holder's digits after the code and the space.
-fn tell(msisdn: Msisdn, reply: &mut [u8]) -> RequestAnswer
-    requires { ⌜ (isNumber (msisdn .0) ≡ true) × (bufferRoom ≤ length (now reply)) ⌝ }
-    ensures { λ r. ⌜ (saidRequest r ≡ holder (msisdn .0) (octetCount (holderText (msisdn .0)))) × (now (reply .exit) ≡ over (holderText (msisdn .0)) (now (reply .entry))) ⌝ }
-{
-    let mut text = [32u8; 18];
-    text[0] = 48;
-    text[1] = 51;
-    let written = numbers::write_digits(msisdn.0, &mut text[3..]);
-    let Written::Count(n) = written else {
-        return RequestAnswer::Held(msisdn, 0);
-    };
-    let octets = put(&text[..n + 3], reply);
-    RequestAnswer::Held(msisdn, octets)
-}
-
-// A step of the record of a row: what stays answers by its own number, what becomes the next record by `success`.
-fn settle(table: &mut [u64], row: usize, reply: &mut [u8], success: u8, step: Step) -> RequestAnswer
-    requires { ⌜ (row < rowsIn (now table)) × (rowSound (now table) row ≡ true) × (bufferRoom ≤ length (now reply)) ⌝ }
-    ensures { λ r. ⌜ made (saidRequest r) (now (table .exit)) (now (reply .exit)) ≡ storing (now (table .entry)) row (stepped success (now (reply .entry)) (recordAt (now (table .entry)) row) step) ⌝ }
-{
-    match step {
-        Step::Stays(n) => say(n, reply),
-        Step::Becomes(next) => {
-            records::store(table, row, next);
-            say(success, reply)
-        }
-    }
-}
-
-// An erasure, plain or forced.
-fn erasure(held: Record, erasing: Erasing, requester: Msisdn) -> Step
-    ensures { λ r. ⌜ r ≡ erases erasing requester held ⌝ }
-{
-    match erasing {
-        Erasing::Empty => held.erase(requester),
-        Erasing::Forced(msisdn) => held.force(requester, msisdn),
-    }
-}
-
-// What an interrogation of a sound record found.
-fn answer_holder(held: Record, reply: &mut [u8]) -> RequestAnswer
-    requires { ⌜ (recordSound held ≡ true) × (bufferRoom ≤ length (now reply)) ⌝ }
-    ensures { λ r. ⌜ visited (saidRequest r) (now (reply .exit)) held ≡ told (now (reply .entry)) held (interrogated held) ⌝ }
-{
-    let found = held.interrogate();
-    match found {
-        Holder::Stays(n) => say(n, reply),
-        Holder::Held(msisdn) => tell(msisdn, reply),
-    }
-}
-
-// What the record of a row decides, by the operation.
-fn decide_at(
-    table: &mut [u64],
-    row: usize,
-    reply: &mut [u8],
-    requester: Msisdn,
-    fields: Fields,
-) -> RequestAnswer
-    requires { ⌜ (row < rowsIn (now table)) × (rowSound (now table) row ≡ true) × (bufferRoom ≤ length (now reply)) ⌝ }
-    ensures { λ r. ⌜ made (saidRequest r) (now (table .exit)) (now (reply .exit)) ≡ storing (now (table .entry)) row (decided (deciding fields) requester (now (reply .entry)) (recordAt (now (table .entry)) row)) ⌝ }
-{
-    let record = records::load(table, row);
-    let operation = fields.operation;
-    let number = fields.number;
-    let erasing = fields.erasing;
-    match operation {
-        Operation::Register => {
-            let step = record.register(number, requester);
-            settle(table, row, reply, 1, step)
-        }
-        Operation::Erase => {
-            let step = erasure(record, erasing, requester);
-            settle(table, row, reply, 2, step)
-        }
-        Operation::Interrogate => answer_holder(record, reply),
-    }
-}
 
 // A forced erasure without the supervisor's flag.
 fn is_forbidden(erasing: Erasing, flags: u64) -> bool
@@ -195,16 +57,16 @@ fn ask(
     let number = fields.number;
     let flags = tables::flags_of(list, requester);
     if flags % 2 != 1 {
-        return say(42, reply);
+        return visits::say(42, reply);
     }
     if is_forbidden(erasing, flags) {
-        return say(22, reply);
+        return visits::say(22, reply);
     }
     let found = tables::row_of(table, number);
     let Found::At(row) = found else {
-        return say(41, reply);
+        return visits::say(41, reply);
     };
-    decide_at(table, row, reply, requester, fields)
+    visits::decide_at(table, row, reply, requester, fields)
 }
 
 // A request: the checks with a refusal or an error, in document 01's order, and what its string asks for.
@@ -247,33 +109,6 @@ pub fn request(
     ask(table, list, reply, requester, fields)
 }
 
-// A sending of the notice of the record of a row.
-fn send_at(
-    table: &mut [u64],
-    row: usize,
-    buffer: &mut [u8],
-    number: FunctionalNumber,
-    delay: u32,
-    clock: u32,
-) -> SendingAnswer
-    requires { ⌜ (row < rowsIn (now table)) × (rowSound (now table) row ≡ true) ⌝ }
-    requires { ⌜ (isNumber (number .0) ≡ true) × (bufferRoom ≤ length (now buffer)) ⌝ }
-    ensures { λ r. ⌜ made (saidSending r) (now (table .exit)) (now (buffer .exit)) ≡ storing (now (table .entry)) row (sentStep number (now (buffer .entry)) (recordAt (now (table .entry)) row) (sent delay clock (recordAt (now (table .entry)) row))) ⌝ }
-{
-    let held = records::load(table, row);
-    let step = held.send(delay, clock);
-    match step {
-        Step::Stays(n) => SendingAnswer::Refused(n),
-        Step::Becomes(launched) => {
-            records::store(table, row, launched);
-            let addressee = held.addressee;
-            let supervisor = held.supervisor;
-            let octets = strings::write_notice(number, supervisor, buffer);
-            SendingAnswer::Sent(addressee, octets)
-        }
-    }
-}
-
 // A sending names a number.
 pub fn sending(
     table: &mut [u64],
@@ -297,31 +132,7 @@ pub fn sending(
     let Found::At(row) = found else {
         return SendingAnswer::Refused(7);
     };
-    send_at(table, row, buffer, number, delay, clock)
-}
-
-// The result of a sending, for the notice of the record of a row.
-fn result_at(table: &mut [u64], row: usize, kind: u32, clock: u32) -> ResultAnswer
-    requires { ⌜ (row < rowsIn (now table)) × (rowSound (now table) row ≡ true) ⌝ }
-    ensures { λ r. ⌜ made (saidResult r) (now (table .exit)) [] ≡ storing (now (table .entry)) row (visitResult kind clock (recordAt (now (table .entry)) row)) ⌝ }
-{
-    let held = records::load(table, row);
-    let step = held.result(kind, clock);
-    match step {
-        Resulted::Refused(n) => ResultAnswer::Refused(n),
-        Resulted::Delivered(next) => {
-            records::store(table, row, next);
-            ResultAnswer::Delivered
-        }
-        Resulted::Dropped(next) => {
-            records::store(table, row, next);
-            ResultAnswer::Dropped
-        }
-        Resulted::Again(next) => {
-            records::store(table, row, next);
-            ResultAnswer::Again
-        }
-    }
+    visits::send_at(table, row, buffer, number, delay, clock)
 }
 
 // A result names a number and a kind.
@@ -338,34 +149,7 @@ pub fn result(table: &mut [u64], number: FunctionalNumber, kind: u32, clock: u32
     let Found::At(row) = found else {
         return ResultAnswer::Refused(7);
     };
-    result_at(table, row, kind, clock)
-}
-
-// Whether the notice in a sound row is due.
-fn row_due(table: &[u64], row: usize, delay: u32, clock: u32) -> bool
-    requires { ⌜ (row < rowsIn (now table)) × (rowSound (now table) row ≡ true) ⌝ }
-    ensures { λ r. ⌜ r ≡ isDue delay clock (recordAt (now (table .entry)) row .notice) ⌝ }
-{
-    let held = records::load(table, row);
-    let notice = held.notice;
-    records::is_due(delay, clock, notice)
-}
-
-// The lowest number whose notice is due.
-fn first_due(table: &[u64], delay: u32, clock: u32) -> FindingAnswer
-    requires { ⌜ tableSound (now table) ≡ true ⌝ }
-    ensures { λ r. ⌜ saidFinding r ≡ notices.firstDue (now (table .entry)) delay clock (rowsIn (now (table .entry))) 0 ⌝ }
-{
-    let rows = table.len() / records::ROW_WORDS;
-    let mut row = 0;
-    while row < rows {
-        if row_due(table, row, delay, clock) {
-            let number = FunctionalNumber(table[records::ROW_WORDS * row]);
-            return FindingAnswer::Due(number);
-        }
-        row += 1;
-    }
-    FindingAnswer::NoneDue
+    visits::result_at(table, row, kind, clock)
 }
 
 // The lowest due number, if one is due.
@@ -378,5 +162,5 @@ pub fn finding(table: &[u64], delay: u32, clock: u32) -> FindingAnswer
     if !records::delay_allowed(delay) {
         return FindingAnswer::Refused(6);
     }
-    first_due(table, delay, clock)
+    visits::first_due(table, delay, clock)
 }

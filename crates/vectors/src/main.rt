@@ -133,7 +133,7 @@ fn write_into(
     out: &mut [u8],
 ) {
     let number = FunctionalNumber(number);
-    let written = strings::write_request(operation, number, erasing, additional, out);
+    let written = writers::write_request(operation, number, erasing, additional, out);
     printing::title(title);
     put_written(written);
     put_octets(out, printing::count_of(written));

@@ -6,7 +6,6 @@ use lib.ListN.{length, length-set}
 use lib.Seq.{paste, paste-zero}
 use borrow.Author.Needs.{needs}
 use Rattle.lines.proofs.Memory.{append-more, append-done}
-use borrow.Author.Needs.{needs}
 use Rattle.lines.proofs.append.Statement.{statement}
 use Rattle.lines.proofs.append.Tie as tie
 

@@ -1,13 +1,12 @@
 -- `lines::ask` meets its contract. Assumes nothing.
 use mathlib.Core.Path.{_≡_, sym, _∙_}
-use native.Mathlib.Omega.{arith}
 use lib.ListN.{length}
 use lib.Seq.{length-take-le}
 use Rattle.answers.proofs.Writing.{Counted}
 use Rattle.packing.specs.Packing.{octetsFor, takes, packed}
 use Rattle.packing.proofs.Outcomes.{pack-count}
 use Rattle.rules.specs.Answers.{made}
-use Rattle.node.specs.Said.{saidRequest}
+use Rattle.visits.specs.Said.{saidRequest}
 use Rattle.lines.specs.Program.{asked}
 use Rattle.lines.proofs.Printing.{asked-replies}
 use Rattle.lines.proofs.Calls.{printable-by, answered-by, pack-fails, asked-unfit, asked-fit}

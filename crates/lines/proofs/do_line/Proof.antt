@@ -1,9 +1,7 @@
 -- `lines::do_line` meets its contract. Assumes nothing.
-use mathlib.Core.Path.{_≡_, sym, _∙_}
-use native.Mathlib.Omega.{arith}
 use Rattle.answers.proofs.Parts.{rest-of}
 use Rattle.lines.specs.Program.{lineEffect}
-use Rattle.lines.proofs.Places.{form-short, form-joined, form-lettered}
+use Rattle.forms.proofs.Places.{form-short, form-joined, form-lettered}
 use Rattle.lines.proofs.Calls.{octets-behind}
 use borrow.Author.Needs.{needs}
 use Rattle.lines.proofs.do_line.Statement.{statement}

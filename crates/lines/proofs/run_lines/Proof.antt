@@ -7,7 +7,7 @@ use lib.Seq.{length-take-le}
 use Rattle.answers.proofs.Parts.{rest-of}
 use Rattle.bytes.specs.Bytes.{indexOf}
 use Rattle.packing.specs.Packing.{octetsFor}
-use Rattle.lines.specs.Lines.{lineFeed}
+use Rattle.forms.specs.Lines.{lineFeed}
 use Rattle.lines.specs.Program.{lineEffect}
 use Rattle.lines.specs.Memory.{held, Did}
 use Rattle.lines.proofs.Running.{Run, run-start, so-far, printed-most, run-step, run-end}

@@ -1,0 +1,109 @@
+-- `forms::read_sending` meets its contract. Assumes nothing.
+use Prim.Native.Nat.{zero-le}
+use mathlib.Core.Path.{sym}
+use native.Mathlib.Omega.{arith}
+use lib.Seq.{length-take-le}
+use Rattle.forms.specs.Lines.{sendingForm}
+use Rattle.answers.proofs.Parts.{rest-of}
+use Rattle.forms.proofs.Places.{Split, split, unsplit}
+use Rattle.forms.proofs.Reading.{is-value, is-none, value-fits}
+use borrow.Author.Needs.{needs}
+use Rattle.forms.proofs.read_sending.Statement.{statement}
+use Rattle.forms.proofs.read_sending.Tie as tie
+
+-- the part, split at its first space
+parts : (c : tie.Else1) → Split (c .before .before .before .args .rest .now) (c .before .place-of .result)
+parts c = split _ _ (c .before .place-of .ensures) (c .if1 .left)
+
+place-of-requires : tie.Need-place-of-requires
+place-of-requires c κs = search needs
+
+returns : tie.Need-returns
+unfolding sendingForm
+returns c = record { form = rw (unsplit _ _ (c .before .place-of .ensures) (c .if1 .taken)); within = zero-le }
+
+add-next : tie.Need-add-next
+add-next c = search needs
+
+slice-aggregate-value-below : tie.Need-slice-aggregate-value-below
+slice-aggregate-value-below c = sym (length-take-le _ _ (c .before .before .place-of .ensures .1))
+
+value-below-requires : tie.Need-value-below-requires
+value-below-requires c κs = search needs
+
+enum-known-field : tie.Need-enum-known-field
+enum-known-field c = search needs
+
+enum-told : tie.Need-enum-told
+enum-told c = search needs
+
+returns-2 : tie.Need-returns-2
+unfolding sendingForm
+returns-2 c =
+    let a = c .before .before in
+    let p = parts (a .before .before) in
+    record { form = rw (p .behind, p .field, is-none _ (a .value-below .ensures) (c .enum-told .given .1)); within = zero-le }
+
+sub-asked-of : tie.Need-sub-asked-of
+sub-asked-of c = search needs
+
+part-asked-of-start : tie.Need-part-asked-of-start
+part-asked-of-start c = search needs
+
+part-asked-of-end : tie.Need-part-asked-of-end
+part-asked-of-end c = search needs
+
+asked-of-requires : tie.Need-asked-of-requires
+asked-of-requires c κs = search needs
+
+enum-known-last : tie.Need-enum-known-last
+enum-known-last c = search needs
+
+enum-told-2 : tie.Need-enum-told-2
+enum-told-2 c = search needs
+
+returns-3 : tie.Need-returns-3
+unfolding sendingForm
+returns-3 c =
+    let b = c .before .before in
+    let k = b .before .before in
+    let a = k .before .before .before in
+    let p = parts (a .before .before) in
+    record { form = rw (p .behind, p .field, is-value _ _ (a .value-below .ensures) (k .before .field .given .1), is-none _ (rw rest-of at (b .asked-of .ensures)) (c .enum-told2 .given .1)); within = zero-le }
+
+cast-t15 : tie.Need-cast-t15
+cast-t15 c =
+    let k = c .before .before .before .before .before in
+    let a = k .before .before .before in
+    omega (arith, value-fits _ _ _ (is-value _ _ (a .value-below .ensures) (k .before .field .given .1)))
+
+returns-4 : tie.Need-returns-4
+unfolding sendingForm
+returns-4 c =
+    let b = c .before .before .before in
+    let k = b .before .before in
+    let a = k .before .before .before in
+    let p = parts (a .before .before) in
+    record { form = rw (p .behind, p .field, is-value _ _ (a .value-below .ensures) (k .before .field .given .1), is-value _ _ (rw rest-of at (b .asked-of .ensures)) (c .before .last .given .1)); within = zero-le }
+
+pub read-sending-spec : {M : Type 1} → statement M
+read-sending-spec =
+    tie.close
+    (tie.spec
+    place-of-requires
+    returns
+    add-next
+    slice-aggregate-value-below
+    value-below-requires
+    enum-known-field
+    enum-told
+    returns-2
+    sub-asked-of
+    part-asked-of-start
+    part-asked-of-end
+    asked-of-requires
+    enum-known-last
+    enum-told-2
+    returns-3
+    cast-t15
+    returns-4)

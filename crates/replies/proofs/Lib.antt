@@ -1,0 +1,2 @@
+-- `Writing`: texts put over the front of a part.
+pub mod Writing

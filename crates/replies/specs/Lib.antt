@@ -1,0 +1,2 @@
+-- `Replies`: what follows a line's letter, and which answers can be printed.
+pub mod Replies

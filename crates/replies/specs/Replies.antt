@@ -1,0 +1,62 @@
+-- Document 01, "The program": what the program prints behind a line's letter. Assumes nothing.
+use mathlib.Core.Path.{_≡_}
+use Prim.Native.Nat.{ℕ, _+_, _≤_}
+use mathlib.Core.Bool.{true, cond}
+use mathlib.Core.List.{List, [], _∷_, _++_}
+use lib.ListN.{length, take}
+use lib.Dec.{ltb}
+use Rattle.answers.specs.Ascii.{ascii}
+use Rattle.packing.specs.Packing.{readable, unpacked}
+use Rattle.numbers.specs.Numbers.{isNumber, digitsOf}
+use Rattle.rules.specs.Answers.{Answer, refusal, error, outcome, holder, sent, delivered, dropped, again, found, noneDue, twoDigits}
+
+-- the number n of `error n` (two digits) or `refused n` (one)
+abbrev pub numeral : ℕ → List ℕ
+numeral n = cond (ltb n 10) ((48 + n) ∷ []) (twoDigits n)
+
+-- the characters that the first octets of a buffer are
+abbrev pub textIn : ℕ → List ℕ → List ℕ
+textIn count buffer = unpacked (take count buffer)
+
+-- what follows the letter: "the reply text"; "addressee, notice"; "`D delivered`, `D dropped` or `D again`"; "Otherwise `error n` or `refused n`"
+abbrev pub said : Answer → List ℕ → List ℕ
+said (refusal n) buffer = ascii "refused " ++ numeral n
+said (error n) buffer = ascii "error " ++ numeral n
+said (outcome n count) buffer = textIn count buffer
+said (holder msisdn count) buffer = textIn count buffer
+said (sent addressee count) buffer = digitsOf addressee ++ (ascii " " ++ textIn count buffer)
+said delivered buffer = ascii "delivered"
+said dropped buffer = ascii "dropped"
+said again buffer = ascii "again"
+said (found n) buffer = []
+said noneDue buffer = []
+
+-- an addressee's 15 digits, the space and the 42 characters of the longest notice
+abbrev pub answerRoom : ℕ
+answerRoom = 58
+
+-- the first octets of a buffer, at most so many, are packed characters
+pub record Text (most count : ℕ) (buffer : List ℕ) : Type 0 where
+  pub within : count ≤ length buffer
+  pub short : count ≤ most
+  pub reads : readable (take count buffer) ≡ true
+
+-- `03`, a space and 15 digits; `##214*`, 15 digits, `*88*`, 15 digits and `*#`: 18 and 42 characters
+abbrev pub mostReplyOctets : ℕ
+mostReplyOctets = 16
+
+abbrev pub mostNoticeOctets : ℕ
+mostNoticeOctets = 37
+
+-- an answer that can be printed: its octets are a text, and its addressee is a number
+abbrev pub Printable : Answer → List ℕ → Type 0
+Printable (refusal n) buffer = Unit {0}
+Printable (error n) buffer = Unit {0}
+Printable (outcome n count) buffer = Text mostReplyOctets count buffer
+Printable (holder msisdn count) buffer = Text mostReplyOctets count buffer
+Printable (sent addressee count) buffer = (isNumber addressee ≡ true) × Text mostNoticeOctets count buffer
+Printable delivered buffer = Unit {0}
+Printable dropped buffer = Unit {0}
+Printable again buffer = Unit {0}
+Printable (found n) buffer = Unit {0}
+Printable noneDue buffer = Unit {0}

@@ -1,0 +1,130 @@
+use mathlib.Core.Path.{sym, ap, _∙_}
+use mathlib.Core.List.{List}
+use Prim.Native.Nat.{ℕ}
+use borrow.Author.Needs.{needs}
+use denote.Ref.{now}
+use Rattle.records.specs.declared.Record.{Record}
+use Rattle.records.specs.declared.Step.{Step}
+use Rattle.records.specs.Steps.{registered}
+use Rattle.records.specs.Rows.{recordAt}
+use Rattle.records.proofs.Rows.{record-sound}
+use Rattle.rules.specs.Visits.{storing, stepped, erases}
+use Rattle.visits.specs.Deciding.{deciding}
+use Rattle.visits.proofs.Placed.{decided-register, decided-erase, decided-interrogate, told-placed}
+use Rattle.visits.proofs.decide_at.Statement.{statement}
+use Rattle.visits.proofs.decide_at.Tie as tie
+
+-- the table and the reply as they were lent, and the row's record
+abbrev T : tie.Start → List ℕ
+T c = now (c .args .table)
+
+abbrev B : tie.Start → List ℕ
+B c = now (c .args .reply)
+
+abbrev R : tie.Start → Record
+R c = recordAt (T c) (c .args .row)
+
+abbrev start : tie.After-load → tie.Start
+start c = c .before .before .before .before
+
+load-requires : tie.Need-load-requires
+load-requires c κs = search needs
+
+enum-told : tie.Need-enum-told
+enum-told c = search needs
+
+register-requires : tie.Need-register-requires
+register-requires c κs = search needs
+
+settle-requires : tie.Need-settle-requires
+settle-requires c κs = search needs
+
+enum-told-2 : tie.Need-enum-told-2
+enum-told-2 c = search needs
+
+erasure-requires : tie.Need-erasure-requires
+erasure-requires c κs = search needs
+
+settle-requires-2 : tie.Need-settle-requires-2
+settle-requires-2 c κs = search needs
+
+enum-told-3 : tie.Need-enum-told-3
+enum-told-3 c = search needs
+
+answer-holder-requires : tie.Need-answer-holder-requires
+answer-holder-requires c κs =
+    let l = c .before .before .before .before in
+    (rw (l .load .ensures) (record-sound (T (start l)) (start l .args .row) (start l .pre .1)), start l .pre .2)
+
+same-length : tie.Need-same-length
+same-length c = search needs
+
+same-length-2 : tie.Need-same-length-2
+same-length-2 c = search needs
+
+returns : tie.Need-returns
+returns c =
+    let q = c .before .before .before .before in
+    let g = q .before .before .before in
+    let l = g .before .before .before .before in
+    let s = start l in
+    let a = s .args in
+    q .settle .ensures
+    ∙ ap (λ (x : Step). storing (T s) (a .row) (stepped 1 (B s) (R s) x)) (g .register .ensures ∙ ap (registered (a .fields .number) (a .requester)) (l .load .ensures))
+    ∙ ap (storing (T s) (a .row)) (sym (decided-register (deciding (a .fields)) (a .requester) (B s) (R s) (g .before .enum-told .given .1)))
+
+same-length-3 : tie.Need-same-length-3
+same-length-3 c = search needs
+
+same-length-4 : tie.Need-same-length-4
+same-length-4 c = search needs
+
+returns-2 : tie.Need-returns-2
+returns-2 c =
+    let q = c .before .before .before .before in
+    let g = q .before .before .before in
+    let l = g .before .before .before .before in
+    let s = start l in
+    let a = s .args in
+    q .settle2 .ensures
+    ∙ ap (λ (x : Step). storing (T s) (a .row) (stepped 2 (B s) (R s) x)) (g .erasure .ensures ∙ ap (erases (a .fields .erasing) (a .requester)) (l .load .ensures))
+    ∙ ap (storing (T s) (a .row)) (sym (decided-erase (deciding (a .fields)) (a .requester) (B s) (R s) (g .before .enum-told2 .given .1)))
+
+same-length-5 : tie.Need-same-length-5
+same-length-5 c = search needs
+
+same-length-6 : tie.Need-same-length-6
+same-length-6 c = search needs
+
+returns-3 : tie.Need-returns-3
+returns-3 c =
+    let q = c .before .before in
+    let e = q .before .before in
+    let l = e .before .before .before in
+    let s = start l in
+    let a = s .args in
+    told-placed (T s) (a .row) (B s) _ _ _ (s .pre .1) (l .load .ensures) (q .answer-holder .ensures)
+    ∙ ap (storing (T s) (a .row)) (sym (decided-interrogate (deciding (a .fields)) (a .requester) (B s) (R s) (e .enum-told3 .given .1)))
+
+pub decide-at-spec : {M : Type 1} → statement M
+decide-at-spec =
+    tie.close
+    (tie.spec
+    load-requires
+    enum-told
+    register-requires
+    settle-requires
+    enum-told-2
+    erasure-requires
+    settle-requires-2
+    enum-told-3
+    answer-holder-requires
+    same-length
+    same-length-2
+    returns
+    same-length-3
+    same-length-4
+    returns-2
+    same-length-5
+    same-length-6
+    returns-3)

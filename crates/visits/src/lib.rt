@@ -1,0 +1,236 @@
+// A call's visit to the row of its number: the record is read, a step of it taken and stored, and what the step says is written. The answers of the four calls.
+use answers::Written;
+use numbers::FunctionalNumber;
+use numbers::Msisdn;
+use records::Holder;
+use records::Record;
+use records::Resulted;
+use records::Step;
+use strings::Erasing;
+use strings::Fields;
+use strings::Operation;
+ghost use mathlib.Core.Path.{_≡_};
+ghost use mathlib.Core.Bool.{true};
+ghost use mathlib.Core.List.{[]};
+ghost use Prim.Native.Nat.{_≤_, _<_};
+ghost use lib.ListN.{length};
+ghost use Rattle.packing.specs.Packing.{takes, octetsFor};
+ghost use Rattle.numbers.specs.Numbers.{isNumber};
+ghost use Rattle.records.specs.Steps.{interrogated, sent, isDue};
+ghost use Rattle.records.specs.Rows.{recordAt, rowSound, recordSound};
+ghost use Rattle.tables.specs.Tables.{tableSound, rowsIn};
+ghost use Rattle.rules.specs.Answers.{made, outcome, holder, bufferRoom, over, octetCount, twoDigits, holderText};
+ghost use Rattle.rules.specs.Notices as notices;
+ghost use Rattle.rules.specs.Visits.{visited, storing, stepped, told, erases, decided, sentStep, visitResult};
+ghost use Rattle.visits.specs.Deciding.{deciding};
+ghost use Rattle.visits.specs.Said.{saidRequest, saidSending, saidResult, saidFinding};
+
+// The answer to a request: a refusal, an error or an outcome by its number, an outcome with its octet count; 03 with the holder.
+pub enum RequestAnswer {
+    Refused(u8),
+    Error(u8),
+    Outcome(u8, usize),
+    Held(Msisdn, usize),
+}
+
+// The answer to a sending: a refusal by its number, or the addressee and the notice's octet count.
+pub enum SendingAnswer {
+    Refused(u8),
+    Sent(Msisdn, usize),
+}
+
+// The answer to a result: a refusal by its number, or what became of the notice.
+pub enum ResultAnswer {
+    Refused(u8),
+    Delivered,
+    Dropped,
+    Again,
+}
+
+// The answer to a finding: a refusal by its number, or the lowest due number, if one is due.
+pub enum FindingAnswer {
+    Refused(u8),
+    Due(FunctionalNumber),
+    NoneDue,
+}
+
+// Packs a text that the packer takes into a buffer that has room for it.
+fn put(text: &[u8], out: &mut [u8]) -> usize
+    requires { ⌜ (takes (now text) ≡ true) × (octetsFor (length (now text)) ≤ length (now out)) ⌝ }
+    ensures { λ r. ⌜ (r ≡ octetCount (now (text .entry))) × (now (out .exit) ≡ over (now (text .entry)) (now (out .entry))) ⌝ }
+{
+    let written = packing::pack(text, out);
+    match written {
+        Written::Count(n) => n,
+        Written::TooShort => 0,
+        Written::Unfit => 0,
+    }
+}
+
+// An outcome: its two characters in the reply.
+pub fn say(n: u8, reply: &mut [u8]) -> RequestAnswer
+    requires { ⌜ bufferRoom ≤ length (now reply) ⌝ }
+    ensures { λ r. ⌜ (saidRequest r ≡ outcome n (octetCount (twoDigits n))) × (now (reply .exit) ≡ over (twoDigits n) (now (reply .entry))) ⌝ }
+{
+    let text = [48 + n / 10, 48 + n % 10];
+    let octets = put(&text, reply);
+    RequestAnswer::Outcome(n, octets)
+}
+
+// Outcome 03: the holder's digits after the code and the space.
+fn tell(msisdn: Msisdn, reply: &mut [u8]) -> RequestAnswer
+    requires { ⌜ (isNumber (msisdn .0) ≡ true) × (bufferRoom ≤ length (now reply)) ⌝ }
+    ensures { λ r. ⌜ (saidRequest r ≡ holder (msisdn .0) (octetCount (holderText (msisdn .0)))) × (now (reply .exit) ≡ over (holderText (msisdn .0)) (now (reply .entry))) ⌝ }
+{
+    let mut text = [32u8; 18];
+    text[0] = 48;
+    text[1] = 51;
+    let written = numbers::write_digits(msisdn.0, &mut text[3..]);
+    let Written::Count(n) = written else {
+        return RequestAnswer::Held(msisdn, 0);
+    };
+    let octets = put(&text[..n + 3], reply);
+    RequestAnswer::Held(msisdn, octets)
+}
+
+// A step of the record of a row: what stays answers by its own number, what becomes the next record by `success`.
+fn settle(table: &mut [u64], row: usize, reply: &mut [u8], success: u8, step: Step) -> RequestAnswer
+    requires { ⌜ (row < rowsIn (now table)) × (rowSound (now table) row ≡ true) × (bufferRoom ≤ length (now reply)) ⌝ }
+    ensures { λ r. ⌜ made (saidRequest r) (now (table .exit)) (now (reply .exit)) ≡ storing (now (table .entry)) row (stepped success (now (reply .entry)) (recordAt (now (table .entry)) row) step) ⌝ }
+{
+    match step {
+        Step::Stays(n) => say(n, reply),
+        Step::Becomes(next) => {
+            records::store(table, row, next);
+            say(success, reply)
+        }
+    }
+}
+
+// An erasure, plain or forced.
+fn erasure(held: Record, erasing: Erasing, requester: Msisdn) -> Step
+    ensures { λ r. ⌜ r ≡ erases erasing requester held ⌝ }
+{
+    match erasing {
+        Erasing::Empty => held.erase(requester),
+        Erasing::Forced(msisdn) => held.force(requester, msisdn),
+    }
+}
+
+// What an interrogation of a sound record found.
+fn answer_holder(held: Record, reply: &mut [u8]) -> RequestAnswer
+    requires { ⌜ (recordSound held ≡ true) × (bufferRoom ≤ length (now reply)) ⌝ }
+    ensures { λ r. ⌜ visited (saidRequest r) (now (reply .exit)) held ≡ told (now (reply .entry)) held (interrogated held) ⌝ }
+{
+    let found = held.interrogate();
+    match found {
+        Holder::Stays(n) => say(n, reply),
+        Holder::Held(msisdn) => tell(msisdn, reply),
+    }
+}
+
+// What the record of a row decides, by the operation.
+pub fn decide_at(
+    table: &mut [u64],
+    row: usize,
+    reply: &mut [u8],
+    requester: Msisdn,
+    fields: Fields,
+) -> RequestAnswer
+    requires { ⌜ (row < rowsIn (now table)) × (rowSound (now table) row ≡ true) × (bufferRoom ≤ length (now reply)) ⌝ }
+    ensures { λ r. ⌜ made (saidRequest r) (now (table .exit)) (now (reply .exit)) ≡ storing (now (table .entry)) row (decided (deciding fields) requester (now (reply .entry)) (recordAt (now (table .entry)) row)) ⌝ }
+{
+    let record = records::load(table, row);
+    let operation = fields.operation;
+    let number = fields.number;
+    let erasing = fields.erasing;
+    match operation {
+        Operation::Register => {
+            let step = record.register(number, requester);
+            settle(table, row, reply, 1, step)
+        }
+        Operation::Erase => {
+            let step = erasure(record, erasing, requester);
+            settle(table, row, reply, 2, step)
+        }
+        Operation::Interrogate => answer_holder(record, reply),
+    }
+}
+
+// A sending of the notice of the record of a row.
+pub fn send_at(
+    table: &mut [u64],
+    row: usize,
+    buffer: &mut [u8],
+    number: FunctionalNumber,
+    delay: u32,
+    clock: u32,
+) -> SendingAnswer
+    requires { ⌜ (row < rowsIn (now table)) × (rowSound (now table) row ≡ true) ⌝ }
+    requires { ⌜ (isNumber (number .0) ≡ true) × (bufferRoom ≤ length (now buffer)) ⌝ }
+    ensures { λ r. ⌜ made (saidSending r) (now (table .exit)) (now (buffer .exit)) ≡ storing (now (table .entry)) row (sentStep number (now (buffer .entry)) (recordAt (now (table .entry)) row) (sent delay clock (recordAt (now (table .entry)) row))) ⌝ }
+{
+    let held = records::load(table, row);
+    let step = held.send(delay, clock);
+    match step {
+        Step::Stays(n) => SendingAnswer::Refused(n),
+        Step::Becomes(launched) => {
+            records::store(table, row, launched);
+            let addressee = held.addressee;
+            let supervisor = held.supervisor;
+            let octets = writers::write_notice(number, supervisor, buffer);
+            SendingAnswer::Sent(addressee, octets)
+        }
+    }
+}
+
+// The result of a sending, for the notice of the record of a row.
+pub fn result_at(table: &mut [u64], row: usize, kind: u32, clock: u32) -> ResultAnswer
+    requires { ⌜ (row < rowsIn (now table)) × (rowSound (now table) row ≡ true) ⌝ }
+    ensures { λ r. ⌜ made (saidResult r) (now (table .exit)) [] ≡ storing (now (table .entry)) row (visitResult kind clock (recordAt (now (table .entry)) row)) ⌝ }
+{
+    let held = records::load(table, row);
+    let step = held.result(kind, clock);
+    match step {
+        Resulted::Refused(n) => ResultAnswer::Refused(n),
+        Resulted::Delivered(next) => {
+            records::store(table, row, next);
+            ResultAnswer::Delivered
+        }
+        Resulted::Dropped(next) => {
+            records::store(table, row, next);
+            ResultAnswer::Dropped
+        }
+        Resulted::Again(next) => {
+            records::store(table, row, next);
+            ResultAnswer::Again
+        }
+    }
+}
+
+// Whether the notice in a sound row is due.
+fn row_due(table: &[u64], row: usize, delay: u32, clock: u32) -> bool
+    requires { ⌜ (row < rowsIn (now table)) × (rowSound (now table) row ≡ true) ⌝ }
+    ensures { λ r. ⌜ r ≡ isDue delay clock (recordAt (now (table .entry)) row .notice) ⌝ }
+{
+    let held = records::load(table, row);
+    let notice = held.notice;
+    records::is_due(delay, clock, notice)
+}
+
+// The lowest number whose notice is due.
+pub fn first_due(table: &[u64], delay: u32, clock: u32) -> FindingAnswer
+    requires { ⌜ tableSound (now table) ≡ true ⌝ }
+    ensures { λ r. ⌜ saidFinding r ≡ notices.firstDue (now (table .entry)) delay clock (rowsIn (now (table .entry))) 0 ⌝ }
+{
+    let rows = table.len() / records::ROW_WORDS;
+    let mut row = 0;
+    while row < rows {
+        if row_due(table, row, delay, clock) {
+            let number = FunctionalNumber(table[records::ROW_WORDS * row]);
+            return FindingAnswer::Due(number);
+        }
+        row += 1;
+    }
+    FindingAnswer::NoneDue
+}

@@ -1,0 +1,2 @@
+-- `Copied`: characters copied over the front of a part.
+pub mod Copied
