@@ -202,4 +202,3 @@ pub run-one :
 run-one n m t l o u k p {r} a b =
     let e = a ∙ sym b in
     (ap (λ (x : Ran). x .count) e, ap (λ (x : Ran). x .table) e, ap (λ (x : Ran). x .list) e, ap (λ (x : Ran). x .out) e)
--- x
