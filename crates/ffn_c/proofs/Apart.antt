@@ -15,7 +15,7 @@ use Rattle.strings.specs.declared.Erasing.{Erasing}
 use Rattle.strings.specs.Text.{Request}
 use Rattle.strings.specs.Outcomes.{requestOf}
 use Rattle.records.specs.Steps.{isDue, delayAllowed}
-use Rattle.records.specs.Rows.{numberAt, recordAt}
+use Rattle.rows.specs.Rows.{numberAt, recordAt}
 use Rattle.tables.specs.declared.Found.{Found}
 use Rattle.tables.specs.declared.Found.the-variants.{At, Nothing}
 use Rattle.tables.specs.Tables.{tableSound, rowsIn, rowOf, recordOf}

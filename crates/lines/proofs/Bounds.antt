@@ -21,7 +21,7 @@ use Rattle.rules.specs.Answers.{Answer, refusal, error, outcome, holder, sent, 
 use Rattle.rules.specs.Notices as notices
 use Rattle.forms.specs.Lines as form
 use Rattle.forms.specs.Lines.{lineFeed, space, fieldAt, behindField, isDigits, isNumberLong, askedOf, valueBelow, Form, sendingForm, lettered, formOf}
-use Rattle.records.specs.Rows.{rowWords}
+use Rattle.rows.specs.Rows.{rowWords}
 use Rattle.tables.specs.Tables.{mostNumbers, subscriberWords, mostSubscribers}
 use Rattle.lines.specs.Program.{Program, Effect, mayFollow, filled, withNumber, withSubscriber, answered, buffer, numbered, subscribed, asked, requested, dispatched, reported, effectOf, lineEffect}
 use Rattle.replies.specs.Replies.{textIn, said, Printable, answerRoom}

@@ -13,7 +13,7 @@ use borrow.Author.Tests.{ltb-true}
 use Rattle.answers.proofs.Tests.{and-left, and-no}
 use Rattle.numbers.specs.declared.FunctionalNumber.{FunctionalNumber}
 use Rattle.numbers.specs.declared.Msisdn.{Msisdn}
-use Rattle.records.specs.Rows.{rowWords}
+use Rattle.rows.specs.Rows.{rowWords}
 use Rattle.tables.specs.Tables.{mostNumbers, subscriberWords, mostSubscribers}
 use Rattle.rules.specs.Answers.{Outcome}
 use Rattle.lines.specs.declared.State.{State}

@@ -28,9 +28,9 @@ use Rattle.tables.specs.declared.Found.the-variants.{At, Nothing}
 use Rattle.records.specs.declared.Notice.{Notice}
 use Rattle.records.specs.declared.Notice.the-variants.{Absent, Waiting, InFlight}
 use Rattle.records.specs.Steps.{isAbsent, isWaiting}
-use Rattle.records.specs.Rows.{recordAt}
-use Rattle.records.proofs.Rows.{record-sound}
-use Rattle.records.proofs.Kept.{pending-words}
+use Rattle.rows.specs.Rows.{recordAt}
+use Rattle.rows.proofs.Rows.{record-sound}
+use Rattle.rows.proofs.Kept.{pending-words}
 use Rattle.tables.specs.Tables.{tableSound, rowOf, recordOf}
 use Rattle.tables.proofs.Stored.{record-found}
 use Rattle.rules.specs.Answers.{Answer, refusal, error, outcome, holder, sent, delivered, dropped, again, found, noneDue, Outcome, made, twoDigits, holderText, over, octetCount, refusing}

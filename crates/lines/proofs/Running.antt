@@ -9,7 +9,7 @@ use lib.ListN.{length, take, drop, length-append, length-drop, take-append-drop,
 use lib.Seq.{length-take-le, take-at, drop-at, take-append-add, drop-append-add, take-append-seam, drop-drop}
 use Rattle.answers.proofs.Parts.{rest-of, rest-back}
 use Rattle.bytes.specs.Bytes.{indexOf}
-use Rattle.records.specs.Rows.{rowWords}
+use Rattle.rows.specs.Rows.{rowWords}
 use Rattle.tables.specs.Tables.{subscriberWords}
 use Rattle.lines.specs.declared.State.{State}
 use Rattle.lines.specs.declared.Done.{Done}

@@ -4,7 +4,7 @@ use Prim.Native.Nat.{ℕ, _+_, _*_, _≤_}
 use mathlib.Core.Bool.{false}
 use mathlib.Core.List.{List, _++_}
 use lib.ListN.{length, take, drop}
-use Rattle.records.specs.Rows.{rowWords}
+use Rattle.rows.specs.Rows.{rowWords}
 use Rattle.tables.specs.Tables.{mostNumbers, subscriberWords, mostSubscribers}
 use Rattle.rules.specs.Answers.{Outcome}
 use Rattle.lines.specs.declared.State.{State}

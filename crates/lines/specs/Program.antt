@@ -10,7 +10,7 @@ use Rattle.answers.specs.Ascii.{ascii}
 use Rattle.packing.specs.Packing.{takes, packed}
 use Rattle.numbers.specs.declared.FunctionalNumber.{FunctionalNumber}
 use Rattle.numbers.specs.declared.Msisdn.{Msisdn}
-use Rattle.records.specs.Rows.{rowWords}
+use Rattle.rows.specs.Rows.{rowWords}
 use Rattle.tables.specs.Tables.{mostNumbers, subscriberWords, mostSubscribers}
 use Rattle.rules.specs.Answers.{refusal, Outcome, made, bufferRoom}
 use Rattle.rules.specs.Requests as requests

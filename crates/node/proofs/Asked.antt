@@ -11,8 +11,8 @@ use Rattle.strings.specs.declared.Fields.{Fields}
 use Rattle.strings.specs.declared.Reading.the-variants.{Read, Unreadable}
 use Rattle.strings.specs.declared.ReadRequest.{ReadRequest}
 use Rattle.strings.specs.Outcomes.{Told, ReadOutcome, requestOf, requestIn, tell, madeRead, reading}
-use Rattle.records.specs.Rows.{rowSound, recordAt}
-use Rattle.records.proofs.Rows.{words-stored}
+use Rattle.rows.specs.Rows.{rowSound, recordAt}
+use Rattle.rows.proofs.Rows.{words-stored}
 use Rattle.tables.specs.Tables.{tableSound, rowOf, flagsOf}
 use Rattle.tables.specs.declared.Found.{Found}
 use Rattle.tables.specs.declared.Found.the-variants.{At, Nothing}

@@ -17,7 +17,7 @@ use Rattle.rules.specs.Requests.{codingScheme, mostStringOctets, refusalChecks,
 use Rattle.rules.specs.Notices.{sending, result, finding, firstDue}
 use Rattle.rules.specs.Calls.{anyHolds}
 use Rattle.rules.specs.Visits.{storing, leaving, sentStep, visitSending, missedSending}
-use Rattle.records.specs.Rows.{recordAt}
+use Rattle.rows.specs.Rows.{recordAt}
 use Rattle.records.specs.Steps.{sent, delayAllowed}
 use Rattle.tables.specs.Tables.{rowsIn}
 

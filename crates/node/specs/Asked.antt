@@ -4,7 +4,7 @@ use mathlib.Core.Option.{some}
 use mathlib.Core.List.{List}
 use Rattle.numbers.specs.declared.Msisdn.{Msisdn}
 use Rattle.strings.specs.Text.{Request}
-use Rattle.records.specs.Rows.{recordAt}
+use Rattle.rows.specs.Rows.{recordAt}
 use Rattle.tables.specs.declared.Found.{Found}
 use Rattle.tables.specs.declared.Found.the-variants.{At, Nothing}
 use Rattle.rules.specs.Answers.{Outcome}

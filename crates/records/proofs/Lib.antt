@@ -1,7 +1,2 @@
--- `Arms`: what a failed `let .. else` says of a notice. `Notices`: the words of a sound notice, its phase and its second.
--- `Stores`: what a run of stores leaves. `Rows`: a row and its record. `Kept`: each step gives a sound record back.
+-- `Arms`: what a failed `let .. else` says of a notice.
 pub mod Arms
-pub mod Notices
-pub mod Stores
-pub mod Rows
-pub mod Kept

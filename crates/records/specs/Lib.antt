@@ -1,3 +1,2 @@
--- `Steps`: what happens to one number's record. `Rows`: the words of a row and the record that they are.
+-- `Steps`: what happens to one number's record.
 pub mod Steps
-pub mod Rows

@@ -1,14 +1,9 @@
-// One functional number's record, by value: what happens to it, and the row of words that it is lent in.
+// One functional number's record, by value, and what happens to it.
 use numbers::FunctionalNumber;
 use numbers::Msisdn;
-use numbers::is_number_by;
 ghost use mathlib.Core.Path.{_≡_};
-ghost use mathlib.Core.Bool.{true};
-ghost use Prim.Native.Nat.{_/_, _^_, _≤_, _<_};
-ghost use lib.ListN.{length};
-ghost use Rattle.numbers.specs.Least.{leastNumbers};
-ghost use Rattle.records.specs.Steps.{registered, erased, forced, interrogated, sent, resulted, heldBy, forcedOff, cleared, withNotice, elapsed as elapsedOf, delayOf, delayAllowed, isDue};
-ghost use Rattle.records.specs.Rows.{rowWords, lastPhase, phaseOf, secondOf, noticeOf, wordsAt, holderSound, noticeSound, rowSound, recordSound, recordAt, stored};
+ghost use Prim.Native.Nat.{_≤_};
+ghost use Rattle.records.specs.Steps.{mostSendings, sendingsDone, registered, erased, forced, interrogated, sent, resulted, heldBy, forcedOff, cleared, withNotice, elapsed as elapsedOf, delayOf, delayAllowed, isDue};
 
 // "a notice is absent, waiting or in flight": with the sendings done, and the second of the last failure.
 pub enum Notice {
@@ -53,39 +48,10 @@ const LONGEST_DELAY: u32 = 600;
 const USUAL_DELAY: u32 = 60;
 
 // "A notice thus ends after at most five sendings".
-const MOST_SENDINGS: u8 = 5;
+pub const MOST_SENDINGS: u8 = 5;
 
 // "5 any other error".
 const LAST_KIND: u32 = 5;
-
-// "Even 2k (2 to 10): in flight, k done".
-const LAST_PHASE: u64 = 2 * (MOST_SENDINGS as u64);
-
-// "The last word is below 2^32".
-const SECONDS: u64 = 4294967296;
-
-// "six 64-bit words a number": where they stand in a row, the number first.
-pub const ROW_WORDS: usize = 6;
-
-const HOLDER: usize = 1;
-
-const PHASE: usize = 2;
-
-const ADDRESSEE: usize = 3;
-
-const SUPERVISOR: usize = 4;
-
-const SECOND: usize = 5;
-
-// The words of a row.
-pub struct Words {
-    pub number: u64,
-    pub holder: u64,
-    pub phase: u64,
-    pub addressee: u64,
-    pub supervisor: u64,
-    pub second: u64,
-}
 
 // Seconds from the last failure to the clock's reading, on a counter that wraps.
 pub fn elapsed(clock: u32, last: u32) -> u32
@@ -246,7 +212,7 @@ impl Record {
     }
 
     pub fn send(self, delay: u32, clock: u32) -> Step
-        requires { ⌜ recordSound self ≡ true ⌝ }
+        requires { ⌜ sendingsDone (self .notice) ≤ mostSendings ⌝ }
         ensures { λ r. ⌜ r ≡ sent delay clock self ⌝ }
     {
         if !delay_allowed(delay) {
@@ -284,131 +250,4 @@ impl Record {
         }
         Resulted::Again(self.with_notice(Notice::Waiting(sendings, clock)))
     }
-}
-
-fn notice_of(phase: u64, second: u64) -> Notice
-    requires { ⌜ phase ≤ lastPhase ⌝ }
-    requires { ⌜ second < 2 ^ 32 ⌝ }
-    ensures { λ r. ⌜ r ≡ noticeOf phase second ⌝ }
-{
-    if phase == 0 {
-        return Notice::Absent;
-    }
-    if phase % 2 == 1 {
-        return Notice::Waiting((phase / 2) as u8, second as u32);
-    }
-    Notice::InFlight((phase / 2) as u8)
-}
-
-fn phase_of(notice: Notice) -> u64
-    ensures { λ r. ⌜ r ≡ phaseOf notice ⌝ }
-{
-    match notice {
-        Notice::Absent => 0,
-        Notice::Waiting(sendings, _) => 2 * (sendings as u64) + 1,
-        Notice::InFlight(sendings) => 2 * (sendings as u64),
-    }
-}
-
-fn second_of(notice: Notice) -> u64
-    ensures { λ r. ⌜ r ≡ secondOf notice ⌝ }
-{
-    match notice {
-        Notice::Absent => 0,
-        Notice::Waiting(_, second) => second as u64,
-        Notice::InFlight(_) => 0,
-    }
-}
-
-// "holder, a number, or 0".
-fn holder_sound(holder: u64, least: &[u64; 65]) -> bool
-    requires { ⌜ now least ≡ leastNumbers ⌝ }
-    ensures { λ r. ⌜ r ≡ holderSound holder ⌝ }
-{
-    (holder == 0) | is_number_by(holder, least)
-}
-
-// Whether the last four words of a row are those of a notice, or of none.
-fn notice_sound(phase: u64, addressee: u64, supervisor: u64, second: u64, least: &[u64; 65]) -> bool
-    requires { ⌜ now least ≡ leastNumbers ⌝ }
-    ensures { λ r. ⌜ r ≡ noticeSound phase addressee supervisor second ⌝ }
-{
-    if phase == 0 {
-        return (addressee == 0) & (supervisor == 0) & (second == 0);
-    }
-    let numbers = is_number_by(addressee, least) & is_number_by(supervisor, least);
-    let failed = (phase % 2 == 1) & (3 <= phase);
-    (phase <= LAST_PHASE)
-        & (numbers & (addressee != supervisor))
-        & ((second < SECONDS) & ((second == 0) | failed))
-}
-
-// Reads the words of a row.
-fn words_at(table: &[u64], row: usize) -> Words
-    requires { ⌜ row < length (now table) / rowWords ⌝ }
-    ensures { λ r. ⌜ r ≡ wordsAt (now (table .entry)) row ⌝ }
-{
-    let at = ROW_WORDS * row;
-    Words {
-        number: table[at],
-        holder: table[at + HOLDER],
-        phase: table[at + PHASE],
-        addressee: table[at + ADDRESSEE],
-        supervisor: table[at + SUPERVISOR],
-        second: table[at + SECOND],
-    }
-}
-
-// The record of a sound row.
-pub fn load(table: &[u64], row: usize) -> Record
-    requires { ⌜ row < length (now table) / rowWords ⌝ }
-    requires { ⌜ rowSound (now table) row ≡ true ⌝ }
-    ensures { λ r. ⌜ r ≡ recordAt (now (table .entry)) row ⌝ }
-{
-    let words = words_at(table, row);
-    let holder = Msisdn(words.holder);
-    let notice = notice_of(words.phase, words.second);
-    let addressee = Msisdn(words.addressee);
-    let supervisor = Msisdn(words.supervisor);
-    Record {
-        holder,
-        notice,
-        addressee,
-        supervisor,
-    }
-}
-
-// Puts a record into a row, behind the row's number.
-pub fn store(table: &mut [u64], row: usize, next: Record)
-    requires { ⌜ row < length (now table) / rowWords ⌝ }
-    ensures { λ _. ⌜ now (table .exit) ≡ stored (now (table .entry)) row next ⌝ }
-{
-    let at = ROW_WORDS * row;
-    let notice = next.notice;
-    let phase = phase_of(notice);
-    let second = second_of(notice);
-    table[at + HOLDER] = next.holder.0;
-    table[at + PHASE] = phase;
-    table[at + ADDRESSEE] = next.addressee.0;
-    table[at + SUPERVISOR] = next.supervisor.0;
-    table[at + SECOND] = second;
-}
-
-// Whether a row is sound by itself; `least` is the table of least numbers.
-pub fn row_sound(table: &[u64], row: usize, least: &[u64; 65]) -> bool
-    requires { ⌜ row < length (now table) / rowWords ⌝ }
-    requires { ⌜ now least ≡ leastNumbers ⌝ }
-    ensures { λ r. ⌜ r ≡ rowSound (now (table .entry)) row ⌝ }
-{
-    let words = words_at(table, row);
-    let number = is_number_by(words.number, least);
-    let holder = holder_sound(words.holder, least);
-    let notice = notice_sound(
-        words.phase,
-        words.addressee,
-        words.supervisor,
-        words.second,
-        least,
-    );
-    number & holder & notice
 }

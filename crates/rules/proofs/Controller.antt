@@ -17,8 +17,8 @@ use Rattle.strings.specs.Text.{Request}
 use Rattle.records.specs.declared.Record.{Record}
 use Rattle.records.specs.Steps as steps
 use Rattle.records.specs.Steps.{nobody, isNobody, same, isAbsent, heldBy, forcedOff}
-use Rattle.records.specs.Rows.{recordAt, stored}
-use Rattle.records.proofs.Rows.{words-stored}
+use Rattle.rows.specs.Rows.{recordAt, stored}
+use Rattle.rows.proofs.Rows.{words-stored}
 use Rattle.tables.specs.declared.Found.{Found}
 use Rattle.tables.specs.declared.Found.the-variants.{At, Nothing}
 use Rattle.tables.specs.Tables.{tableSound, rowOf, recordOf, flagsOf}

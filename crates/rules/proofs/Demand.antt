@@ -5,7 +5,7 @@ use mathlib.Core.Option.{Option}
 use mathlib.Core.List.{List}
 use Prim.Native.Nat.{ℕ, _<_}
 use Rattle.records.specs.declared.Record.{Record}
-use Rattle.records.specs.Rows.{numberAt, recordAt}
+use Rattle.rows.specs.Rows.{numberAt, recordAt}
 use Rattle.tables.specs.declared.Found.{Found}
 use Rattle.tables.specs.declared.Found.the-variants.{At, Nothing}
 use Rattle.tables.specs.Tables.{tableSound, rowOf, recordOf, rowsIn}

@@ -11,7 +11,7 @@ use Rattle.strings.specs.Text.{isAdditional, textOf, noticeOf}
 use Rattle.strings.specs.Reader.{begins, operationAt, serviceAt, numberFieldAt, forcedAt, erasingAt, leadingAdditional, additionalAt, fieldsOf}
 use Rattle.strings.specs.Outcomes.{requestOf}
 use Rattle.records.specs.Steps.{elapsed, delayOf, delayAllowed}
-use Rattle.records.specs.Rows as rows
+use Rattle.rows.specs.Rows as rows
 use Rattle.tables.specs.Keys.{placeOf}
 use Rattle.tables.specs.Tables.{tableSound, rowOf, recordOf, listSound, flagsOf}
 use Rattle.rules.specs.Answers.{Answer, refusal, error, outcome, sent, dropped, again}

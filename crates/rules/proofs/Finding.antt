@@ -7,7 +7,7 @@ use Prim.Native.Nat.{ℕ, zero, suc, _+_, _≤_, _<_}
 use native.Mathlib.Omega.{arith}
 use Rattle.answers.proofs.Tests.{no-path, less-or-not}
 use Rattle.records.specs.Steps.{delayAllowed}
-use Rattle.records.specs.Rows.{numberAt}
+use Rattle.rows.specs.Rows.{numberAt}
 use Rattle.tables.specs.Tables.{tableSound, rowsIn}
 use Rattle.tables.proofs.Sound.{table-ascending}
 use Rattle.rules.specs.Answers.{Answer, found, noneDue}

@@ -14,9 +14,9 @@ use Rattle.records.specs.declared.Notice.{Notice}
 use Rattle.records.specs.declared.Notice.the-variants.{Absent, Waiting, InFlight}
 use Rattle.records.specs.declared.Record.{Record}
 use Rattle.records.specs.Steps.{heldBy, mostSendings, isAbsent, isWaiting, isInFlight, sendingsDone, launched}
-use Rattle.records.specs.Rows.{recordAt, recordSound}
-use Rattle.records.proofs.Rows.{record-sound}
-use Rattle.records.proofs.Kept.{waiting-sendings, flying-sendings}
+use Rattle.rows.specs.Rows.{recordAt}
+use Rattle.rows.proofs.Rows.{record-sound}
+use Rattle.rows.proofs.Kept.{few-sendings}
 use Rattle.tables.specs.declared.Found.{Found}
 use Rattle.tables.specs.declared.Found.the-variants.{At, Nothing}
 use Rattle.tables.specs.Tables.{tableSound, rowOf}
@@ -184,20 +184,12 @@ module _ (list : List ℕ) (k : ℕ) where
   fifth-ends (visits n d ends) m u = fifth-clears d m u
 
 -- of a sound table no more than five sendings are done
-sendings-most : (r : Record) → recordSound r ≡ true → sendingsDone (r .notice) ≤ mostSendings
-sendings-most r sound = go (r .notice) refl
-  where
-    go : (n : Notice) → r .notice ≡ n → sendingsDone n ≤ mostSendings
-    go Absent e = omega arith
-    go (Waiting k s) e = omega (arith, waiting-sendings r sound k s e)
-    go (InFlight k) e = flying-sendings r sound k e .1
-
 table-most : (table : List ℕ) (k : ℕ) → tableSound table ≡ true → sendingsDone (noticeFor table k) ≤ mostSendings
 table-most table k sound = go (rowOf table k) refl
   where
     go : (place : Found) → rowOf table k ≡ place → sendingsDone (noticeFor table k) ≤ mostSendings
     go Nothing e = rw (record-missing table k e) (omega arith)
-    go (At i) e = rw (record-found table k i e) (sendings-most (recordAt table i) (record-sound table i (found-sound table k i sound e)))
+    go (At i) e = rw (record-found table k i e) (few-sendings (recordAt table i) (record-sound table i (found-sound table k i sound e)))
 
 -- ---- the notice ends
 

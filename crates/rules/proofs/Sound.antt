@@ -27,9 +27,9 @@ use Rattle.records.specs.declared.Holder.the-variants as holds
 use Rattle.records.specs.declared.Resulted.{Resulted}
 use Rattle.records.specs.declared.Resulted.the-variants.{Refused, Delivered, Dropped, Again}
 use Rattle.records.specs.Steps as steps
-use Rattle.records.specs.Rows.{numberAt, recordAt, stored, recordSound}
-use Rattle.records.proofs.Rows.{record-sound, stored-length, stored-number}
-use Rattle.records.proofs.Kept.{SoundStep, SoundResult, registered-sound, erased-sound, forced-sound, sent-sound, resulted-sound}
+use Rattle.rows.specs.Rows.{numberAt, recordAt, stored, recordSound}
+use Rattle.rows.proofs.Rows.{record-sound, stored-length, stored-number}
+use Rattle.rows.proofs.Kept.{SoundStep, SoundResult, registered-sound, erased-sound, forced-sound, sent-sound, resulted-sound}
 use Rattle.tables.specs.declared.Found.{Found}
 use Rattle.tables.specs.declared.Found.the-variants.{At, Nothing}
 use Rattle.tables.specs.Tables.{tableSound, rowOf, recordFound, recordOf, rowsIn, flagsOf}

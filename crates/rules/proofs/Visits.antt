@@ -30,8 +30,8 @@ use Rattle.records.specs.declared.Step.the-variants as step
 use Rattle.records.specs.declared.Holder.the-variants as holds
 use Rattle.records.specs.declared.Resulted.the-variants.{Refused, Delivered, Dropped, Again}
 use Rattle.records.specs.Steps as steps
-use Rattle.records.specs.Rows.{rowSound, recordAt, stored}
-use Rattle.records.proofs.Rows.{sound-row, words-stored}
+use Rattle.rows.specs.Rows.{rowSound, recordAt, stored}
+use Rattle.rows.proofs.Rows.{sound-row, words-stored}
 use Rattle.tables.specs.declared.Found.{Found}
 use Rattle.tables.specs.declared.Found.the-variants.{At, Nothing}
 use Rattle.tables.specs.Tables.{tableSound, rowOf, recordFound, recordOf, flagsOf}

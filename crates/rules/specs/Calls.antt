@@ -9,7 +9,7 @@ use Rattle.numbers.specs.declared.FunctionalNumber.{FunctionalNumber}
 use Rattle.numbers.specs.declared.Msisdn.{Msisdn}
 use Rattle.strings.specs.Text.{Request}
 use Rattle.strings.specs.Outcomes.{requestOf}
-use Rattle.records.specs.Rows.{rowWords}
+use Rattle.rows.specs.Rows.{rowWords}
 use Rattle.tables.specs.declared.Found.{Found}
 use Rattle.tables.specs.declared.Found.the-variants.{At, Nothing}
 use Rattle.tables.specs.Tables.{rowOf}

@@ -4,7 +4,7 @@ use mathlib.Core.Bool.{Bool, true, false}
 use mathlib.Core.List.{List}
 use Prim.Native.Nat.{ℕ, _≤_, _<_}
 use Rattle.records.specs.Steps.{isDue}
-use Rattle.records.specs.Rows.{numberAt, recordAt}
+use Rattle.rows.specs.Rows.{numberAt, recordAt}
 use Rattle.tables.specs.Tables.{rowsIn}
 
 module _ (table : List ℕ) (delay clock : ℕ) where

@@ -13,7 +13,7 @@ use Rattle.records.specs.declared.Notice.{Notice}
 use Rattle.records.specs.declared.Notice.the-variants.{Absent, Waiting}
 use Rattle.records.specs.declared.Record.{Record}
 use Rattle.records.specs.Steps.{mostSendings, lastKind, isWaiting, isInFlight, isDue, sendingsDone, launched, withNotice, cleared, delayAllowed}
-use Rattle.records.specs.Rows.{numberAt, recordAt, stored}
+use Rattle.rows.specs.Rows.{numberAt, recordAt, stored}
 use Rattle.tables.specs.declared.Found.{Found}
 use Rattle.tables.specs.declared.Found.the-variants.{At, Nothing}
 use Rattle.tables.specs.Tables.{tableSound, rowOf, recordOf, rowsIn}

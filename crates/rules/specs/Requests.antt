@@ -17,7 +17,7 @@ use Rattle.strings.specs.Text.{Request}
 use Rattle.strings.specs.Outcomes.{requestOf}
 use Rattle.records.specs.declared.Record.{Record}
 use Rattle.records.specs.Steps.{nobody, isNobody, same, heldBy, forcedOff, isAbsent}
-use Rattle.records.specs.Rows.{stored, recordAt}
+use Rattle.rows.specs.Rows.{stored, recordAt}
 use Rattle.tables.specs.declared.Found.{Found}
 use Rattle.tables.specs.declared.Found.the-variants.{At, Nothing}
 use Rattle.tables.specs.Tables.{tableSound, listSound, rowOf, recordOf, flagsOf}

@@ -22,7 +22,7 @@ use Rattle.records.specs.declared.Holder.the-variants as holds
 use Rattle.records.specs.declared.Resulted.{Resulted}
 use Rattle.records.specs.declared.Resulted.the-variants.{Refused, Delivered, Dropped, Again}
 use Rattle.records.specs.Steps as steps
-use Rattle.records.specs.Rows.{stored}
+use Rattle.rows.specs.Rows.{stored}
 use Rattle.tables.specs.Tables.{flagsOf}
 use Rattle.rules.specs.Answers.{Answer, refusal, error, outcome, holder, sent, delivered, dropped, again, Outcome, made, bufferRoom, twoDigits, holderText, over, octetCount}
 use Rattle.rules.specs.Requests.{hasFollowMe, isSupervisor, isForced, refusalChecks}

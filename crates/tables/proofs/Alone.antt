@@ -10,8 +10,8 @@ use lib.ListN.{length, getD, take, drop, length-take, length-drop}
 use lib.Seq.{getD-take, getD-drop}
 use borrow.Author.Tests.{eq-eqb, lt-ltb}
 use Rattle.numbers.proofs.Lengths.{number-some}
-use Rattle.records.specs.Rows.{rowWords, numberAt, recordAt}
-use Rattle.records.proofs.Rows.{SameWords, same-record, same-row, sound-row}
+use Rattle.rows.specs.Rows.{rowWords, numberAt, recordAt}
+use Rattle.rows.proofs.Rows.{SameWords, same-record, same-row, sound-row}
 use Rattle.tables.specs.declared.Found.the-variants.{At}
 use Rattle.tables.specs.Keys.{placeOf}
 use Rattle.tables.specs.Tables.{rowsIn, tableSound, rowOf, recordOf}

@@ -9,7 +9,7 @@ use lib.Dec.{eqb, ltb, leb}
 use borrow.Author.Tests.{eq-eqb, ne-eqb, le-leb, lt-leb, eqb-true, leb-true}
 use Rattle.answers.proofs.Tests.{and-left, and-right, and-three, and-no}
 use Rattle.numbers.specs.Numbers.{isNumber}
-use Rattle.records.specs.Rows.{rowWords, numberAt, rowSound}
+use Rattle.rows.specs.Rows.{rowWords, numberAt, rowSound}
 use Rattle.tables.specs.Keys.{every, ascends}
 use Rattle.tables.specs.Tables.{mostNumbers, rowsIn, numberKey, rowStands, tableSound, subscriberWords, mostSubscribers, mostFlags, subscribersIn, msisdnKey, flagsAt, subscriberStands, listSound}
 use Rattle.tables.proofs.Keys.{keyBefore, before-next, ascends-before, every-more, every-not, every-at, every-from, ascending}

@@ -10,10 +10,10 @@ use native.Mathlib.Omega.{arith}
 use lib.ListN.{length, getD}
 use lib.Seq.{ext-getD}
 use Rattle.answers.proofs.Tests.{and-both, less-or-not, same-or-not}
-use Rattle.records.specs.Rows.{rowWords, numberAt, rowSound, recordAt, stored, recordSound}
+use Rattle.rows.specs.Rows.{rowWords, numberAt, rowSound, recordAt, stored, recordSound}
 use Rattle.records.specs.declared.Record.{Record}
-use Rattle.records.proofs.Rows as rows
-use Rattle.records.proofs.Rows.{stored-length, stored-number, record-other, row-other, record-stored, same-words}
+use Rattle.rows.proofs.Rows as rows
+use Rattle.rows.proofs.Rows.{stored-length, stored-number, record-other, row-other, record-stored, same-words}
 use Rattle.tables.specs.declared.Found.{Found}
 use Rattle.tables.specs.declared.Found.the-variants.{At, Nothing}
 use Rattle.tables.specs.Keys.{ascends, placeOf}

@@ -6,7 +6,7 @@ use mathlib.Core.List.{List}
 use lib.ListN.{length, getD}
 use lib.Dec.{eqb, leb}
 use Rattle.numbers.specs.Numbers.{isNumber}
-use Rattle.records.specs.Rows.{rowWords, rowSound, recordAt}
+use Rattle.rows.specs.Rows.{rowWords, rowSound, recordAt}
 use Rattle.records.specs.declared.Record.{Record}
 use Rattle.tables.specs.declared.Found.{Found}
 use Rattle.tables.specs.declared.Found.the-variants.{At, Nothing}

@@ -5,7 +5,7 @@ use mathlib.Core.List.{List}
 use Prim.Native.Nat.{ℕ, suc, _+_, _-_, _≤_, _<_}
 use native.Mathlib.Numerals.{add-one}
 use native.Mathlib.Omega.{arith}
-use Rattle.records.specs.Rows.{numberAt, recordAt}
+use Rattle.rows.specs.Rows.{numberAt, recordAt}
 use Rattle.records.specs.Steps.{isDue}
 use Rattle.rules.specs.Answers.{found, noneDue}
 use Rattle.rules.specs.Notices.{firstDue}

@@ -21,10 +21,10 @@ use Rattle.records.specs.declared.Holder.{Holder}
 use Rattle.records.specs.declared.Holder.the-variants as holder
 use Rattle.records.specs.declared.Resulted.{Resulted}
 use Rattle.records.specs.declared.Resulted.the-variants.{Refused, Delivered, Dropped, Again}
-use Rattle.records.specs.Rows.{rowSound, recordSound, recordAt, stored}
+use Rattle.rows.specs.Rows.{rowSound, recordSound, recordAt, stored}
 use Rattle.records.specs.Steps.{isAbsent, isWaiting, isDue, isNobody, withNotice, launched, delayAllowed, registered, interrogated, sent}
-use Rattle.records.proofs.Rows.{words-stored}
-use Rattle.records.proofs.Kept.{holder-number, pending-words}
+use Rattle.rows.proofs.Rows.{words-stored}
+use Rattle.rows.proofs.Kept.{holder-number, pending-words}
 use Rattle.rules.specs.Answers.{Answer, outcome, refusal, sent as sends, delivered, dropped, again, made, over, octetCount, twoDigits}
 use Rattle.rules.specs.Visits.{Visited, visited, storing, stepped, told, erases, decided, sentStep, resultStep}
 

@@ -17,7 +17,7 @@ ghost use lib.ListN.{length};
 ghost use Rattle.packing.specs.Packing.{takes, octetsFor};
 ghost use Rattle.numbers.specs.Numbers.{isNumber};
 ghost use Rattle.records.specs.Steps.{interrogated, sent, isDue};
-ghost use Rattle.records.specs.Rows.{recordAt, rowSound, recordSound};
+ghost use Rattle.rows.specs.Rows.{recordAt, rowSound, recordSound};
 ghost use Rattle.tables.specs.Tables.{tableSound, rowsIn};
 ghost use Rattle.rules.specs.Answers.{made, outcome, holder, bufferRoom, over, octetCount, twoDigits, holderText};
 ghost use Rattle.rules.specs.Notices as notices;
@@ -101,7 +101,7 @@ fn settle(table: &mut [u64], row: usize, reply: &mut [u8], success: u8, step: St
     match step {
         Step::Stays(n) => say(n, reply),
         Step::Becomes(next) => {
-            records::store(table, row, next);
+            rows::store(table, row, next);
             say(success, reply)
         }
     }
@@ -140,7 +140,7 @@ pub fn decide_at(
     requires { ⌜ (row < rowsIn (now table)) × (rowSound (now table) row ≡ true) × (bufferRoom ≤ length (now reply)) ⌝ }
     ensures { λ r. ⌜ made (saidRequest r) (now (table .exit)) (now (reply .exit)) ≡ storing (now (table .entry)) row (decided (deciding fields) requester (now (reply .entry)) (recordAt (now (table .entry)) row)) ⌝ }
 {
-    let record = records::load(table, row);
+    let record = rows::load(table, row);
     let operation = fields.operation;
     let number = fields.number;
     let erasing = fields.erasing;
@@ -170,12 +170,12 @@ pub fn send_at(
     requires { ⌜ (isNumber (number .0) ≡ true) × (bufferRoom ≤ length (now buffer)) ⌝ }
     ensures { λ r. ⌜ made (saidSending r) (now (table .exit)) (now (buffer .exit)) ≡ storing (now (table .entry)) row (sentStep number (now (buffer .entry)) (recordAt (now (table .entry)) row) (sent delay clock (recordAt (now (table .entry)) row))) ⌝ }
 {
-    let held = records::load(table, row);
+    let held = rows::load(table, row);
     let step = held.send(delay, clock);
     match step {
         Step::Stays(n) => SendingAnswer::Refused(n),
         Step::Becomes(launched) => {
-            records::store(table, row, launched);
+            rows::store(table, row, launched);
             let addressee = held.addressee;
             let supervisor = held.supervisor;
             let octets = writers::write_notice(number, supervisor, buffer);
@@ -189,20 +189,20 @@ pub fn result_at(table: &mut [u64], row: usize, kind: u32, clock: u32) -> Result
     requires { ⌜ (row < rowsIn (now table)) × (rowSound (now table) row ≡ true) ⌝ }
     ensures { λ r. ⌜ made (saidResult r) (now (table .exit)) [] ≡ storing (now (table .entry)) row (visitResult kind clock (recordAt (now (table .entry)) row)) ⌝ }
 {
-    let held = records::load(table, row);
+    let held = rows::load(table, row);
     let step = held.result(kind, clock);
     match step {
         Resulted::Refused(n) => ResultAnswer::Refused(n),
         Resulted::Delivered(next) => {
-            records::store(table, row, next);
+            rows::store(table, row, next);
             ResultAnswer::Delivered
         }
         Resulted::Dropped(next) => {
-            records::store(table, row, next);
+            rows::store(table, row, next);
             ResultAnswer::Dropped
         }
         Resulted::Again(next) => {
-            records::store(table, row, next);
+            rows::store(table, row, next);
             ResultAnswer::Again
         }
     }
@@ -213,7 +213,7 @@ fn row_due(table: &[u64], row: usize, delay: u32, clock: u32) -> bool
     requires { ⌜ (row < rowsIn (now table)) × (rowSound (now table) row ≡ true) ⌝ }
     ensures { λ r. ⌜ r ≡ isDue delay clock (recordAt (now (table .entry)) row .notice) ⌝ }
 {
-    let held = records::load(table, row);
+    let held = rows::load(table, row);
     let notice = held.notice;
     records::is_due(delay, clock, notice)
 }
@@ -223,11 +223,11 @@ pub fn first_due(table: &[u64], delay: u32, clock: u32) -> FindingAnswer
     requires { ⌜ tableSound (now table) ≡ true ⌝ }
     ensures { λ r. ⌜ saidFinding r ≡ notices.firstDue (now (table .entry)) delay clock (rowsIn (now (table .entry))) 0 ⌝ }
 {
-    let rows = table.len() / records::ROW_WORDS;
+    let rows = table.len() / rows::ROW_WORDS;
     let mut row = 0;
     while row < rows {
         if row_due(table, row, delay, clock) {
-            let number = FunctionalNumber(table[records::ROW_WORDS * row]);
+            let number = FunctionalNumber(table[rows::ROW_WORDS * row]);
             return FindingAnswer::Due(number);
         }
         row += 1;

@@ -6,7 +6,7 @@ use native.Mathlib.Omega.{arith}
 use lib.ListN.{take}
 use lib.Seq.{length-take-le}
 use borrow.Author.Tests.{not-true, not-false}
-use Rattle.records.specs.Rows.{rowWords}
+use Rattle.rows.specs.Rows.{rowWords}
 use Rattle.tables.specs.Tables.{mostNumbers}
 use Rattle.lines.specs.Program.{mayFollow}
 use Rattle.lines.proofs.Memory.{put-kept, follows-below, put-count, put-nothing, did-as, numbered-late, numbered-over, numbered-in}

@@ -4,7 +4,7 @@ use mathlib.Core.List.{List}
 use Prim.Native.Nat.{ℕ}
 use denote.Ref.{now}
 use borrow.Author.Tests.{eq-eqb, ne-eqb}
-use Rattle.records.specs.Rows.{rowSound}
+use Rattle.rows.specs.Rows.{rowSound}
 use Rattle.tables.specs.Tables.{rowOf, flagsOf}
 use Rattle.tables.specs.declared.Found.the-variants.{At}
 use Rattle.tables.proofs.Sound.{table-row}

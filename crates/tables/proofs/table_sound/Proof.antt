@@ -4,7 +4,7 @@ use Prim.Native.Nat.{_-_}
 use native.Mathlib.Omega.{arith}
 use borrow.Author.Needs.{needs}
 use borrow.Author.Tests.{not-true, not-false}
-use Rattle.records.specs.Rows.{rowWords, rowSound}
+use Rattle.rows.specs.Rows.{rowWords, rowSound}
 use Rattle.tables.specs.Tables.{mostNumbers, rowsIn, numberKey, rowStands, tableSound}
 use Rattle.tables.proofs.Sound.{ragged, too-many, not-every, all-stand, Scanned, scan-start, scan-test, scan-next, scan-end}
 use Rattle.tables.proofs.table_sound.Statement.{statement}

@@ -6,8 +6,8 @@ use denote.Ref.{now}
 use Rattle.records.specs.declared.Record.{Record}
 use Rattle.records.specs.declared.Step.{Step}
 use Rattle.records.specs.Steps.{registered}
-use Rattle.records.specs.Rows.{recordAt}
-use Rattle.records.proofs.Rows.{record-sound}
+use Rattle.rows.specs.Rows.{recordAt}
+use Rattle.rows.proofs.Rows.{record-sound}
 use Rattle.rules.specs.Visits.{storing, stepped, erases}
 use Rattle.visits.specs.Deciding.{deciding}
 use Rattle.visits.proofs.Placed.{decided-register, decided-erase, decided-interrogate, told-placed}

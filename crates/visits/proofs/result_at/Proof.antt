@@ -4,7 +4,7 @@ use Prim.Native.Nat.{ℕ}
 use denote.Ref.{now}
 use Rattle.records.specs.declared.Resulted.{Resulted}
 use Rattle.records.specs.Steps.{resulted}
-use Rattle.records.specs.Rows.{recordAt}
+use Rattle.rows.specs.Rows.{recordAt}
 use Rattle.visits.proofs.Placed.{result-refused, result-delivered, result-dropped, result-again}
 use borrow.Author.Needs.{needs}
 use Rattle.visits.proofs.result_at.Statement.{statement}

@@ -7,8 +7,9 @@ use denote.Ref.{now}
 use Rattle.records.specs.declared.Record.{Record}
 use Rattle.records.specs.declared.Step.{Step}
 use Rattle.records.specs.Steps.{sent}
-use Rattle.records.specs.Rows.{recordAt, recordSound}
-use Rattle.records.proofs.Rows.{record-sound}
+use Rattle.rows.specs.Rows.{recordAt, recordSound}
+use Rattle.rows.proofs.Rows.{record-sound}
+use Rattle.rows.proofs.Kept.{few-sendings}
 use Rattle.visits.proofs.Placed.{sent-supervisor, sending-refused, sending-placed}
 use borrow.Author.Needs.{needs}
 use Rattle.visits.proofs.send_at.Statement.{statement}
@@ -36,7 +37,7 @@ load-requires : tie.Need-load-requires
 load-requires c κs = search needs
 
 send-requires : tie.Need-send-requires
-send-requires c κs = rw (c .load .ensures) (sound (start c))
+send-requires c κs = rw (c .load .ensures) (few-sendings (R (start c)) (sound (start c)))
 
 enum-known-step : tie.Need-enum-known-step
 enum-known-step c = search needs

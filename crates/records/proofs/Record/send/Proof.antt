@@ -1,9 +1,8 @@
-use mathlib.Core.Path.{sym, _∙_}
+use mathlib.Core.Path.{sym, ap, _∙_}
 use native.Mathlib.Omega.{arith}
 use borrow.Author.Tests.{not-true, not-false}
-use Rattle.records.specs.Steps.{sent}
+use Rattle.records.specs.Steps.{sendingsDone, sent}
 use Rattle.records.proofs.Arms.{not-waiting}
-use Rattle.records.proofs.Kept.{waiting-sendings}
 use borrow.Author.Needs.{needs}
 use Rattle.records.proofs.Record.send.Statement.{statement}
 use Rattle.records.proofs.Record.send.Tie as tie
@@ -38,8 +37,7 @@ add-t9 : tie.Need-add-t9
 add-t9 c =
     let known = c .before .before in
     let start = known .before .before .before .before .before in
-    let h = waiting-sendings (start .args .self) (start .pre) (known .before .notice .given .0 .0) _ (known .before .notice .given .1) in
-    omega arith
+    omega (arith, start .pre, ap sendingsDone (known .before .notice .given .1))
 
 with-notice-requires : tie.Need-with-notice-requires
 with-notice-requires c κs = search needs

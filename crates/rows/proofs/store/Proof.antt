@@ -1,9 +1,9 @@
 use native.Mathlib.Omega.{arith}
 use lib.ListN.{length-set}
 use borrow.Author.Needs.{needs}
-use Rattle.records.proofs.Rows.{five-stores}
-use Rattle.records.proofs.store.Statement.{statement}
-use Rattle.records.proofs.store.Tie as tie
+use Rattle.rows.proofs.Rows.{five-stores}
+use Rattle.rows.proofs.store.Statement.{statement}
+use Rattle.rows.proofs.store.Tie as tie
 
 mul-at : tie.Need-mul-at
 mul-at c = search needs

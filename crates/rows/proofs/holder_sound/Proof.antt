@@ -1,6 +1,6 @@
 use borrow.Author.Needs.{needs}
-use Rattle.records.proofs.holder_sound.Statement.{statement}
-use Rattle.records.proofs.holder_sound.Tie as tie
+use Rattle.rows.proofs.holder_sound.Statement.{statement}
+use Rattle.rows.proofs.holder_sound.Tie as tie
 
 is-number-by-requires : tie.Need-is-number-by-requires
 is-number-by-requires c κs = search needs

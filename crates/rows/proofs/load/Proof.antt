@@ -1,9 +1,9 @@
 use borrow.Author.Needs.{needs}
-use Rattle.records.specs.Rows.{recordAt}
-use Rattle.records.proofs.Notices.{notice-bounds}
-use Rattle.records.proofs.Rows.{sound-row}
-use Rattle.records.proofs.load.Statement.{statement}
-use Rattle.records.proofs.load.Tie as tie
+use Rattle.rows.specs.Rows.{recordAt}
+use Rattle.rows.proofs.Notices.{notice-bounds}
+use Rattle.rows.proofs.Rows.{sound-row}
+use Rattle.rows.proofs.load.Statement.{statement}
+use Rattle.rows.proofs.load.Tie as tie
 
 words-at-requires : tie.Need-words-at-requires
 words-at-requires c κs = search needs

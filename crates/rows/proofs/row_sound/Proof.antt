@@ -1,7 +1,7 @@
 use borrow.Author.Needs.{needs}
-use Rattle.records.specs.Rows.{rowSound}
-use Rattle.records.proofs.row_sound.Statement.{statement}
-use Rattle.records.proofs.row_sound.Tie as tie
+use Rattle.rows.specs.Rows.{rowSound}
+use Rattle.rows.proofs.row_sound.Statement.{statement}
+use Rattle.rows.proofs.row_sound.Tie as tie
 
 words-at-requires : tie.Need-words-at-requires
 words-at-requires c κs = search needs

@@ -1,6 +1,6 @@
 use borrow.Author.Needs.{needs}
-use Rattle.records.proofs.phase_of.Statement.{statement}
-use Rattle.records.proofs.phase_of.Tie as tie
+use Rattle.rows.proofs.phase_of.Statement.{statement}
+use Rattle.rows.proofs.phase_of.Tie as tie
 
 enum-told : tie.Need-enum-told
 enum-told c = search needs

@@ -9,10 +9,10 @@ use lib.ListN.{length, getD, set}
 use lib.Seq.{length-sets}
 use Rattle.answers.proofs.Tests.{and-three, less-or-not}
 use Rattle.numbers.specs.Numbers.{isNumber}
 use Rattle.records.specs.declared.Record.{Record}
-use Rattle.records.specs.Rows.{rowWords, word, numberAt, holderAt, phaseAt, addresseeAt, supervisorAt, secondAt, holderSound, noticeSound, rowSound, phaseOf, secondOf, recordAt, wordsOf, stored, sentOnce, recordSound}
-use Rattle.records.proofs.Notices.{phase-back, second-back, once-back, notice-back}
-use Rattle.records.proofs.Stores.{sets-other, sets-at, sets-same}
+use Rattle.rows.specs.Rows.{rowWords, word, numberAt, holderAt, phaseAt, addresseeAt, supervisorAt, secondAt, holderSound, noticeSound, rowSound, phaseOf, secondOf, recordAt, wordsOf, stored, sentOnce, recordSound}
+use Rattle.rows.proofs.Notices.{phase-back, second-back, once-back, notice-back}
+use Rattle.rows.proofs.Stores.{sets-other, sets-at, sets-same}
 
 -- ---- what a sound row and a sound record say
 

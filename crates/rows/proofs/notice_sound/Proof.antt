@@ -1,8 +1,8 @@
 use borrow.Author.Tests.{eq-eqb, ne-eqb}
 use borrow.Author.Needs.{needs}
-use Rattle.records.specs.Rows.{noticeSound}
-use Rattle.records.proofs.notice_sound.Statement.{statement}
-use Rattle.records.proofs.notice_sound.Tie as tie
+use Rattle.rows.specs.Rows.{noticeSound}
+use Rattle.rows.proofs.notice_sound.Statement.{statement}
+use Rattle.rows.proofs.notice_sound.Tie as tie
 
 returns : tie.Need-returns
 unfolding noticeSound

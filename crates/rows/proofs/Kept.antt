@@ -10,17 +10,17 @@ use Rattle.answers.proofs.Tests.{no-path, or-cases, or-right}
 use Rattle.numbers.specs.Numbers.{isNumber}
 use Rattle.numbers.specs.declared.FunctionalNumber.{FunctionalNumber}
 use Rattle.numbers.specs.declared.Msisdn.{Msisdn}
 use Rattle.records.specs.declared.Notice.{Notice}
 use Rattle.records.specs.declared.Notice.the-variants.{Absent, Waiting, InFlight}
 use Rattle.records.specs.declared.Record.{Record}
 use Rattle.records.specs.declared.Step.{Step}
 use Rattle.records.specs.declared.Step.the-variants.{Stays, Becomes}
 use Rattle.records.specs.declared.Resulted.{Resulted}
 use Rattle.records.specs.declared.Resulted.the-variants.{Refused, Delivered, Dropped, Again}
 use Rattle.records.specs.Steps.{nobody, isNobody, same, heldBy, mostSendings, isAbsent, isWaiting, isInFlight, sendingsDone, withNotice, cleared, forcedOff, registered, erased, forced, delayAllowed, isDue, launched, sent, lastKind, resulted}
-use Rattle.records.specs.Rows.{lastPhase, failedOnce, holderSound, noticeSound, phaseOf, secondOf, sentOnce, recordSound}
-use Rattle.records.proofs.Notices.{Pending, pending, pending-sound}
-use Rattle.records.proofs.Rows.{sound-record, record-is-sound}
+use Rattle.rows.specs.Rows.{lastPhase, failedOnce, holderSound, noticeSound, phaseOf, secondOf, sentOnce, recordSound}
+use Rattle.rows.proofs.Notices.{Pending, pending, pending-sound}
+use Rattle.rows.proofs.Rows.{sound-record, record-is-sound}
 
 -- ---- what a sound record says
 
@@ -44,6 +44,15 @@ module _ (r : Record) (s : recordSound r ≡ true) where
   pub flying-sendings : (k : ℕ) → r .notice ≡ InFlight k → (1 ≤ k) × (k ≤ mostSendings)
   flying-sendings k e =
       let h = pending-words (ap isAbsent e) in let l = h .some in let m = h .most in let p = ap phaseOf e in (omega arith, omega arith)
+
+  -- no notice has more sendings done than the most
+  pub few-sendings : sendingsDone (r .notice) ≤ mostSendings
+  few-sendings = go (r .notice) refl
+    where
+      go : (n : Notice) → r .notice ≡ n → sendingsDone n ≤ mostSendings
+      go Absent e = omega arith
+      go (Waiting k second) e = omega (arith, waiting-sendings k second e)
+      go (InFlight k) e = flying-sendings k e .1
 
 -- ---- each step gives a sound record back
 

@@ -6,11 +6,11 @@ use lib.ListN.{getD}
 use lib.Seq.{sets}
 use lib.Dec.{eqb, ltb, leb}
 use Rattle.numbers.specs.Numbers.{isNumber}
 use Rattle.records.specs.declared.Notice.{Notice}
 use Rattle.records.specs.declared.Notice.the-variants.{Absent, Waiting, InFlight}
 use Rattle.records.specs.declared.Record.{Record}
-use Rattle.records.specs.declared.Words.{Words}
+use Rattle.rows.specs.declared.Words.{Words}
 use Rattle.records.specs.Steps.{mostSendings}
 
 -- "six 64-bit words a number … The words: functional number; holder, a number, or 0; phase; notice's addressee; supervisor; second of the last failure"
 abbrev pub rowWords : ℕ

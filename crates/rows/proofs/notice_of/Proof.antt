@@ -1,8 +1,8 @@
 use borrow.Author.Tests.{eq-eqb, ne-eqb}
 use borrow.Author.Needs.{needs}
-use Rattle.records.specs.Rows.{noticeOf}
-use Rattle.records.proofs.notice_of.Statement.{statement}
-use Rattle.records.proofs.notice_of.Tie as tie
+use Rattle.rows.specs.Rows.{noticeOf}
+use Rattle.rows.proofs.notice_of.Statement.{statement}
+use Rattle.rows.proofs.notice_of.Tie as tie
 
 returns : tie.Need-returns
 unfolding noticeOf

@@ -8,9 +8,9 @@ use lib.Dec.{eqb, ltb, leb}
 use borrow.Author.Tests.{eq-eqb, ne-eqb, eqb-true, eqb-false, leb-true, le-leb, ltb-true, lt-ltb}
 use Rattle.answers.proofs.Tests.{and-left, and-right, and-three, or-cases, less-or-not}
 use Rattle.numbers.specs.Numbers.{isNumber}
 use Rattle.records.specs.declared.Notice.{Notice}
 use Rattle.records.specs.declared.Notice.the-variants.{Absent, Waiting, InFlight}
-use Rattle.records.specs.Rows.{lastPhase, failedOnce, noticeSound, noticeOf, phaseOf, secondOf, sentOnce}
+use Rattle.rows.specs.Rows.{lastPhase, failedOnce, noticeSound, noticeOf, phaseOf, secondOf, sentOnce}
 
 -- ---- what the words of a notice say
 

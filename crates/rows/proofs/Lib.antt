@@ -1,0 +1,6 @@
+-- `Notices`: the words of a sound notice, its phase and its second. `Stores`: what a run of stores leaves. `Rows`: a row and its record.
+-- `Kept`: what a sound record says, and each step gives a sound record back.
+pub mod Notices
+pub mod Stores
+pub mod Rows
+pub mod Kept
