@@ -8,12 +8,12 @@ use native.Mathlib.Nat.{pow-le-pow-right, le-of-suc-le-suc, not-suc-le-zero, add
 use native.Mathlib.Omega.{arith}
 use lib.ListN.{getD}
 use lib.Count.{leadingZeros, leading-le, leading-length}
-use lib.Dec.{leb, eqb, lit<}
-use borrow.Author.Tests.{leb-true, eqb-true}
-use Rattle.answers.proofs.Tests.{same-test, or-cases, either}
+use lib.Dec.{leb, ltb, eqb, lit<}
+use borrow.Author.Tests.{le-leb, leb-true, lt-ltb, ltb-true, eqb-true}
+use Rattle.answers.proofs.Tests.{same-test, and-left, and-right, and-both, or-cases}
 use Rattle.numbers.specs.Numbers.{fewestDigits, mostDigits, isNumber}
-use Rattle.numbers.specs.Least.{lengths, apart, leastOf, leastFrom, leastNumbers}
-use Rattle.numbers.proofs.Lengths.{allOf, all-at, HasLength, length-of, is-number}
+use Rattle.numbers.specs.Least.{lengths, apart, leastOf, leastFrom, leastNumbers, leastFor, isFrom}
+use Rattle.numbers.proofs.Lengths.{allOf, all-at, HasLength, length-of, is-number, number-below}
 
 -- ---- the table's entries
 
@@ -76,28 +76,50 @@ entry-of d w l fits =
 
 -- ---- one comparison
 
--- p is the entry at the leading zero bits of w, x is w less p, modulo 2 ^ 64, and the test is whether x is below p
-pub tells :
-    (w p x : ℕ) (test : Bool) → p ≡ getD leastNumbers (leadingZeros 64 w) 0 → w < 2 ^ 64 → x < 2 ^ 64 → (x + p) % 2 ^ 64 ≡ w
-    → (test ≡ true → x < p) → (test ≡ false → p ≤ x) → test ≡ isNumber w
-tells w p x test at fits x-fits less holds fails =
-    same-test test (isNumber w) (λ t. number (holds t) (entry-is z lengths)) (λ n. passes n (either test))
+-- the words from p on, below twice p, are numbers
+pub record Starts (p : ℕ) : Type 0 where
+  pub small : p ≤ 10 ^ mostDigits
+  pub numbers : (w : ℕ) → isFrom p w ≡ true → isNumber w ≡ true
+
+pub starts-none : Starts 0
+starts-none = record { small = zero-le; numbers = λ w e. absurd (not-suc-le-zero (ltb-true w (2 * 0) (and-right (leb 0 w) _ e))) }
+
+pub starts-for : (w : ℕ) → Starts (leastFor w)
+unfolding leastFor
+starts-for w = rw (entry-at w) (go (entry-is (leadingZeros 64 w) lengths))
   where
-    z : ℕ
-    z = leadingZeros 64 w
-
-    entry : p ≡ leastOf z lengths
-    entry = at ∙ entry-at w
-
-    number : x < p → Entry lengths (leastOf z lengths) → isNumber w ≡ true
-    number s (inl e) = absurd (omega (arith, entry))
-    number s (inr r) =
+    go : {p : ℕ} → Entry lengths p → Starts p
+    go (inl e) = rw e starts-none
+    go (inr r) =
         let most : r .0 ≤ mostDigits = omega (arith, r .2) in
-        let small = pow-le-pow-right {n = 10} (lit< tt) most in
-        is-number (r .0) w (record { fewest = r .1; most = most; least = omega (arith, entry, r .3); below = omega (arith, entry, r .3) })
+        record {
+          small = rw (r .3) (pow-le-pow-right {n = 10} (lit< tt) most);
+          numbers =
+              λ x e.
+              is-number (r .0) x
+              (record {
+                fewest = r .1;
+                most = most;
+                least = omega (arith, leb-true _ x (and-left _ _ e), r .3);
+                below = omega (arith, ltb-true x _ (and-right (leb _ x) _ e), r .3);
+              });
+        }
 
-    passes : isNumber w ≡ true → (test ≡ true) ⊎ (test ≡ false) → test ≡ true
-    passes n (inl t) = t
-    passes n (inr f) =
+-- the least number that a word's leading zero bits leave tells whether it is a number
+pub least-tells : (w : ℕ) → isFrom (leastFor w) w ≡ isNumber w
+unfolding leastFor
+least-tells w = same-test (isFrom (leastFor w) w) (isNumber w) (starts-for w .numbers w) (λ n. passes n)
+  where
+    passes : isNumber w ≡ true → isFrom (leastFor w) w ≡ true
+    passes n =
         let l = length-of w n in
-        absurd (omega (arith, fails f, entry, entry-of (l .0) w (l .1) fits, l .1 .least, l .1 .below))
+        let e = entry-at w ∙ entry-of (l .0) w (l .1) (omega (arith, number-below w n)) in
+        rw e (and-both (leb (10 ^ l .0) w) (ltb w (2 * 10 ^ l .0)) (le-leb (10 ^ l .0) w (l .1 .least)) (lt-ltb w (2 * 10 ^ l .0) (l .1 .below)))
+
+-- x is w less p, modulo 2 ^ 64: the test whether x is below p
+pub wraps-from :
+    (w p x : ℕ) → p ≤ 10 ^ mostDigits → w < 2 ^ 64 → x < 2 ^ 64 → (x + p) % 2 ^ 64 ≡ w → ltb x p ≡ isFrom p w
+wraps-from w p x small fits x-fits less =
+    same-test (ltb x p) (isFrom p w)
+    (λ t. and-both (leb p w) (ltb w (2 * p)) (le-leb p w (omega (arith, ltb-true x p t))) (lt-ltb w (2 * p) (omega (arith, ltb-true x p t))))
+    (λ t. lt-ltb x p (omega (arith, leb-true p w (and-left (leb p w) _ t), ltb-true w (2 * p) (and-right (leb p w) _ t))))

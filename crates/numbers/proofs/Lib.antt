@@ -2,7 +2,7 @@
 -- `Digits`: the stored form and the digits undo each other. `Reading`, `Writing`: digits read from a string and written into a buffer.
 -- `Choice`: the contracts leave none. `Examples`: document 01's own.
 pub mod Lengths
-mod Least
+pub mod Least
 pub mod Digits
 pub mod Reading
 pub mod Writing

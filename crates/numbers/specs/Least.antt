@@ -1,8 +1,10 @@
 -- The table of least numbers, by which a word's leading zero bits and one comparison tell whether it is a number. Assumes nothing.
 use Prim.Native.Nat.{ℕ, zero, suc, _+_, _-_, _*_, _^_}
-use mathlib.Core.Bool.{Bool, cond, _||_}
+use mathlib.Core.Bool.{Bool, cond, _||_, _&&_}
 use mathlib.Core.List.{List, [], _∷_}
-use lib.Dec.{leb}
+use lib.ListN.{getD}
+use lib.Count.{leadingZeros}
+use lib.Dec.{leb, ltb}
 use Rattle.numbers.specs.Numbers.{fewestDigits, mostDigits}
 
 -- how many lengths a number can have
@@ -26,3 +28,11 @@ leastFrom z (suc n) = leastOf z lengths ∷ leastFrom (suc z) n
 -- those of every word of 64 bits
 unfoldable pub leastNumbers : List ℕ
 leastNumbers = leastFrom 0 65
+
+-- the least number that w's leading zero bits leave
+unfoldable pub leastFor : ℕ → ℕ
+leastFor w = getD leastNumbers (leadingZeros 64 w) 0
+
+-- w is not below a start, and below twice that
+abbrev pub isFrom : ℕ → ℕ → Bool
+isFrom start w = leb start w && ltb w (2 * start)

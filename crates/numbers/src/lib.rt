@@ -6,7 +6,7 @@ ghost use Prim.Native.Nat.{_^_, _≤_, _<_};
 ghost use lib.ListN.{length, drop};
 ghost use Rattle.answers.specs.Writing.{made};
 ghost use Rattle.numbers.specs.Numbers.{mostDigits, isDigit, areDigits, stored, isNumber, digitsUpTo, digitsOf, leadingDigits, numberAt, writingDigits};
-ghost use Rattle.numbers.specs.Least.{leastNumbers};
+ghost use Rattle.numbers.specs.Least.{leastNumbers, leastFor, isFrom};
 use answers::Written;
 
 // The "dummy" number of a function on a train, in stored form.
@@ -102,15 +102,29 @@ pub fn least_numbers() -> [u64; 65]
     LEAST
 }
 
-// Whether word is a number in stored form: its leading zero bits leave one length, and a number of that length is not below its start
-// and below twice its start.
+// The least number that a word's leading zero bits leave; 0 where they leave none.
+pub fn least_for(word: u64, least: &[u64; 65]) -> u64
+    requires { ⌜ now least ≡ leastNumbers ⌝ }
+    ensures { λ r. ⌜ r ≡ leastFor word ⌝ }
+{
+    let zeros = u64::leading_zeros(word) as usize;
+    least[zeros]
+}
+
+// Whether word is not below a start, and below twice that: one comparison, by a subtraction that wraps.
+pub fn is_from(word: u64, start: u64) -> bool
+    requires { ⌜ start ≤ 10 ^ mostDigits ⌝ }
+    ensures { λ r. ⌜ r ≡ isFrom start word ⌝ }
+{
+    std::num::wrapping_sub_u64(word, start) < start
+}
+
+// Whether word is a number in stored form: its leading zero bits leave one length, and it is from the least number of that length on.
 pub fn is_number_by(word: u64, least: &[u64; 65]) -> bool
     requires { ⌜ now least ≡ leastNumbers ⌝ }
     ensures { λ r. ⌜ r ≡ isNumber word ⌝ }
 {
-    let zeros = u64::leading_zeros(word) as usize;
-    let start = least[zeros];
-    std::num::wrapping_sub_u64(word, start) < start
+    is_from(word, least_for(word, least))
 }
 
 // Whether word is a number in stored form.

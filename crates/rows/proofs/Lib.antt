@@ -1,6 +1,7 @@
--- `Notices`: the words of a sound notice, its phase and its second. `Stores`: what a run of stores leaves. `Rows`: a row and its record.
+-- `Notices`: the words of a sound notice, its phase and its second. `Stores`: what a run of stores leaves. `Rows`: a row and its record. `Starts`: a holder tested by the start of a length.
 -- `Kept`: what a sound record says, and each step gives a sound record back.
 pub mod Notices
 pub mod Stores
 pub mod Rows
 pub mod Kept
+pub mod Starts

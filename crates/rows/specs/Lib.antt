@@ -1,2 +1,3 @@
--- `Rows`: the words of a row, when they are sound, and the record that they are.
+-- `Rows`: the words of a row, when they are sound, and the record that they are. `Starts`: how a scan of many rows tests one.
 pub mod Rows
+pub mod Starts

@@ -1,6 +1,8 @@
 // The row of words that a record is lent in: when it is sound, the record that it is, and a record put into it.
 use numbers::Msisdn;
+use numbers::is_from;
 use numbers::is_number_by;
+use numbers::least_for;
 use records::MOST_SENDINGS;
 use records::Notice;
 use records::Record;
@@ -9,7 +11,9 @@ ghost use mathlib.Core.Bool.{true};
 ghost use Prim.Native.Nat.{_/_, _^_, _≤_, _<_};
 ghost use lib.ListN.{length};
 ghost use Rattle.numbers.specs.Least.{leastNumbers};
-ghost use Rattle.rows.specs.Rows.{rowWords, lastPhase, phaseOf, secondOf, noticeOf, wordsAt, holderSound, noticeSound, rowSound, recordAt, stored};
+ghost use Rattle.numbers.specs.Numbers.{mostDigits};
+ghost use Rattle.rows.specs.Rows.{rowWords, holderAt, lastPhase, phaseOf, secondOf, noticeOf, wordsAt, noticeSound, rowSound, recordAt, stored};
+ghost use Rattle.rows.specs.Starts.{plainFrom, holderStart, restFrom};
 
 // "Even 2k (2 to 10): in flight, k done".
 const LAST_PHASE: u64 = 2 * (MOST_SENDINGS as u64);
@@ -72,14 +76,6 @@ fn second_of(notice: Notice) -> u64
         Notice::Waiting(_, second) => second as u64,
         Notice::InFlight(_) => 0,
     }
-}
-
-// "holder, a number, or 0".
-fn holder_sound(holder: u64, least: &[u64; 65]) -> bool
-    requires { ⌜ now least ≡ leastNumbers ⌝ }
-    ensures { λ r. ⌜ r ≡ holderSound holder ⌝ }
-{
-    (holder == 0) | is_number_by(holder, least)
 }
 
 // Whether the last four words of a row are those of a notice, or of none.
@@ -148,15 +144,39 @@ pub fn store(table: &mut [u64], row: usize, next: Record)
     table[at + SECOND] = second;
 }
 
-// Whether a row is sound by itself; `least` is the table of least numbers.
-pub fn row_sound(table: &[u64], row: usize, least: &[u64; 65]) -> bool
+// Whether a row has no notice, and a holder from `start` on or none, as most rows do.
+pub fn is_plain(table: &[u64], row: usize, start: u64) -> bool
     requires { ⌜ row < length (now table) / rowWords ⌝ }
-    requires { ⌜ now least ≡ leastNumbers ⌝ }
-    ensures { λ r. ⌜ r ≡ rowSound (now (table .entry)) row ⌝ }
+    requires { ⌜ start ≤ 10 ^ mostDigits ⌝ }
+    ensures { λ r. ⌜ r ≡ plainFrom start (now (table .entry)) row ⌝ }
 {
     let words = words_at(table, row);
-    let number = is_number_by(words.number, least);
-    let holder = holder_sound(words.holder, least);
+    let holder = (words.holder == 0) | is_from(words.holder, start);
+    let empty = (words.addressee == 0) & (words.supervisor == 0) & (words.second == 0);
+    holder & ((words.phase == 0) & empty)
+}
+
+// The start by which a row's holder is tested: `near` where that tells that she is a number or nobody, else the least number as long as hers.
+pub fn holder_start(table: &[u64], row: usize, near: u64, least: &[u64; 65]) -> u64
+    requires { ⌜ row < length (now table) / rowWords ⌝ }
+    requires { ⌜ (near ≤ 10 ^ mostDigits) × (now least ≡ leastNumbers) ⌝ }
+    ensures { λ r. ⌜ r ≡ holderStart near (holderAt (now (table .entry)) row) ⌝ }
+{
+    let holder = table[ROW_WORDS * row + HOLDER];
+    if (holder == 0) | is_from(holder, near) {
+        return near;
+    }
+    least_for(holder, least)
+}
+
+// Whether what stands behind a row's number is sound, the holder tested by her start; `least` is the table of least numbers.
+pub fn rest_sound(table: &[u64], row: usize, start: u64, least: &[u64; 65]) -> bool
+    requires { ⌜ row < length (now table) / rowWords ⌝ }
+    requires { ⌜ (start ≤ 10 ^ mostDigits) × (now least ≡ leastNumbers) ⌝ }
+    ensures { λ r. ⌜ r ≡ restFrom start (now (table .entry)) row ⌝ }
+{
+    let words = words_at(table, row);
+    let holder = (words.holder == 0) | is_from(words.holder, start);
     let notice = notice_sound(
         words.phase,
         words.addressee,
@@ -164,5 +184,5 @@ pub fn row_sound(table: &[u64], row: usize, least: &[u64; 65]) -> bool
         words.second,
         least,
     );
-    number & holder & notice
+    holder & notice
 }

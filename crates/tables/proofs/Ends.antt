@@ -12,7 +12,7 @@ use Rattle.answers.proofs.Tests.{and-left, and-right, and-both, less-or-not}
 use Rattle.numbers.specs.Numbers.{fewestDigits, mostDigits, isNumber, digitsOf}
 use Rattle.numbers.proofs.Lengths.{is-number}
 use Rattle.numbers.proofs.Digits.{digits-are, digits-fewest, digits-most, digits-least, stored-digits, stored-length}
-use Rattle.tables.specs.Ends.{lengthEnd}
+use Rattle.tables.specs.Ends.{lengthEnd, endFor, within}
 
 -- ---- the end of a number's length
 
@@ -85,20 +85,47 @@ reaches-length w new q = rw q (go (isNumber w) refl)
     go true e = λ x a b. number-on w e x (omega arith) b
     go false e = reaches-none w
 
--- the scan's test of a word, by an end
-abbrev pub within : ℕ → ℕ → ℕ → Bool → Bool
-within before end w f = ltb before w && (ltb w end && f)
+-- the end for a word that follows tells whether it is a number
+pub within-tells : (before end w : ℕ) (own : Bool) → Reaches before end → (ltb before w && (isNumber w && own)) ≡ within before (endFor end w) w own
+unfolding endFor
+within-tells before end w own r = go (ltb before w) (ltb w end) refl refl
+  where
+    go :
+        (a b : Bool) → ltb before w ≡ a → ltb w end ≡ b
+        → (a && (isNumber w && own)) ≡ (a && (ltb w (cond b end (lengthEnd w)) && own))
+    go false b p q = refl
+    go true true p q = rw (r w (ltb-true before w p) (ltb-true w end q), q)
+    go true false p q = ap (λ (x : Bool). x && own) (end-tells w)
 
--- by the end of its own length
-pub within-own : (before w new : ℕ) (f : Bool) → new ≡ lengthEnd w → (ltb before w && (isNumber w && f)) ≡ within before new w f
-within-own before w new f q = rw (q, end-tells)
+-- and it reaches on from there
+pub reaches-on : (before end w : ℕ) → Reaches before end → before < w → Reaches w (endFor end w)
+unfolding endFor
+reaches-on before end w r l = go (ltb w end)
+  where
+    go : (b : Bool) → Reaches w (cond b end (lengthEnd w))
+    go true = λ x a b. r x (omega arith) b
+    go false = reaches-length w (lengthEnd w) refl
 
--- by an end that was reached: it holds of a number alone, and the end reaches on
-pub within-reached : (before end w : ℕ) (f : Bool) → Reaches before end → within before end w f ≡ true → ((ltb before w && (isNumber w && f)) ≡ true) × Reaches w end
-within-reached before end w f r e =
-    let l = and-left (ltb before w) (ltb w end && f) e in
-    let b = and-right (ltb before w) (ltb w end && f) e in
+-- by an end that was reached: the test holds of a number alone, and the end reaches on
+pub within-reached : (before end w : ℕ) (own : Bool) → Reaches before end → within before end w own ≡ true → ((ltb before w && (isNumber w && own)) ≡ true) × Reaches w end
+within-reached before end w own r e =
+    let l = and-left (ltb before w) (ltb w end && own) e in
+    let b = and-right (ltb before w) (ltb w end && own) e in
     let a = ltb-true before w l in (
-      and-both (ltb before w) (isNumber w && f) l (and-both (isNumber w) f (r w a (ltb-true w end (and-left (ltb w end) f b))) (and-right (ltb w end) f b)),
+      and-both (ltb before w) (isNumber w && own) l (and-both (isNumber w) own (r w a (ltb-true w end (and-left (ltb w end) own b))) (and-right (ltb w end) own b)),
       λ x g h. r x (omega arith) h,
     )
+
+-- two words at once, the first below the second
+pub pair-reached :
+    (before end v w : ℕ) (own other : Bool) → Reaches before end → within before w v own ≡ true → within v end w other ≡ true
+    → ((ltb before v && (isNumber v && own)) ≡ true) × ((ltb v w && (isNumber w && other)) ≡ true) × Reaches w end
+pair-reached before end v w own other r first second =
+    let b = and-right (ltb before v) (ltb v w && own) first in
+    let c = and-right (ltb v w) (ltb w end && other) second in
+    let below : ltb v end ≡ true = lt-ltb v end (omega (arith, ltb-true v w (and-left (ltb v w) own b), ltb-true w end (and-left (ltb w end) other c))) in
+    let one =
+    within-reached before end v own r
+    (and-both (ltb before v) (ltb v end && own) (and-left (ltb before v) (ltb v w && own) first) (and-both (ltb v end) own below (and-right (ltb v w) own b)))
+    in
+    let two = within-reached v end w other (one .1) second in (one .0, two .0, two .1)

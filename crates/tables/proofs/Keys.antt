@@ -1,6 +1,6 @@
 -- Rows that ascend by a key, and where a key stands among them: for every key function, so for every width of row. Assumes nothing.
 use mathlib.Core.Path.{_≡_, refl, ap}
-use mathlib.Core.Logic.{_⊎_, ⊎-elim}
+use mathlib.Core.Logic.{⊎-elim}
 use mathlib.Core.Bool.{Bool, true, false}
 use Prim.Native.Nat.{ℕ, zero, suc, _+_, _*_, _/_, _≤_, _<_}
 use native.Mathlib.Nat.{lt-of-lt-of-le, mul-lt-mul-of-pos-left, mul-div-le, not-suc-le-zero, not-le-of-lt, le-of-suc-le-suc, eq-or-lt-of-le}

@@ -1,9 +1,30 @@
 -- The words of one length lie together, so a scan of ascending words knows a number by the end of the last one's length. Assumes nothing.
-use Prim.Native.Nat.{ℕ, _*_, _^_}
-use mathlib.Core.Bool.{cond}
-use lib.ListN.{length}
+use Prim.Native.Nat.{ℕ, _+_, _*_, _^_}
+use mathlib.Core.Bool.{Bool, cond, _&&_}
+use mathlib.Core.List.{List}
+use lib.ListN.{length, getD}
+use lib.Dec.{ltb, leb}
 use Rattle.numbers.specs.Numbers.{isNumber, digitsOf}
+use Rattle.tables.specs.Tables.{subscriberWords, mostFlags}
 
 -- the end of the numbers as long as w; 0 where w is no number
 unfoldable pub lengthEnd : ℕ → ℕ
 lengthEnd w = cond (isNumber w) (2 * 10 ^ length (digitsOf w)) 0
+
+-- the end by which a scan tests w, once the words up to `end` are known
+unfoldable pub endFor : ℕ → ℕ → ℕ
+endFor end w = cond (ltb w end) end (lengthEnd w)
+
+-- a scan's test of w, behind `before` and below `end`, with a test of its own
+abbrev pub within : ℕ → ℕ → ℕ → Bool → Bool
+within before end w own = ltb before w && (ltb w end && own)
+
+-- the same of the subscriber whose row begins at word `at`
+abbrev pub subscriberWithin : List ℕ → ℕ → ℕ → ℕ → Bool
+subscriberWithin l at before end = within before end (getD l at 0) (leb (getD l (at + 1) 0) mostFlags)
+
+-- of two at once: the first below the second
+unfoldable pub pairWithin : List ℕ → ℕ → ℕ → ℕ → Bool
+pairWithin l at before end =
+    leb (at + 2 * subscriberWords) (length l)
+    && (subscriberWithin l at before (getD l (at + subscriberWords) 0) && subscriberWithin l (at + subscriberWords) (getD l at 0) end)

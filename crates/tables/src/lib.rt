@@ -4,15 +4,18 @@ use numbers::Msisdn;
 use numbers::is_number;
 use numbers::least_numbers;
 use rows::ROW_WORDS;
-use rows::row_sound;
+use rows::holder_start;
+use rows::is_plain;
+use rows::rest_sound;
 ghost use mathlib.Core.Path.{_≡_};
 ghost use mathlib.Core.Bool.{true};
 ghost use Prim.Native.Nat.{_*_, _/_, _^_, _<_};
 ghost use lib.ListN.{length};
+ghost use lib.Dec.{leb};
 ghost use Rattle.numbers.specs.Numbers.{isNumber, digitsOf};
 ghost use Rattle.tables.specs.Keys.{key, every, ascends, placeOf};
-ghost use Rattle.tables.specs.Tables.{tableSound, rowOf, listSound, flagsOf};
-ghost use Rattle.tables.specs.Ends.{lengthEnd};
+ghost use Rattle.tables.specs.Tables.{tableSound, rowOf, mostFlags, listSound, flagsOf};
+ghost use Rattle.tables.specs.Ends.{lengthEnd, endFor, within, pairWithin};
 
 // Where a number stands among the rows.
 pub enum Found {
@@ -37,31 +40,6 @@ const SUBSCRIBER_WORDS: usize = 2;
 
 const FLAGS: usize = 1;
 
-// Whether the table is sound: whole rows, few enough, each sound and above the one before it.
-pub fn table_sound(table: &[u64]) -> bool
-    ensures { λ r. ⌜ r ≡ tableSound (now (table .entry)) ⌝ }
-{
-    if table.len() % ROW_WORDS != 0 {
-        return false;
-    }
-    let rows = table.len() / ROW_WORDS;
-    if MOST_NUMBERS < rows {
-        return false;
-    }
-    let least = least_numbers();
-    let mut before = 0;
-    let mut row = 0;
-    while row < rows {
-        let number = table[ROW_WORDS * row];
-        if !((before < number) & row_sound(table, row, &least)) {
-            return false;
-        }
-        before = number;
-        row += 1;
-    }
-    true
-}
-
 // The end of the numbers that have as many digits as this one.
 fn end_of_length(number: u64) -> u64
     requires { ⌜ isNumber number ≡ true ⌝ }
@@ -84,6 +62,71 @@ fn length_end(word: u64) -> u64
     end_of_length(word)
 }
 
+// The end by which a word is tested: the one reached where the word lies below it, else that of the numbers as long as the word.
+fn end_for(word: u64, end: u64) -> u64
+    ensures { λ r. ⌜ r ≡ endFor end word ⌝ }
+{
+    if word < end {
+        return end;
+    }
+    length_end(word)
+}
+
+// Whether the table is sound: whole rows, few enough, each sound and above the one before it.
+pub fn table_sound(table: &[u64]) -> bool
+    ensures { λ r. ⌜ r ≡ tableSound (now (table .entry)) ⌝ }
+{
+    if table.len() % ROW_WORDS != 0 {
+        return false;
+    }
+    let rows = table.len() / ROW_WORDS;
+    if MOST_NUMBERS < rows {
+        return false;
+    }
+    let least = least_numbers();
+    let mut before = 0;
+    let mut end = 0;
+    let mut near = 0;
+    let mut row = 0;
+    while row < rows {
+        let number = table[ROW_WORDS * row];
+        if !((before < number) & ((number < end) & is_plain(table, row, near))) {
+            end = end_for(number, end);
+            near = holder_start(table, row, near, &least);
+            let rest = rest_sound(table, row, near, &least);
+            if !((before < number) & ((number < end) & rest)) {
+                return false;
+            }
+        }
+        before = number;
+        row += 1;
+    }
+    true
+}
+
+// Whether a subscriber follows the one before her, below an end, with flags 0 to 3.
+fn follows(before: u64, end: u64, msisdn: u64, flags: u64) -> bool
+    ensures { λ r. ⌜ r ≡ within before end msisdn (leb flags mostFlags) ⌝ }
+{
+    (before < msisdn) & ((msisdn < end) & (flags <= MOST_FLAGS))
+}
+
+// Whether two rows follow at once, as most do; the first begins at word `at`.
+fn pair_follows(list: &[u64], at: usize, before: u64, end: u64) -> bool
+    requires { ⌜ at < length (now list) ⌝ }
+    ensures { λ r. ⌜ r ≡ pairWithin (now (list .entry)) at before end ⌝ }
+{
+    if list.len() - at < 2 * SUBSCRIBER_WORDS {
+        return false;
+    }
+    let next = at + SUBSCRIBER_WORDS;
+    let first = list[at];
+    let second = list[next];
+    let flags = list[at + FLAGS];
+    let others = list[next + FLAGS];
+    follows(before, second, first, flags) & follows(first, end, second, others)
+}
+
 // Whether the list is sound: whole rows, few enough, each sound and above the one before it.
 pub fn list_sound(list: &[u64]) -> bool
     ensures { λ r. ⌜ r ≡ listSound (now (list .entry)) ⌝ }
@@ -91,24 +134,25 @@ pub fn list_sound(list: &[u64]) -> bool
     if list.len() % SUBSCRIBER_WORDS != 0 {
         return false;
     }
-    let rows = list.len() / SUBSCRIBER_WORDS;
-    if MOST_SUBSCRIBERS < rows {
+    if MOST_SUBSCRIBERS < list.len() / SUBSCRIBER_WORDS {
         return false;
     }
     let mut before = 0;
     let mut end = 0;
-    let mut row = 0;
-    while row < rows {
-        let msisdn = list[SUBSCRIBER_WORDS * row];
-        let flags = list[SUBSCRIBER_WORDS * row + FLAGS];
-        if !((before < msisdn) & ((msisdn < end) & (flags <= MOST_FLAGS))) {
-            end = length_end(msisdn);
-            if !((before < msisdn) & ((msisdn < end) & (flags <= MOST_FLAGS))) {
+    let mut at = 0;
+    while at < list.len() {
+        if pair_follows(list, at, before, end) {
+            before = list[at + SUBSCRIBER_WORDS];
+            at += 2 * SUBSCRIBER_WORDS;
+        } else {
+            let msisdn = list[at];
+            end = end_for(msisdn, end);
+            if !follows(before, end, msisdn, list[at + FLAGS]) {
                 return false;
             }
+            before = msisdn;
+            at += SUBSCRIBER_WORDS;
         }
-        before = msisdn;
-        row += 1;
     }
     true
 }

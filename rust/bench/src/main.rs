@@ -154,7 +154,17 @@ fn sum(words: &[u64]) -> u64 {
     words.iter().fold(0, |a, &w| a.wrapping_add(w))
 }
 
-fn line(call: &str, numbers: usize, subscribers: usize, t: [f64; 3]) {
+/// What one line measured: the call, its sizes, and ours, Rust's and the bare pass's nanoseconds.
+type Line = (&'static str, usize, usize, [f64; 3]);
+
+fn line(
+    lines: &mut Vec<Line>,
+    call: &'static str,
+    numbers: usize,
+    subscribers: usize,
+    t: [f64; 3],
+) {
+    lines.push((call, numbers, subscribers, t));
     println!(
         "{call:10} {numbers:7} {subscribers:11}   {:9.1} {:9.1} {:9.1}   {:5.2}  {:5.2}",
         t[0],
@@ -165,7 +175,7 @@ fn line(call: &str, numbers: usize, subscribers: usize, t: [f64; 3]) {
     );
 }
 
-fn calls(numbers: usize, subscribers: usize) {
+fn calls(lines: &mut Vec<Line>, numbers: usize, subscribers: usize) {
     let (mut ours, mut theirs, people) = (table(numbers), table(numbers), list(subscribers));
     let middle = numbers / 2;
     let number = NUMBERS + 7 * middle as u64;
@@ -176,6 +186,7 @@ fn calls(numbers: usize, subscribers: usize) {
     let turns = if numbers + subscribers > 64 { 50 } else { 1000 };
 
     line(
+        lines,
         "request",
         numbers,
         subscribers,
@@ -219,6 +230,7 @@ fn calls(numbers: usize, subscribers: usize) {
         }
     };
     line(
+        lines,
         "sending",
         numbers,
         0,
@@ -240,6 +252,7 @@ fn calls(numbers: usize, subscribers: usize) {
         ),
     );
     line(
+        lines,
         "result",
         numbers,
         0,
@@ -263,6 +276,7 @@ fn calls(numbers: usize, subscribers: usize) {
     set(&mut ours, 2);
     set(&mut theirs, 2);
     line(
+        lines,
         "finding",
         numbers,
         0,
@@ -283,12 +297,62 @@ fn calls(numbers: usize, subscribers: usize) {
     );
 }
 
+/// Nanoseconds that one row more costs, between two sizes.
+fn growth(lines: &[Line]) {
+    let at = |call, numbers, subscribers| {
+        lines
+            .iter()
+            .find(|l| (l.0, l.1, l.2) == (call, numbers, subscribers))
+            .unwrap()
+            .3
+    };
+    let show = |what: &str, rows: f64, few: [f64; 3], many: [f64; 3]| {
+        let more = [0, 1, 2].map(|i| (many[i] - few[i]) / rows);
+        println!("{what:32} {:6.2} {:6.2} {:6.2}", more[0], more[1], more[2]);
+    };
+    println!("\na row more (ns)                     ours   Rust   bare");
+    for call in ["request", "sending", "result", "finding"] {
+        let what = format!("{call}, a number");
+        show(&what, 960.0, at(call, 64, 0), at(call, 1024, 0));
+    }
+    let (few, many) = (at("request", 0, 64), at("request", 0, 4096));
+    show("request, a subscriber", 4032.0, few, many);
+}
+
+/// Soundness with a notice in every row, through a call that ends after it.
+fn noticed() {
+    let mut words = table(1024);
+    for (i, row) in words.chunks_mut(6).enumerate() {
+        let addressee = SUBSCRIBERS + 5 * i as u64;
+        row[2..].copy_from_slice(&[3, addressee, addressee + 1, 77]);
+    }
+    let t = best(
+        50,
+        &mut [
+            &mut || {
+                black_box(c::finding(black_box(&words), 1, 7));
+            },
+            &mut || {
+                black_box(oracle::finding(black_box(&words), 1, 7));
+            },
+            &mut || {
+                black_box(sum(black_box(&words)));
+            },
+        ],
+    );
+    println!("\na notice in each of 1,024 rows, refused right after the table's test:");
+    line(&mut Vec::new(), "finding", 1024, 0, t);
+}
+
 fn main() {
     packing();
     println!("\ncall       numbers subscribers        ours      Rust      bare   ours/Rust  ours/bare (ns)");
+    let mut lines = Vec::new();
     for numbers in [0, 1, 64, 1024] {
         for subscribers in [0, 64, 4096] {
-            calls(numbers, subscribers);
+            calls(&mut lines, numbers, subscribers);
         }
     }
+    growth(&lines);
+    noticed();
 }

@@ -1,20 +1,32 @@
--- The invariant: the rows passed stand, and `before` is the number of the last. Assumes nothing.
-use mathlib.Core.Path.{_∙_}
-use Prim.Native.Nat.{_-_}
+-- The invariant: the rows passed stand, `before` is the number of the last, the words above it up to `end` are numbers, and so are those from `near` on. Assumes nothing.
+use mathlib.Core.Path.{_≡_, refl, sym, _∙_}
+use mathlib.Core.Logic.{⊎-elim}
+use mathlib.Core.Bool.{true, _&&_}
+use mathlib.Core.List.{List}
+use Prim.Native.Nat.{ℕ, _-_}
 use native.Mathlib.Omega.{arith}
+use lib.Dec.{ltb}
 use borrow.Author.Needs.{needs}
-use borrow.Author.Tests.{not-true, not-false}
-use Rattle.rows.specs.Rows.{rowWords, rowSound}
+use borrow.Author.Tests.{ltb-true, not-true, not-false}
+use Rattle.answers.proofs.Tests.{and-left, and-right, and-both}
+use Rattle.numbers.specs.Numbers.{isNumber}
+use Rattle.numbers.proofs.Least.{Starts, starts-none}
+use Rattle.rows.specs.Rows.{rowWords, holderAt, rowSound}
+use Rattle.rows.specs.Starts.{plainFrom, holderStart, restFrom}
+use Rattle.rows.proofs.Starts.{starts-holder, row-tells, plain-sound}
 use Rattle.tables.specs.Tables.{mostNumbers, rowsIn, numberKey, rowStands, tableSound}
+use Rattle.tables.specs.Ends.{within}
+use Rattle.tables.proofs.Ends.{Reaches, reaches-none, within-tells, within-reached, reaches-on}
 use Rattle.tables.proofs.Sound.{ragged, too-many, not-every, all-stand, Scanned, scan-start, scan-test, scan-next, scan-end}
 use Rattle.tables.proofs.table_sound.Statement.{statement}
 use Rattle.tables.proofs.table_sound.Tie as tie
 
 abbrev Inv-loop : tie.InvT-loop
-Inv-loop table rows least before₀ row₀ before row = Scanned (numberKey table) (rowSound table) (rowsIn table) row before
+Inv-loop table rows least before₀ end₀ near₀ row₀ before end near row =
+    Scanned (numberKey table) (rowSound table) (rowsIn table) row before × Reaches before end × Starts near
 
 abbrev μ-loop : tie.MeasureT-loop
-μ-loop table rows least before₀ row₀ before row = rows - row
+μ-loop table rows least before₀ end₀ near₀ row₀ before end near row = rows - row
 
 returns : tie.Need-returns Inv-loop μ-loop
 unfolding tableSound
@@ -32,7 +44,7 @@ least-numbers-requires : tie.Need-least-numbers-requires Inv-loop μ-loop
 least-numbers-requires c κs = search needs
 
 loop-holds : tie.Need-loop-holds Inv-loop μ-loop
-loop-holds c = scan-start _ _ _
+loop-holds c = (scan-start _ _ _, reaches-none _, starts-none)
 
 mul-number : tie.Need-mul-number Inv-loop μ-loop
 mul-number c = search needs
@@ -43,16 +55,51 @@ mul-number-2 c = search needs
 shared-slice-read-number : tie.Need-shared-slice-read-number Inv-loop μ-loop
 shared-slice-read-number c = search needs
 
-row-sound-requires : tie.Need-row-sound-requires Inv-loop μ-loop
-row-sound-requires c κs = search needs
+is-plain-requires : tie.Need-is-plain-requires Inv-loop μ-loop
+is-plain-requires c κs = (search needs, c .before .before .loop .inv .2 .small)
+
+end-for-requires : tie.Need-end-for-requires Inv-loop μ-loop
+end-for-requires c κs = search needs
+
+holder-start-requires : tie.Need-holder-start-requires Inv-loop μ-loop
+holder-start-requires c κs = let l = c .before .before .before .before .before .before in (search needs, (l .loop .inv .2 .small, search needs))
+
+-- a plain row that follows stands
+plain-stands :
+    (before near : ℕ) (t : List ℕ) (i : ℕ) → Starts near → (ltb before (numberKey t i) && (isNumber (numberKey t i) && plainFrom near t i)) ≡ true
+    → (ltb before (numberKey t i) && rowSound t i) ≡ true
+plain-stands before near t i s e =
+    let b = and-right (ltb before (numberKey t i)) (isNumber (numberKey t i) && plainFrom near t i) e in
+    and-both (ltb before (numberKey t i)) (rowSound t i) (and-left _ _ e)
+    (plain-sound near t i s (and-left (isNumber (numberKey t i)) _ b) (and-right (isNumber (numberKey t i)) _ b))
+
+-- the start that the holder is tested by
+starts : (c : tie.After-holder-start Inv-loop μ-loop) → Starts (c .holder-start .result)
+starts c = let l = c .before .before .before .before .before .before .before in rw (c .holder-start .ensures) (starts-holder _ _ (l .loop .inv .2))
+
+rest-sound-requires : tie.Need-rest-sound-requires Inv-loop μ-loop
+rest-sound-requires c κs = (search needs, (starts (c .before) .small, search needs))
+
+-- whether the row stands, by the scan's test
+stands :
+    (c : tie.After-rest-sound Inv-loop μ-loop)
+    → let l = c .before .before .before .before .before .before .before .before .before in
+    let t = l .before .before .before .before .before .args .table .now in
+    rowStands t (l .loop .row) ≡ within (l .loop .before) (c .before .before .before .before .end-for .result) (numberKey t (l .loop .row)) (c .rest-sound .result)
+stands c =
+    let l = c .before .before .before .before .before .before .before .before .before in
+    let t = l .before .before .before .before .before .args .table .now in
+    let i = l .loop .row in
+    scan-test _ _ _ _ _ (l .loop .inv .0) _ (sym (row-tells (l .loop .near) t i (l .loop .inv .2)))
+    ∙ within-tells (l .loop .before) (l .loop .end) (numberKey t i) (restFrom (holderStart (l .loop .near) (holderAt t i)) t i) (l .loop .inv .1)
+    ∙ rw (c .rest-sound .ensures, c .before .before .holder-start .ensures, c .before .before .before .before .end-for .ensures)
 
 returns-3 : tie.Need-returns-3 Inv-loop μ-loop
 unfolding tableSound
 returns-3 c =
-    let at = c .before .before .before .before .before in
-    let t = at .before .before .before .before .before .args .table .now in
-    not-every rowWords mostNumbers (rowStands t) t (at .loop .row) (search needs)
-    (scan-test _ _ _ _ _ (at .loop .inv) _ (c .before .row-sound .ensures) ∙ not-true _ (c .if3 .taken))
+    let l = c .before .before .before .before .before .before .before .before .before .before in
+    let t = l .before .before .before .before .before .args .table .now in
+    not-every rowWords mostNumbers (rowStands t) t (l .loop .row) (search needs) (stands (c .before) ∙ not-true _ (c .if4 .taken))
 
 add-row : tie.Need-add-row Inv-loop μ-loop
 add-row c = search needs
@@ -62,15 +109,31 @@ loop-less c = search needs
 
 loop-again : tie.Need-loop-again Inv-loop μ-loop
 loop-again c =
-    let at = c .before .before .before .before .before in
-    scan-next _ _ _ _ _ (at .loop .inv) (search needs)
-    (scan-test _ _ _ _ _ (at .loop .inv) _ (c .before .row-sound .ensures) ∙ not-false _ (c .if3 .left))
+    let l = c .before .before .before .before in
+    let t = l .before .before .before .before .before .args .table .now in
+    ⊎-elim
+    (λ slow.
+    let tested : tie.After-rest-sound Inv-loop μ-loop = record { before = record { before = record { before = record { before = record { before = record { before = c .before; if3 = slow .0 }; end-for = slow .1 }; least = slow .2 }; holder-start = slow .3 }; least2 = slow .4 }; rest-sound = slow .5 } in
+    let e = not-false _ (slow .6 .left) in (
+      scan-next _ _ _ _ _ (l .loop .inv .0) (search needs) (stands tested ∙ e),
+      rw (slow .7) (rw (slow .1 .ensures) (reaches-on _ _ _ (l .loop .inv .1) (ltb-true _ _ (and-left _ _ e)))),
+      rw (slow .8) (starts (tested .before .before)),
+    ))
+    (λ fast.
+    let r = within-reached (l .loop .before) (l .loop .end) (numberKey t (l .loop .row)) (c .before .is-plain .result) (l .loop .inv .1) (not-false _ (fast .0 .left)) in (
+      scan-next _ _ _ _ _ (l .loop .inv .0) (search needs)
+          (scan-test _ _ _ _ _ (l .loop .inv .0) _ refl ∙ plain-stands (l .loop .before) (l .loop .near) t (l .loop .row) (l .loop .inv .2) (rw (c .before .is-plain .ensures) at (r .0))),
+      rw (fast .1) (r .1),
+      rw (fast .2) (l .loop .inv .2),
+    ))
+    (c .if3 .came)
 
 returns-4 : tie.Need-returns-4 Inv-loop μ-loop
 unfolding tableSound
 returns-4 c =
-    let t = c .before .before .before .before .before .before .args .table .now in
-    all-stand rowWords mostNumbers (rowStands t) t (search needs) (search needs) (scan-end _ _ _ _ _ (c .before .loop .inv) (c .loop-test .left))
+    let l = c .before in
+    let t = l .before .before .before .before .before .args .table .now in
+    all-stand rowWords mostNumbers (rowStands t) t (search needs) (search needs) (scan-end _ _ _ _ _ (l .loop .inv .0) (c .loop-test .left))
 
 pub table-sound-spec : {M : Type 1} → statement M
 table-sound-spec =
@@ -85,7 +148,10 @@ table-sound-spec =
     mul-number
     mul-number-2
     shared-slice-read-number
-    row-sound-requires
+    is-plain-requires
+    end-for-requires
+    holder-start-requires
+    rest-sound-requires
     returns-3
     add-row
     loop-less
