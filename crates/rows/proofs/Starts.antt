@@ -1,16 +1,16 @@
 -- A holder tested by the start of a length that was found before, and a whole row by it. Assumes nothing.
 use mathlib.Core.Path.{_≡_, refl, sym, ap, _∙_}
 use mathlib.Core.Logic.{⊎-elim}
-use mathlib.Core.Bool.{Bool, true, false, cond, _&&_, _||_, and-assoc}
+use mathlib.Core.Bool.{Bool, true, false, cond, not, _&&_, _||_, and-assoc}
 use mathlib.Core.List.{List}
-use Prim.Native.Nat.{ℕ}
-use lib.Dec.{eqb}
-use Rattle.answers.proofs.Tests.{and-left, and-right, or-cases, or-right}
+use Prim.Native.Nat.{ℕ, _^_}
+use lib.Dec.{eqb, ltb, leb}
+use Rattle.answers.proofs.Tests.{and-left, and-right, and-three, and-both, or-cases, or-right}
 use Rattle.numbers.specs.Numbers.{isNumber}
 use Rattle.numbers.specs.Least.{leastFor, isFrom}
 use Rattle.numbers.proofs.Least.{Starts, starts-for, least-tells}
-use Rattle.rows.specs.Rows.{numberAt, holderAt, phaseAt, addresseeAt, supervisorAt, secondAt, holderSound, noticeSound, rowSound}
-use Rattle.rows.specs.Starts.{plainFrom, holderStart, restFrom}
+use Rattle.rows.specs.Rows.{numberAt, holderAt, phaseAt, addresseeAt, supervisorAt, secondAt, lastPhase, failedOnce, holderSound, noticeSound, rowSound}
+use Rattle.rows.specs.Starts.{noticeBy, nearFrom, holderStart, restFrom}
 
 -- the start that the next holder is tested by
 pub starts-holder : (near h : ℕ) → Starts near → Starts (holderStart near h)
@@ -31,20 +31,41 @@ holder-tells near h s = go (eqb h 0) (isFrom near h) refl
     go false true e = s .numbers h e ∙ sym e
     go false false e = sym (least-tells h)
 
+-- whether addressee and supervisor are numbers decides for a notice
+notice-by : (phase addressee supervisor second : ℕ) → noticeSound phase addressee supervisor second ≡ noticeBy (isNumber addressee && isNumber supervisor) phase addressee supervisor second
+unfolding noticeSound noticeBy
+notice-by phase addressee supervisor second = refl
+
 -- a row is sound by its number and by what stands behind it
 pub row-tells : (near : ℕ) (t : List ℕ) (i : ℕ) → Starts near → rowSound t i ≡ (isNumber (numberAt t i) && restFrom (holderStart near (holderAt t i)) t i)
 unfolding rowSound restFrom
 row-tells near t i s =
     and-assoc (isNumber (numberAt t i)) (holderSound (holderAt t i)) (noticeSound (phaseAt t i) (addresseeAt t i) (supervisorAt t i) (secondAt t i))
     ∙ ap (λ (b : Bool). isNumber (numberAt t i) && (b && noticeSound (phaseAt t i) (addresseeAt t i) (supervisorAt t i) (secondAt t i))) (holder-tells near (holderAt t i) s)
+    ∙ rw notice-by
 
--- a row with a number and no notice is sound
-pub plain-sound : (near : ℕ) (t : List ℕ) (i : ℕ) → Starts near → isNumber (numberAt t i) ≡ true → plainFrom near t i ≡ true → rowSound t i ≡ true
-unfolding rowSound plainFrom noticeSound
-plain-sound near t i s n p =
-    let held = and-left _ _ p in
-    let empty = and-right (eqb (holderAt t i) 0 || isFrom near (holderAt t i)) _ p in
-    rw (n, holder held, and-left (eqb (phaseAt t i) 0) _ empty, and-right (eqb (phaseAt t i) 0) (eqb (addresseeAt t i) 0 && eqb (supervisorAt t i) 0 && eqb (secondAt t i) 0) empty)
+-- what is told by fewer numbers is told by more
+notice-more : (a b : Bool) (phase addressee supervisor second : ℕ) → (a ≡ true → b ≡ true) → noticeBy a phase addressee supervisor second ≡ true → noticeBy b phase addressee supervisor second ≡ true
+unfolding noticeBy
+notice-more a b phase addressee supervisor second more = go (eqb phase 0)
+  where
+    go :
+        (z : Bool) → cond z (eqb addressee 0 && eqb supervisor 0 && eqb second 0) (leb phase lastPhase && (a && not (eqb addressee supervisor)) && (ltb second (2 ^ 32) && (eqb second 0 || failedOnce phase))) ≡ true
+        → cond z (eqb addressee 0 && eqb supervisor 0 && eqb second 0) (leb phase lastPhase && (b && not (eqb addressee supervisor)) && (ltb second (2 ^ 32) && (eqb second 0 || failedOnce phase))) ≡ true
+    go true e = e
+    go false e =
+        let t = and-three (leb phase lastPhase) (a && not (eqb addressee supervisor)) (ltb second (2 ^ 32) && (eqb second 0 || failedOnce phase)) e in
+        rw (t .0, more (and-left a _ (t .1)), and-right a (not (eqb addressee supervisor)) (t .1), t .2)
+
+-- a row with a number is sound if one start tells what stands behind it
+pub near-sound : (near : ℕ) (t : List ℕ) (i : ℕ) → Starts near → isNumber (numberAt t i) ≡ true → nearFrom near t i ≡ true → rowSound t i ≡ true
+unfolding rowSound nearFrom
+near-sound near t i s n p =
+    let a = isFrom near (addresseeAt t i) in
+    let notice = and-right (eqb (holderAt t i) 0 || isFrom near (holderAt t i)) _ p in
+    rw (n, holder (and-left _ _ p), notice-by (phaseAt t i) (addresseeAt t i) (supervisorAt t i) (secondAt t i))
+    (notice-more (a && isFrom near (supervisorAt t i)) _ (phaseAt t i) (addresseeAt t i) (supervisorAt t i) (secondAt t i)
+    (λ both. and-both _ _ (s .numbers (addresseeAt t i) (and-left a _ both)) (s .numbers (supervisorAt t i) (and-right a _ both))) notice)
   where
     holder : (eqb (holderAt t i) 0 || isFrom near (holderAt t i)) ≡ true → holderSound (holderAt t i) ≡ true
     holder e =

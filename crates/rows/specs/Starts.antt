@@ -1,22 +1,32 @@
 -- How a scan of many rows tests one: the start of the length that it saw last tells most holders. Assumes nothing.
-use Prim.Native.Nat.{ℕ}
-use mathlib.Core.Bool.{Bool, cond, _&&_, _||_}
+use Prim.Native.Nat.{ℕ, _^_}
+use mathlib.Core.Bool.{Bool, cond, not, _&&_, _||_}
 use mathlib.Core.List.{List}
-use lib.Dec.{eqb}
+use lib.Dec.{eqb, ltb, leb}
+use Rattle.numbers.specs.Numbers.{isNumber}
 use Rattle.numbers.specs.Least.{leastFor, isFrom}
-use Rattle.rows.specs.Rows.{holderAt, phaseAt, addresseeAt, supervisorAt, secondAt, noticeSound}
+use Rattle.rows.specs.declared.Words.{Words}
+use Rattle.rows.specs.Rows.{addresseeAt, supervisorAt, wordsAt, lastPhase, failedOnce}
 
 -- the start by which a holder is tested: one that was found before, where that tells already, else the least number that her leading zero bits leave
 unfoldable pub holderStart : ℕ → ℕ → ℕ
 holderStart near holder = cond (eqb holder 0 || isFrom near holder) near (leastFor holder)
 
--- what stands behind the number of row i, the holder by a start
-unfoldable pub restFrom : ℕ → List ℕ → ℕ → Bool
-restFrom start t i =
-    (eqb (holderAt t i) 0 || isFrom start (holderAt t i)) && noticeSound (phaseAt t i) (addresseeAt t i) (supervisorAt t i) (secondAt t i)
+-- the words of a notice, or of none, where it is known whether addressee and supervisor are numbers
+unfoldable pub noticeBy : Bool → ℕ → ℕ → ℕ → ℕ → Bool
+noticeBy numbers phase addressee supervisor second =
+    cond (eqb phase 0) (eqb addressee 0 && eqb supervisor 0 && eqb second 0)
+    (leb phase lastPhase && (numbers && not (eqb addressee supervisor)) && (ltb second (2 ^ 32) && (eqb second 0 || failedOnce phase)))
 
--- the same of a row with no notice
-unfoldable pub plainFrom : ℕ → List ℕ → ℕ → Bool
-plainFrom start t i =
-    (eqb (holderAt t i) 0 || isFrom start (holderAt t i))
-    && (eqb (phaseAt t i) 0 && (eqb (addresseeAt t i) 0 && eqb (supervisorAt t i) 0 && eqb (secondAt t i) 0))
+-- what stands behind a row's number, the holder by a start
+abbrev pub restBy : ℕ → Bool → Words → Bool
+restBy start numbers w =
+    (eqb (w .holder) 0 || isFrom start (w .holder)) && noticeBy numbers (w .phase) (w .addressee) (w .supervisor) (w .second)
+
+-- of row i
+unfoldable pub restFrom : ℕ → List ℕ → ℕ → Bool
+restFrom start t i = restBy start (isNumber (addresseeAt t i) && isNumber (supervisorAt t i)) (wordsAt t i)
+
+-- addressee and supervisor by the same start
+unfoldable pub nearFrom : ℕ → List ℕ → ℕ → Bool
+nearFrom start t i = restBy start (isFrom start (addresseeAt t i) && isFrom start (supervisorAt t i)) (wordsAt t i)

@@ -12,8 +12,8 @@ ghost use Prim.Native.Nat.{_/_, _^_, _≤_, _<_};
 ghost use lib.ListN.{length};
 ghost use Rattle.numbers.specs.Least.{leastNumbers};
 ghost use Rattle.numbers.specs.Numbers.{mostDigits};
-ghost use Rattle.rows.specs.Rows.{rowWords, holderAt, lastPhase, phaseOf, secondOf, noticeOf, wordsAt, noticeSound, rowSound, recordAt, stored};
-ghost use Rattle.rows.specs.Starts.{plainFrom, holderStart, restFrom};
+ghost use Rattle.rows.specs.Rows.{rowWords, holderAt, lastPhase, phaseOf, secondOf, noticeOf, wordsAt, rowSound, recordAt, stored};
+ghost use Rattle.rows.specs.Starts.{noticeBy, restBy, nearFrom, holderStart, restFrom};
 
 // "Even 2k (2 to 10): in flight, k done".
 const LAST_PHASE: u64 = 2 * (MOST_SENDINGS as u64);
@@ -78,15 +78,13 @@ fn second_of(notice: Notice) -> u64
     }
 }
 
-// Whether the last four words of a row are those of a notice, or of none.
-fn notice_sound(phase: u64, addressee: u64, supervisor: u64, second: u64, least: &[u64; 65]) -> bool
-    requires { ⌜ now least ≡ leastNumbers ⌝ }
-    ensures { λ r. ⌜ r ≡ noticeSound phase addressee supervisor second ⌝ }
+// Whether the last four words of a row are those of a notice, or of none; `numbers` says whether addressee and supervisor are numbers.
+fn notice_by(numbers: bool, phase: u64, addressee: u64, supervisor: u64, second: u64) -> bool
+    ensures { λ r. ⌜ r ≡ noticeBy numbers phase addressee supervisor second ⌝ }
 {
     if phase == 0 {
         return (addressee == 0) & (supervisor == 0) & (second == 0);
     }
-    let numbers = is_number_by(addressee, least) & is_number_by(supervisor, least);
     let failed = (phase % 2 == 1) & (3 <= phase);
     (phase <= LAST_PHASE)
         & (numbers & (addressee != supervisor))
@@ -144,16 +142,31 @@ pub fn store(table: &mut [u64], row: usize, next: Record)
     table[at + SECOND] = second;
 }
 
-// Whether a row has no notice, and a holder from `start` on or none, as most rows do.
-pub fn is_plain(table: &[u64], row: usize, start: u64) -> bool
+// Whether what stands behind a row's number is sound, the holder tested by a start; `numbers` says whether addressee and supervisor are numbers.
+fn rest_by(words: Words, start: u64, numbers: bool) -> bool
+    requires { ⌜ start ≤ 10 ^ mostDigits ⌝ }
+    ensures { λ r. ⌜ r ≡ restBy start numbers words ⌝ }
+{
+    let holder = (words.holder == 0) | is_from(words.holder, start);
+    let notice = notice_by(
+        numbers,
+        words.phase,
+        words.addressee,
+        words.supervisor,
+        words.second,
+    );
+    holder & notice
+}
+
+// The same by one start alone, as it is in most rows: every number there is as long as the start's.
+pub fn is_near(table: &[u64], row: usize, start: u64) -> bool
     requires { ⌜ row < length (now table) / rowWords ⌝ }
     requires { ⌜ start ≤ 10 ^ mostDigits ⌝ }
-    ensures { λ r. ⌜ r ≡ plainFrom start (now (table .entry)) row ⌝ }
+    ensures { λ r. ⌜ r ≡ nearFrom start (now (table .entry)) row ⌝ }
 {
     let words = words_at(table, row);
-    let holder = (words.holder == 0) | is_from(words.holder, start);
-    let empty = (words.addressee == 0) & (words.supervisor == 0) & (words.second == 0);
-    holder & ((words.phase == 0) & empty)
+    let numbers = is_from(words.addressee, start) & is_from(words.supervisor, start);
+    rest_by(words, start, numbers)
 }
 
 // The start by which a row's holder is tested: `near` where that tells that she is a number or nobody, else the least number as long as hers.
@@ -176,13 +189,6 @@ pub fn rest_sound(table: &[u64], row: usize, start: u64, least: &[u64; 65]) -> b
     ensures { λ r. ⌜ r ≡ restFrom start (now (table .entry)) row ⌝ }
 {
     let words = words_at(table, row);
-    let holder = (words.holder == 0) | is_from(words.holder, start);
-    let notice = notice_sound(
-        words.phase,
-        words.addressee,
-        words.supervisor,
-        words.second,
-        least,
-    );
-    holder & notice
+    let numbers = is_number_by(words.addressee, least) & is_number_by(words.supervisor, least);
+    rest_by(words, start, numbers)
 }

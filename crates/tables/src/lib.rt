@@ -5,7 +5,7 @@ use numbers::is_number;
 use numbers::least_numbers;
 use rows::ROW_WORDS;
 use rows::holder_start;
-use rows::is_plain;
+use rows::is_near;
 use rows::rest_sound;
 ghost use mathlib.Core.Path.{_≡_};
 ghost use mathlib.Core.Bool.{true};
@@ -90,7 +90,7 @@ pub fn table_sound(table: &[u64]) -> bool
     let mut row = 0;
     while row < rows {
         let number = table[ROW_WORDS * row];
-        if !((before < number) & ((number < end) & is_plain(table, row, near))) {
+        if !((before < number) & ((number < end) & is_near(table, row, near))) {
             end = end_for(number, end);
             near = holder_start(table, row, near, &least);
             let rest = rest_sound(table, row, near, &least);

@@ -12,8 +12,8 @@ use Rattle.answers.proofs.Tests.{and-left, and-right, and-both}
 use Rattle.numbers.specs.Numbers.{isNumber}
 use Rattle.numbers.proofs.Least.{Starts, starts-none}
 use Rattle.rows.specs.Rows.{rowWords, holderAt, rowSound}
-use Rattle.rows.specs.Starts.{plainFrom, holderStart, restFrom}
-use Rattle.rows.proofs.Starts.{starts-holder, row-tells, plain-sound}
+use Rattle.rows.specs.Starts.{nearFrom, holderStart, restFrom}
+use Rattle.rows.proofs.Starts.{starts-holder, row-tells, near-sound}
 use Rattle.tables.specs.Tables.{mostNumbers, rowsIn, numberKey, rowStands, tableSound}
 use Rattle.tables.specs.Ends.{within}
 use Rattle.tables.proofs.Ends.{Reaches, reaches-none, within-tells, within-reached, reaches-on}
@@ -55,8 +55,8 @@ mul-number-2 c = search needs
 shared-slice-read-number : tie.Need-shared-slice-read-number Inv-loop μ-loop
 shared-slice-read-number c = search needs
 
-is-plain-requires : tie.Need-is-plain-requires Inv-loop μ-loop
-is-plain-requires c κs = (search needs, c .before .before .loop .inv .2 .small)
+is-near-requires : tie.Need-is-near-requires Inv-loop μ-loop
+is-near-requires c κs = (search needs, c .before .before .loop .inv .2 .small)
 
 end-for-requires : tie.Need-end-for-requires Inv-loop μ-loop
 end-for-requires c κs = search needs
@@ -64,14 +64,14 @@ end-for-requires c κs = search needs
 holder-start-requires : tie.Need-holder-start-requires Inv-loop μ-loop
 holder-start-requires c κs = let l = c .before .before .before .before .before .before in (search needs, (l .loop .inv .2 .small, search needs))
 
--- a plain row that follows stands
-plain-stands :
-    (before near : ℕ) (t : List ℕ) (i : ℕ) → Starts near → (ltb before (numberKey t i) && (isNumber (numberKey t i) && plainFrom near t i)) ≡ true
+-- a row that follows and is near stands
+near-stands :
+    (before near : ℕ) (t : List ℕ) (i : ℕ) → Starts near → (ltb before (numberKey t i) && (isNumber (numberKey t i) && nearFrom near t i)) ≡ true
     → (ltb before (numberKey t i) && rowSound t i) ≡ true
-plain-stands before near t i s e =
-    let b = and-right (ltb before (numberKey t i)) (isNumber (numberKey t i) && plainFrom near t i) e in
+near-stands before near t i s e =
+    let b = and-right (ltb before (numberKey t i)) (isNumber (numberKey t i) && nearFrom near t i) e in
     and-both (ltb before (numberKey t i)) (rowSound t i) (and-left _ _ e)
-    (plain-sound near t i s (and-left (isNumber (numberKey t i)) _ b) (and-right (isNumber (numberKey t i)) _ b))
+    (near-sound near t i s (and-left (isNumber (numberKey t i)) _ b) (and-right (isNumber (numberKey t i)) _ b))
 
 -- the start that the holder is tested by
 starts : (c : tie.After-holder-start Inv-loop μ-loop) → Starts (c .holder-start .result)
@@ -120,9 +120,9 @@ loop-again c =
       rw (slow .8) (starts (tested .before .before)),
     ))
     (λ fast.
-    let r = within-reached (l .loop .before) (l .loop .end) (numberKey t (l .loop .row)) (c .before .is-plain .result) (l .loop .inv .1) (not-false _ (fast .0 .left)) in (
+    let r = within-reached (l .loop .before) (l .loop .end) (numberKey t (l .loop .row)) (c .before .is-near .result) (l .loop .inv .1) (not-false _ (fast .0 .left)) in (
       scan-next _ _ _ _ _ (l .loop .inv .0) (search needs)
-          (scan-test _ _ _ _ _ (l .loop .inv .0) _ refl ∙ plain-stands (l .loop .before) (l .loop .near) t (l .loop .row) (l .loop .inv .2) (rw (c .before .is-plain .ensures) at (r .0))),
+          (scan-test _ _ _ _ _ (l .loop .inv .0) _ refl ∙ near-stands (l .loop .before) (l .loop .near) t (l .loop .row) (l .loop .inv .2) (rw (c .before .is-near .ensures) at (r .0))),
       rw (fast .1) (r .1),
       rw (fast .2) (l .loop .inv .2),
     ))
@@ -148,7 +148,7 @@ table-sound-spec =
     mul-number
     mul-number-2
     shared-slice-read-number
-    is-plain-requires
+    is-near-requires
     end-for-requires
     holder-start-requires
     rest-sound-requires
