@@ -1,11 +1,12 @@
 -- Document 01, "The program": its whole input and its whole output, computed. Assumes nothing.
 use mathlib.Core.Path.{_≡_, refl}
 use Prim.Native.String.{String}
+use Rattle.answers.specs.Leading.{each, leading}
 use Rattle.answers.specs.Ascii.{ascii}
-use Rattle.packing.specs.Packing.{number, digits, octetsFor, charsIn, taken, takes, padded, packed, characters, readable, filled, kept, unpacked}
-use Rattle.numbers.specs.Numbers.{isDigit, areDigits, pushed, stored, isNumber, digitsUpTo, digitsOf, leadingDigits, numberAt}
+use Rattle.packing.specs.Packing.{number, digits, octetsFor, charsIn, taken, padded, packed, characters, readable, filled, kept, unpacked}
+use Rattle.numbers.specs.Numbers.{isDigit, pushed, stored, isNumber, digitsUpTo, digitsOf, numberAt}
 use Rattle.strings.specs.Text.{isAdditional, textOf, noticeOf}
-use Rattle.strings.specs.Reader.{begins, operationAt, serviceAt, numberFieldAt, forcedAt, erasingAt, leadingAdditional, additionalAt, fieldsOf}
+use Rattle.strings.specs.Reader.{begins, operationAt, serviceAt, numberFieldAt, forcedAt, erasingAt, additionalAt, fieldsOf}
 use Rattle.strings.specs.Outcomes.{requestOf}
 use Rattle.records.specs.Steps.{elapsed, delayOf, delayAllowed}
 use Rattle.rows.specs.Rows as rows
@@ -26,5 +27,5 @@ wholeOutput =
     "R 01\nR 02\nT 4915100001 ##214*0492123401*88*4915100002*#\nD again\nT refused 5\nT 4915100001 ##214*0492123401*88*4915100002*#\nD delivered\n"
 
 pub listing : outputOf (ascii wholeInput) ≡ ascii wholeOutput
-unfolding number digits octetsFor charsIn taken takes padded packed characters readable filled kept unpacked isDigit areDigits pushed stored isNumber digitsUpTo digitsOf leadingDigits numberAt isAdditional textOf noticeOf begins operationAt serviceAt numberFieldAt forcedAt erasingAt leadingAdditional additionalAt fieldsOf requestOf elapsed delayOf delayAllowed rows.noticeSound rows.rowSound rows.noticeOf rows.recordAt rows.stored placeOf tableSound rowOf recordOf listSound flagsOf requests.requestChecks requests.request notices.sending notices.result lines.linesOf lines.fieldAt lines.behindField lines.isDigits lines.numberOf lines.askedOf lines.valueBelow lines.numberForm lines.subscriberForm lines.requestForm lines.sendingForm lines.resultAt lines.resultForm lines.lettered lines.formOf program.mayFollow program.numbered program.subscribed program.asked program.requested program.dispatched program.reported program.lineEffect program.linesEffect program.programEffect program.outputOf
+unfolding number digits octetsFor charsIn taken each padded packed characters readable filled kept unpacked isDigit pushed stored isNumber digitsUpTo digitsOf leading numberAt isAdditional textOf noticeOf begins operationAt serviceAt numberFieldAt forcedAt erasingAt additionalAt fieldsOf requestOf elapsed delayOf delayAllowed rows.noticeSound rows.rowSound rows.noticeOf rows.recordAt rows.stored placeOf tableSound rowOf recordOf listSound flagsOf requests.requestChecks requests.request notices.sending notices.result lines.linesOf lines.fieldAt lines.behindField lines.isDigits lines.numberOf lines.askedOf lines.valueBelow lines.numberForm lines.subscriberForm lines.requestForm lines.sendingForm lines.resultAt lines.resultForm lines.lettered lines.formOf program.mayFollow program.numbered program.subscribed program.asked program.requested program.dispatched program.reported program.lineEffect program.linesEffect program.programEffect program.outputOf
 listing = refl

@@ -9,12 +9,14 @@ use lib.ListN.{length, drop, length-append}
 use lib.Seq.{take-append-seam}
 use lib.Dec.{eqb, ltb}
 use borrow.Author.Tests.{not-false}
+use Rattle.answers.specs.Leading.{each}
 use Rattle.answers.specs.Ascii.{ascii}
-use Rattle.answers.specs.Checks.{decide}
+use Rattle.answers.specs.Checks.{decide, anyHolds}
 use Rattle.answers.proofs.Tests.{no-path}
-use Rattle.answers.proofs.Decide.{decide-each}
+use Rattle.answers.proofs.Decide.{decide-each, AllPass, all-pass, none-holds, one-holds}
 use Rattle.packing.specs.Packing.{octetsFor, taken, takes, packed}
-use Rattle.packing.proofs.Laws.{length-packed, takes-append, takes-cons}
+use Rattle.answers.proofs.Leading.{each-append}
+use Rattle.packing.proofs.Laws.{length-packed, takes-cons}
 use Rattle.packing.proofs.RoundTrip.{packed-reads}
 use Rattle.numbers.specs.Numbers.{isNumber, digitsUpTo, digitsOf}
 use Rattle.numbers.specs.declared.FunctionalNumber.{FunctionalNumber}
@@ -36,8 +38,7 @@ use Rattle.tables.proofs.Stored.{record-found}
 use Rattle.rules.specs.Answers.{Answer, refusal, error, outcome, holder, sent, delivered, dropped, again, found, noneDue, Outcome, made, twoDigits, holderText, over, octetCount, refusing}
 use Rattle.rules.specs.Requests as requests
 use Rattle.rules.specs.Notices as notices
-use Rattle.rules.specs.Calls.{anyHolds}
-use Rattle.rules.proofs.Visits.{none-holds, one-holds, AllPass, all-pass, found-sound, found-number}
+use Rattle.rules.proofs.Visits.{found-sound, found-number}
 use Rattle.visits.proofs.Texts.{takes-two}
 use Rattle.lines.specs.Program.{buffer, asked}
 use Rattle.replies.specs.Replies.{Text, mostReplyOctets, mostNoticeOctets, Printable}
@@ -55,12 +56,12 @@ digits-short (suc room) w = go (ltb w 10) (digits-short room (w / 10))
 
 takes-digits : (room w : ℕ) → takes (digitsUpTo room w) ≡ true
 unfolding digitsUpTo
-takes-digits zero w = unfold takes in refl
+takes-digits zero w = unfold each in refl
 takes-digits (suc room) w = go (ltb w 10) (takes-digits room (w / 10))
   where
     go : (b : Bool) → takes (digitsUpTo room (w / 10)) ≡ true → takes (cond b [] (digitsUpTo room (w / 10) ++ ((48 + w % 10) ∷ []))) ≡ true
-    go true h = unfold takes in refl
-    go false h = takes-append (digitsUpTo room (w / 10)) ((48 + w % 10) ∷ []) ∙ rw h (takes-cons (48 + w % 10) [] (omega arith) (λ e. omega arith) (unfold takes in refl))
+    go true h = unfold each in refl
+    go false h = each-append taken (digitsUpTo room (w / 10)) ((48 + w % 10) ∷ []) ∙ rw h (takes-cons (48 + w % 10) [] (omega arith) (λ e. omega arith) (unfold each in refl))
 
 -- ---- a packed text at the front of a buffer
 
@@ -78,7 +79,7 @@ unfolding octetsFor
 said-stands n reply h = text-stands mostReplyOctets (twoDigits n) reply (takes-two n h) (omega arith)
 
 held-stands : (w : ℕ) (reply : List ℕ) → Text mostReplyOctets (octetCount (holderText w)) (over (holderText w) reply)
-unfolding octetsFor takes taken digitsOf
+unfolding octetsFor each taken digitsOf
 held-stands w reply = text-stands mostReplyOctets (holderText w) reply (takes-digits 15 w) (omega (arith, digits-short 15 w))
 
 abbrev pub isSent : Answer → Bool
@@ -184,8 +185,8 @@ abbrev notice : List ℕ → List ℕ → List ℕ
 notice number supervisor = ascii "##214*" ++ (number ++ (ascii "*88*" ++ (supervisor ++ ascii "*#")))
 
 notice-taken : (a b : List ℕ) → takes a ≡ true → takes b ≡ true → takes (notice a b) ≡ true
-unfolding takes taken
-notice-taken a b p q = rw (takes-append a, p, takes-append b, q)
+unfolding each taken
+notice-taken a b p q = rw (each-append taken a, p, each-append taken b, q)
 
 notice-short : (a b : List ℕ) → length a ≤ 15 → length b ≤ 15 → octetsFor (length (notice a b)) ≤ mostNoticeOctets
 unfolding octetsFor

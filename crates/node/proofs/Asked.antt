@@ -5,6 +5,7 @@ use mathlib.Core.List.{List}
 use Prim.Native.Nat.{ℕ}
 use mathlib.Core.Option.{Option, none, some}
 use native.Mathlib.Omega.{arith}
+use Rattle.answers.specs.Checks.{anyHolds}
 use Rattle.numbers.specs.declared.Msisdn.{Msisdn}
 use Rattle.strings.specs.Text.{Request}
 use Rattle.strings.specs.declared.Fields.{Fields}
@@ -18,7 +19,6 @@ use Rattle.tables.specs.declared.Found.{Found}
 use Rattle.tables.specs.declared.Found.the-variants.{At, Nothing}
 use Rattle.rules.specs.Answers.{Answer, outcome, made, over, octetCount, twoDigits}
 use Rattle.rules.specs.Requests.{hasFollowMe, isForced, isSupervisor, refusalChecks, request}
-use Rattle.rules.specs.Calls.{anyHolds}
 use Rattle.rules.proofs.Visits.{request-visits, request-misses}
 use Rattle.rules.specs.Visits.{storing, decided}
 use Rattle.visits.specs.Deciding.{deciding}

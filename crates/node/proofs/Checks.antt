@@ -6,6 +6,7 @@ use mathlib.Core.List.{List, []}
 use Prim.Native.Nat.{ℕ, _≤_, _<_}
 use lib.ListN.{length}
 use borrow.Author.Tests.{lt-ltb, le-ltb, eq-eqb, ne-eqb}
+use Rattle.answers.specs.Checks.{anyHolds}
 use Rattle.numbers.specs.Numbers.{isNumber}
 use Rattle.numbers.specs.declared.FunctionalNumber.{FunctionalNumber}
 use Rattle.numbers.specs.declared.Msisdn.{Msisdn}
@@ -15,7 +16,6 @@ use Rattle.tables.specs.Tables.{tableSound, listSound}
 use Rattle.rules.specs.Answers.{refusal, error, made, bufferRoom, Outcome}
 use Rattle.rules.specs.Requests.{codingScheme, mostStringOctets, refusalChecks, requestChecks, request}
 use Rattle.rules.specs.Notices.{sending, result, finding, firstDue}
-use Rattle.rules.specs.Calls.{anyHolds}
 use Rattle.rules.specs.Visits.{storing, leaving, sentStep, visitSending, missedSending}
 use Rattle.rows.specs.Rows.{recordAt}
 use Rattle.records.specs.Steps.{sent, delayAllowed}

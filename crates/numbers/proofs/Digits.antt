@@ -3,12 +3,14 @@ use mathlib.Core.Path.{_≡_, refl, sym, ap, _∙_}
 use mathlib.Core.Bool.{true}
 use mathlib.Core.List.{List, [], _∷_, _++_, append-nil}
 use Prim.Native.Nat.{ℕ, zero, suc, _+_, _-_, _*_, _/_, _%_, _^_, _≤_, _<_}
-use native.Mathlib.Nat.{le-trans, le-of-eq, lt-of-lt-of-le, mul-le-mul-right, mul-assoc, mul-comm, pow-suc, pow-zero, one-le-pow, add-zero}
+use native.Mathlib.Nat.{le-trans, le-of-eq, lt-of-lt-of-le, mul-le-mul-left, mul-le-mul-right, mul-one, mul-assoc, mul-comm, pow-suc, pow-zero, one-le-pow, add-zero}
 use native.Mathlib.Omega.{arith}
 use lib.ListN.{length, length-append}
 use lib.Seq.{append-snoc}
 use lib.Dec.{leb, lit<}
 use borrow.Author.Tests.{leb-true, le-leb, lt-ltb, le-ltb}
+use Rattle.answers.specs.Leading.{each}
+use Rattle.answers.proofs.Leading.{each-head, each-tail, each-append}
 use Rattle.answers.proofs.Tests.{and-left, and-right, and-both}
 use Rattle.numbers.specs.Numbers.{fewestDigits, mostDigits, isDigit, areDigits, pushed, stored, isNumber, digitsUpTo, digitsOf}
 use Rattle.numbers.proofs.Lengths.{HasLength, length-of, is-number}
@@ -23,19 +25,9 @@ pub digit-is : (c : ℕ) → 48 ≤ c → c ≤ 57 → isDigit c ≡ true
 unfolding isDigit
 digit-is c l h = and-both (leb 48 c) (leb c 57) (le-leb 48 c l) (le-leb c 57 h)
 
-pub digits-head : (c : ℕ) (cs : List ℕ) → areDigits (c ∷ cs) ≡ true → isDigit c ≡ true
-unfolding areDigits
-digits-head c cs h = and-left (isDigit c) (areDigits cs) h
-
-pub digits-tail : (c : ℕ) (cs : List ℕ) → areDigits (c ∷ cs) ≡ true → areDigits cs ≡ true
-unfolding areDigits
-digits-tail c cs h = and-right (isDigit c) (areDigits cs) h
-
 digits-snoc : (cs : List ℕ) (c : ℕ) → areDigits cs ≡ true → isDigit c ≡ true → areDigits (cs ++ (c ∷ [])) ≡ true
-unfolding areDigits
-digits-snoc [] c h d = and-both (isDigit c) true d refl
-digits-snoc (b ∷ cs) c h d =
-    and-both (isDigit b) (areDigits (cs ++ (c ∷ []))) (digits-head b cs h) (digits-snoc cs c (digits-tail b cs h) d)
+unfolding each
+digits-snoc cs c h d = rw (each-append isDigit cs (c ∷ []), h, d)
 
 -- ---- digits put behind a number
 
@@ -47,19 +39,23 @@ pushed-snoc w (b ∷ cs) c = pushed-snoc (10 * w + (b - 48)) cs c
 tenfold : (a n : ℕ) → a * 10 ^ suc n ≡ 10 * a * 10 ^ n
 tenfold a n = rw (pow-suc, mul-comm (10 ^ n) 10, ← mul-assoc, mul-comm a 10)
 
-pub pushed-least : (w : ℕ) (cs : List ℕ) → w * 10 ^ length cs ≤ pushed w cs
+pushed-least : (w : ℕ) (cs : List ℕ) → w * 10 ^ length cs ≤ pushed w cs
 unfolding pushed
 pushed-least w [] = omega (arith, pow-zero 10)
 pushed-least w (c ∷ cs) =
     le-trans (le-of-eq (tenfold w (length cs)))
     (le-trans (mul-le-mul-right (10 ^ length cs) (omega arith)) (pushed-least (10 * w + (c - 48)) cs))
 
+-- digits put behind a number do not make it smaller
+pub pushed-grows : (w : ℕ) (cs : List ℕ) → w ≤ pushed w cs
+pushed-grows w cs = le-trans (rw mul-one at (mul-le-mul-left w (one-le-pow (length cs) 10 (lit< tt)))) (pushed-least w cs)
+
 pushed-below : (w : ℕ) (cs : List ℕ) → areDigits cs ≡ true → pushed w cs < suc w * 10 ^ length cs
 unfolding pushed
 pushed-below w [] h = omega (arith, pow-zero 10)
 pushed-below w (c ∷ cs) h =
-    let d = digit-range c (digits-head c cs h) in
-    lt-of-lt-of-le (pushed-below (10 * w + (c - 48)) cs (digits-tail c cs h))
+    let d = digit-range c (each-head isDigit c cs h) in
+    lt-of-lt-of-le (pushed-below (10 * w + (c - 48)) cs (each-tail isDigit c cs h))
     (le-trans (mul-le-mul-right (10 ^ length cs) (omega arith)) (le-of-eq (sym (tenfold (suc w) (length cs)))))
 
 pub stored-length : (cs : List ℕ) → areDigits cs ≡ true → (10 ^ length cs ≤ stored cs) × (stored cs < 2 * 10 ^ length cs)
@@ -89,12 +85,12 @@ digits-pushed :
 unfolding pushed
 digits-pushed [] w room r h p e = rw (e, add-zero, append-nil)
 digits-pushed (c ∷ cs) w room r h p e =
-    let d = digit-range c (digits-head c cs h) in
+    let d = digit-range c (each-head isDigit c cs h) in
     let v = 10 * w + (c - 48) in
     let first : v / 10 ≡ w = omega arith in
     let last : 48 + v % 10 ≡ c = omega arith in
     let one : digitsUpTo (suc r) v ≡ digitsUpTo r w ++ (c ∷ []) = digits-last r v (omega arith) ∙ rw (first, last) in
-    digits-pushed cs v room (suc r) (digits-tail c cs h) (omega arith) (omega arith) ∙ rw one (append-snoc (digitsUpTo r w) c cs)
+    digits-pushed cs v room (suc r) (each-tail isDigit c cs h) (omega arith) (omega arith) ∙ rw one (append-snoc (digitsUpTo r w) c cs)
 
 -- any room that they fit gives digits back from their stored form
 digits-back : (cs : List ℕ) (room : ℕ) → areDigits cs ≡ true → length cs ≤ room → digitsUpTo room (stored cs) ≡ cs
@@ -111,7 +107,7 @@ record Spelt (n w : ℕ) (cs : List ℕ) : Type 0 where
   value : stored cs ≡ w
 
 spelt : (n room w : ℕ) → n ≤ room → 10 ^ n ≤ w → w < 2 * 10 ^ n → Spelt n w (digitsUpTo room w)
-unfolding areDigits stored pushed
+unfolding each stored pushed
 spelt zero room w f l b = rw (digits-none room w (omega arith)) (record { size = refl; digits = refl; value = omega arith })
 spelt (suc n) zero w f l b = absurd (omega arith)
 spelt (suc n) (suc room) w f l b =

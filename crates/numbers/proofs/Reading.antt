@@ -1,100 +1,43 @@
 -- Digits read from the front of a string. Assumes nothing.
-use mathlib.Core.Path.{_≡_, refl, sym, _∙_}
+use mathlib.Core.Path.{_≡_, refl, sym}
 use mathlib.Core.Bool.{Bool, true, false, cond, _&&_}
 use mathlib.Core.List.{List, [], _∷_, _++_, append-nil}
-use Prim.Native.Nat.{ℕ, suc, _+_, _-_, _*_, _^_, _≤_, _<_, zero-le, suc-le-suc}
-use native.Mathlib.Nat.{one-le-pow, pow-le-pow-right, mul-le-mul-left, le-trans, mul-one}
+use Prim.Native.Nat.{ℕ, suc, _+_, _-_, _*_, _^_, _≤_, _<_}
+use native.Mathlib.Nat.{pow-le-pow-right}
 use native.Mathlib.Numerals.{add-one}
 use native.Mathlib.Omega.{arith}
-use lib.ListN.{length, take, drop, getD, drop-of-length-le, take-append-drop}
+use lib.ListN.{length, take, drop, getD, take-append-drop}
 use lib.Seq.{drop-cons, take-at, length-take-le}
 use lib.Dec.{leb, lit<}
 use borrow.Author.Tests.{leb-true, le-leb, lt-leb}
-use Rattle.answers.proofs.Tests.{and-left, and-right, and-both, and-no}
+use Rattle.answers.specs.Leading.{leading}
+use Rattle.answers.proofs.Leading.{each-head, each-tail, leading-stop, Front, leading-front, leading-append}
+use Rattle.answers.proofs.Tests.{and-left, and-right, and-no}
 use Rattle.numbers.specs.Numbers.{fewestDigits, mostDigits, isDigit, areDigits, pushed, stored, isNumber, digitsOf, leadingDigits, numberAt}
 use Rattle.numbers.specs.declared.NumberRead.the-variants.{Number, Unreadable}
-use Rattle.numbers.proofs.Digits.{digit-range, digits-head, digits-tail, pushed-least, stored-length, stored-number}
+use Rattle.numbers.proofs.Digits.{digit-range, pushed-grows, stored-length, stored-number}
 use Rattle.numbers.proofs.Digits.{digits-are, digits-fewest, digits-most, stored-digits, digits-stored}
 
--- ---- how many digits stand at the front
+-- ---- digits put behind a number, one at a time
 
-pub leading-stop : (c : ℕ) (cs : List ℕ) → isDigit c ≡ false → leadingDigits (c ∷ cs) ≡ 0
-unfolding leadingDigits
-leading-stop c cs h = rw h
-
-pub leading-more : (c : ℕ) (cs : List ℕ) → isDigit c ≡ true → leadingDigits (c ∷ cs) ≡ suc (leadingDigits cs)
-unfolding leadingDigits
-leading-more c cs h = rw h
-
--- from a place of the string on
-pub leading-stop-at : (s : List ℕ) (i : ℕ) → i < length s → isDigit (getD s i 0) ≡ false → leadingDigits (drop i s) ≡ 0
-leading-stop-at s i l h = rw (drop-cons s i 0) (leading-stop (getD s i 0) (drop (suc i) s) h)
-
-pub leading-more-at : (s : List ℕ) (i : ℕ) → i < length s → isDigit (getD s i 0) ≡ true → leadingDigits (drop i s) ≡ suc (leadingDigits (drop (i + 1) s))
-leading-more-at s i l h = rw (drop-cons s i 0, add-one) (leading-more (getD s i 0) (drop (suc i) s) h)
-
-pub leading-end : (s : List ℕ) (i : ℕ) → length s ≤ i → leadingDigits (drop i s) ≡ 0
-unfolding leadingDigits
-leading-end s i l = rw (drop-of-length-le s l)
-
--- ---- digits put behind a 1, one at a time
-
--- a turn at i, with w read so far: the next digit, and what is left behind it
-pub record Turn (cs : List ℕ) (i w : ℕ) : Type 0 where
+-- a turn at i towards t, with w read so far: the next digit, and what is left behind it
+pub record Turn (cs : List ℕ) (i w t : ℕ) : Type 0 where
   pub low : 48 ≤ getD cs i 0
   pub high : getD cs i 0 ≤ 57
-  pub fits : 10 * w + (getD cs i 0 - 48) < 2 * 10 ^ mostDigits
   pub digits : areDigits (drop (i + 1) cs) ≡ true
-  pub same : pushed (10 * w + (getD cs i 0 - 48)) (drop (i + 1) cs) ≡ stored cs
+  pub same : pushed (10 * w + (getD cs i 0 - 48)) (drop (i + 1) cs) ≡ t
 
--- at most 15 digits put behind a 1 fit a word, and so do the first of them
-pushed-fits : (cs ds : List ℕ) (w : ℕ) → areDigits cs ≡ true → length cs ≤ mostDigits → pushed w ds ≡ stored cs → w < 2 * 10 ^ mostDigits
-pushed-fits cs ds w h m e =
-    let s = stored-length cs h in
-    let p = pow-le-pow-right {n = 10} (lit< tt) m in
-    let g = le-trans (mul-le-mul-left w (one-le-pow (length ds) 10 (lit< tt))) (pushed-least w ds) in
-    omega (arith, mul-one w)
-
-pub turn :
-    (cs : List ℕ) (i w : ℕ) → areDigits cs ≡ true → length cs ≤ mostDigits → i < length cs → areDigits (drop i cs) ≡ true
-    → pushed w (drop i cs) ≡ stored cs → Turn cs i w
+pub turn : (cs : List ℕ) (i w t : ℕ) → i < length cs → areDigits (drop i cs) ≡ true → pushed w (drop i cs) ≡ t → Turn cs i w t
 unfolding pushed
-turn cs i w all most l h e =
+turn cs i w t l h e =
     let split = drop-cons cs i 0 l in
     let here = rw split at h in
-    let d = digit-range (getD cs i 0) (digits-head (getD cs i 0) (drop (suc i) cs) here) in
-    let same = rw split at e in
-    record {
-      low = d .0;
-      high = d .1;
-      fits = pushed-fits cs (drop (suc i) cs) (10 * w + (getD cs i 0 - 48)) all most same;
-      digits = rw add-one (digits-tail (getD cs i 0) (drop (suc i) cs) here);
-      same = rw add-one same;
-    }
+    let d = digit-range (getD cs i 0) (each-head isDigit (getD cs i 0) (drop (suc i) cs) here) in
+    record { low = d .0; high = d .1; digits = rw add-one (each-tail isDigit (getD cs i 0) (drop (suc i) cs) here); same = rw add-one (rw split at e) }
 
--- ---- the digits at the front of a string
-
--- n digits stand at the front of s, and no digit behind them
-pub record Front (n : ℕ) (s : List ℕ) : Type 0 where
-  pub within : n ≤ length s
-  pub digits : areDigits (take n s) ≡ true
-  pub ended : leadingDigits (drop n s) ≡ 0
-
-pub leading-front : (s : List ℕ) → Front (leadingDigits s) s
-unfolding areDigits leadingDigits
-leading-front [] = record { within = zero-le; digits = refl; ended = refl }
-leading-front (c ∷ cs) = go (isDigit c) refl (leading-front cs)
-  where
-    go : (b : Bool) → isDigit c ≡ b → Front (leadingDigits cs) cs → Front (leadingDigits (c ∷ cs)) (c ∷ cs)
-    go true e f =
-        rw (leading-more c cs e)
-        (record { within = suc-le-suc (f .within); digits = and-both (isDigit c) (areDigits (take (leadingDigits cs) cs)) e (f .digits); ended = f .ended })
-    go false e f = rw (leading-stop c cs e) (record { within = zero-le; digits = refl; ended = leading-stop c cs e })
-
-leading-append : (cs s : List ℕ) → areDigits cs ≡ true → leadingDigits (cs ++ s) ≡ length cs + leadingDigits s
-leading-append [] s h = omega arith
-leading-append (c ∷ cs) s h =
-    leading-more c (cs ++ s) (digits-head c cs h) ∙ omega (arith, leading-append cs s (digits-tail c cs h))
+-- what was read of at most 15 digits behind a 1 fits a word
+pub stored-fits : (cs ds : List ℕ) (w : ℕ) → areDigits cs ≡ true → length cs ≤ mostDigits → pushed w ds ≡ stored cs → w < 2 * 10 ^ mostDigits
+stored-fits cs ds w h m e = omega (arith, stored-length cs h, pow-le-pow-right {n = 10} (lit< tt) m, pushed-grows w ds)
 
 -- ---- the number at the front of a string
 
@@ -114,14 +57,14 @@ reads s w n e l m v = rw (← e, le-leb fewestDigits n l, le-leb n mostDigits m,
 pub number-read : (w : ℕ) (s : List ℕ) → isNumber w ≡ true → leadingDigits s ≡ 0 → numberAt (digitsOf w ++ s) ≡ Number w (length (digitsOf w))
 number-read w s h e =
     let cs = digitsOf w in
-    reads (cs ++ s) w (length cs) (omega (arith, leading-append cs s (digits-are w h), e)) (digits-fewest w h) (digits-most w h)
+    reads (cs ++ s) w (length cs) (omega (arith, leading-append isDigit cs s (digits-are w h), e)) (digits-fewest w h) (digits-most w h)
     (rw (take-at cs s (length cs) refl) (sym (stored-digits w h)))
 
 pub number-read-before : (w c : ℕ) (s : List ℕ) → isNumber w ≡ true → isDigit c ≡ false → numberAt (digitsOf w ++ c ∷ s) ≡ Number w (length (digitsOf w))
-number-read-before w c s h e = number-read w (c ∷ s) h (leading-stop c s e)
+number-read-before w c s h e = number-read w (c ∷ s) h (leading-stop isDigit c s e)
 
 pub number-read-last : (w : ℕ) → isNumber w ≡ true → numberAt (digitsOf w) ≡ Number w (length (digitsOf w))
-unfolding leadingDigits
+unfolding leading
 number-read-last w h = rw append-nil at (number-read w [] h refl)
 
 -- the number w of n digits was read from the front of s
@@ -134,13 +77,13 @@ pub record ReadFrom (s : List ℕ) (w n : ℕ) : Type 0 where
   pub most : n ≤ mostDigits
   pub ended : leadingDigits (drop n s) ≡ 0
 
-read-front : (s : List ℕ) (n : ℕ) → Front n s → fewestDigits ≤ n → n ≤ mostDigits → ReadFrom s (stored (take n s)) n
+read-front : (s : List ℕ) (n : ℕ) → Front isDigit n s → fewestDigits ≤ n → n ≤ mostDigits → ReadFrom s (stored (take n s)) n
 read-front s n f l m =
     let cs = take n s in
     let size : length cs ≡ n = length-take-le n s (f .within) in
-    let back : digitsOf (stored cs) ≡ cs = digits-stored cs (f .digits) (omega arith) in
+    let back : digitsOf (stored cs) ≡ cs = digits-stored cs (f .passes) (omega arith) in
     record {
-      number = stored-number cs (f .digits) (omega arith) (omega arith);
+      number = stored-number cs (f .passes) (omega arith) (omega arith);
       count = rw back (sym size);
       front = rw back (sym (take-append-drop n s));
       within = f .within;
@@ -164,5 +107,5 @@ read-from s w n e = go (leb fewestDigits k && leb k mostDigits) refl e
         let value : stored (take k s) ≡ w = cc in
         let same : k ≡ n = cc in
         rw (← value, ← same)
-        (read-front s k (leading-front s) (leb-true fewestDigits k (and-left (leb fewestDigits k) (leb k mostDigits) t))
+        (read-front s k (leading-front isDigit s) (leb-true fewestDigits k (and-left (leb fewestDigits k) (leb k mostDigits) t))
         (leb-true k mostDigits (and-right (leb fewestDigits k) (leb k mostDigits) t)))

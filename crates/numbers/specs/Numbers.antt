@@ -1,9 +1,10 @@
 -- Document 01, "Numbers": digits, the stored form, and how the one is read from and written to the other. Assumes nothing.
 use Prim.Native.Nat.{ℕ, zero, suc, _+_, _-_, _*_, _/_, _%_, _^_}
-use mathlib.Core.Bool.{Bool, true, not, cond, _&&_, _||_}
+use mathlib.Core.Bool.{Bool, not, cond, _&&_, _||_}
 use mathlib.Core.List.{List, [], _∷_, _++_}
 use lib.ListN.{length, take}
 use lib.Dec.{leb, ltb}
+use Rattle.answers.specs.Leading.{each, leading}
 use Rattle.answers.specs.Writing.{Outcome, writing}
 use Rattle.numbers.specs.declared.NumberRead.{NumberRead}
 use Rattle.numbers.specs.declared.NumberRead.the-variants.{Number, Unreadable}
@@ -19,9 +20,8 @@ mostDigits = 15
 unfoldable pub isDigit : ℕ → Bool
 isDigit c = leb 48 c && leb c 57
 
-unfoldable pub areDigits : List ℕ → Bool
-areDigits [] = true
-areDigits (c ∷ cs) = isDigit c && areDigits cs
+abbrev pub areDigits : List ℕ → Bool
+areDigits cs = each isDigit cs
 
 -- w, with the digits cs put behind it, read as a decimal
 unfoldable pub pushed : ℕ → List ℕ → ℕ
@@ -52,9 +52,8 @@ unfoldable pub digitsOf : ℕ → List ℕ
 digitsOf w = digitsUpTo mostDigits w
 
 -- how many digits stand at the front of a string
-unfoldable pub leadingDigits : List ℕ → ℕ
-leadingDigits [] = 0
-leadingDigits (c ∷ cs) = cond (isDigit c) (suc (leadingDigits cs)) 0
+abbrev pub leadingDigits : List ℕ → ℕ
+leadingDigits s = leading isDigit s
 
 -- the number at the front of a string, with how far it reaches: 5 to 15 digits, and no digit behind them
 unfoldable pub numberAt : List ℕ → NumberRead

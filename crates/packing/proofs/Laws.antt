@@ -12,6 +12,7 @@ use lib.Seq.{drop-cons, drop-append-seam}
 use lib.Pow.{pow-add}
 use lib.Dec.{ltb, eqb}
 use borrow.Author.Tests.{lt-ltb, eq-eqb, ne-eqb, ltb-true}
+use Rattle.answers.specs.Leading.{each}
 use Rattle.answers.proofs.Tests.{and-left, and-right, no-path, same-or-not}
 use Rattle.packing.specs.Packing.{number, digits, octetsFor, charsIn, taken, takes, return-if, padded, packed, characters, readable, filled, kept-if, kept, unpacked}
 use Rattle.packing.proofs.Digits.{Below, pow-mul, number-head, number-drop, length-digits, getD-digits, take-digits}
@@ -61,25 +62,19 @@ length-unpacked-le os = rw length-unpacked (kept-le os)
 pub takes-next :
     (cs : List ℕ) (i : ℕ) (ok : Bool) → i < length cs → takes cs ≡ (ok && takes (drop i cs))
     → takes cs ≡ (ok && ltb (getD cs i 0) 128 && not (eqb (getD cs i 0) 13) && takes (drop (i + 1) cs))
-unfolding takes taken
+unfolding each taken
 takes-next cs i ok h e = e ∙ rw (add-one, drop-cons cs i 0 h) (simp and-assoc)
 
 pub takes-end : (cs : List ℕ) (i : ℕ) (ok : Bool) → length cs ≤ i → takes cs ≡ (ok && takes (drop i cs)) → ok ≡ takes cs
-unfolding takes
+unfolding each
 takes-end cs i ok h e = sym (e ∙ rw (drop-of-length-le cs h) (and-true ok))
 
--- a text is taken where its parts are
-pub takes-append : (xs ys : List ℕ) → takes (xs ++ ys) ≡ (takes xs && takes ys)
-unfolding takes
-takes-append [] ys = refl
-takes-append (x ∷ xs) ys = rw (takes-append xs ys) (sym (and-assoc (taken x) (takes xs) (takes ys)))
-
 pub takes-cons : (c : ℕ) (cs : List ℕ) → c < 128 → (c ≡ 13 → ⊥) → takes cs ≡ true → takes (c ∷ cs) ≡ true
-unfolding takes taken
+unfolding each taken
 takes-cons c cs h f e = rw (lt-ltb c 128 h, ne-eqb c 13 f, e)
 
 pub takes-below : (cs : List ℕ) → takes cs ≡ true → Below 128 cs
-unfolding takes taken
+unfolding each taken
 takes-below [] e zero = omega arith
 takes-below [] e (suc k) = omega arith
 takes-below (c ∷ cs) e zero = ltb-true c 128 (and-left (ltb c 128) (not (eqb c 13)) (and-left (taken c) (takes cs) e))

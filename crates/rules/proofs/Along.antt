@@ -7,8 +7,7 @@ use Prim.Native.Nat.{ℕ}
 use lib.ListN.{length}
 use lib.Dec.{eqb, ltb, leb}
 use borrow.Author.Tests.{eqb-true, eq-eqb, ne-eqb, not-true, not-false}
-use Rattle.answers.specs.Checks.{decide}
-use Rattle.answers.proofs.Decide.{answering, Each, decide-each}
+use Rattle.answers.proofs.Decide.{answering, decide-each, decide-by}
 use Rattle.answers.proofs.Tests.{no-path, and-left, and-right}
 use Rattle.numbers.specs.declared.FunctionalNumber.{FunctionalNumber}
 use Rattle.numbers.specs.declared.Msisdn.{Msisdn}
@@ -36,7 +35,7 @@ use Rattle.rules.specs.Calls.{Call, request, sending, result, Reply, rep
 use Rattle.rules.specs.Visits.{Visited, visited, says, stepped, told, decides, decided, sentStep, resultStep, visitRequest, visit, saying, missedRequest, missed}
 use Rattle.rules.specs.Pending.{never}
 use Rattle.rules.specs.Demand.{isOutcome}
-use Rattle.rules.proofs.Visits.{AllPass, rightChecks, recordChecks, sentChecks}
+use Rattle.rules.proofs.Visits.{rightChecks, recordChecks, sentChecks}
 use Rattle.rules.proofs.Sound.{call-own, call-absent, call-other}
 use Rattle.rules.proofs.Local.{named-some}
 
@@ -78,15 +77,6 @@ pub data Does (list : List ℕ) (r : Record) : Call → Visited → Type 0 where
       → Does list r (result now number kind) (visited a [] (cleared r))
   goes-on : {now kind : ℕ} {number : FunctionalNumber} → leb mostSendings (sendingsDone (r .notice)) ≡ false
       → Does list r (result now number kind) (visited again [] (withNotice (Waiting (sendingsDone (r .notice)) (reading now)) r))
-
--- what every answer has, and what is done has where no check holds, the one that is decided has
-decide-by : {A : Type 0} (P : A → Type 0) (checks : List (Bool × A)) (done : A) → Each P checks → (AllPass checks → P done) → P (decide checks done)
-decide-by P [] done each last = last tt
-decide-by P (check ∷ checks) done each last = go (check .0) refl (λ e. decide-by P checks done (each .1) (λ rest. last (e, rest)))
-  where
-    go : (b : Bool) → check .0 ≡ b → (check .0 ≡ false → P (decide checks done)) → P (cond b (check .1) (decide checks done))
-    go true e rest = each .0
-    go false e rest = rest e
 
 module _ (list : List ℕ) (r : Record) (requester : Msisdn) (scheme : ℕ) (string reply : List ℕ) where
   abbrev flags : ℕ

@@ -7,6 +7,7 @@ use mathlib.Core.List.{List, [], _∷_}
 use Prim.Native.Nat.{ℕ}
 use native.Mathlib.Omega.{arith}
 use borrow.Author.Tests.{eqb-true, not-false}
+use Rattle.answers.proofs.Decide.{all-pass}
 use Rattle.answers.proofs.Tests.{no-path, or-right}
 use Rattle.numbers.specs.declared.Msisdn.{Msisdn}
 use Rattle.records.specs.declared.Record.{Record}
@@ -20,7 +21,7 @@ use Rattle.rules.specs.Pending.{never}
 use Rattle.rules.specs.Users.{isRequest, bothFlags, mayEndHold, endsHold, HoldEnded, registers, HoldBegun}
 use Rattle.rules.specs.Demand.{isOutcome, requesterOf, holderOf}
 use Rattle.tables.proofs.Stored.{flags-small}
-use Rattle.rules.proofs.Visits.{all-pass, naming}
+use Rattle.rules.proofs.Visits.{naming}
 use Rattle.rules.proofs.Local.{named-some}
 use Rattle.rules.proofs.Along.{Asked, negative, registration, erasure, own, forced, Does, asks, unsent, sends, untaken, clears, goes-on, Along, ends, passes, visits, along, word, one-msisdn, same-one, one-same, never-first}
 

@@ -4,11 +4,12 @@ use mathlib.Core.Bool.{Bool, true}
 use mathlib.Core.List.{List, [], _∷_, _++_}
 use Prim.Native.Nat.{ℕ}
 use lib.ListN.{replicate}
+use Rattle.answers.specs.Leading.{leading}
 use Rattle.answers.specs.Ascii.{ascii}
 use Rattle.packing.specs.Packing.{number, digits, octetsFor, charsIn, padded, packed, characters, readable, filled, kept, unpacked}
-use Rattle.numbers.specs.Numbers.{isDigit, pushed, stored, isNumber, digitsUpTo, digitsOf, leadingDigits, numberAt}
+use Rattle.numbers.specs.Numbers.{isDigit, pushed, stored, isNumber, digitsUpTo, digitsOf, numberAt}
 use Rattle.strings.specs.Text.{isAdditional, textOf, noticeOf}
-use Rattle.strings.specs.Reader.{begins, operationAt, serviceAt, numberFieldAt, forcedAt, erasingAt, leadingAdditional, additionalAt, fieldsOf}
+use Rattle.strings.specs.Reader.{begins, operationAt, serviceAt, numberFieldAt, forcedAt, erasingAt, additionalAt, fieldsOf}
 use Rattle.strings.specs.Outcomes.{requestOf}
 use Rattle.records.specs.Steps.{elapsed, delayOf, delayAllowed}
 use Rattle.rows.specs.Rows as rows
@@ -132,6 +133,6 @@ examples =
     ∷ []
 
 pub p1-to-p15 : All examples
-unfolding number digits octetsFor charsIn padded packed characters readable filled kept unpacked isDigit pushed stored isNumber digitsUpTo digitsOf leadingDigits numberAt isAdditional textOf noticeOf begins operationAt serviceAt numberFieldAt forcedAt erasingAt leadingAdditional additionalAt fieldsOf requestOf elapsed delayOf delayAllowed rows.noticeSound rows.rowSound rows.noticeOf rows.recordAt rows.stored placeOf tableSound rowOf recordOf listSound flagsOf requests.requestChecks requests.request notices.sending notices.result
+unfolding number digits octetsFor charsIn padded packed characters readable filled kept unpacked isDigit pushed stored isNumber digitsUpTo digitsOf leading numberAt isAdditional textOf noticeOf begins operationAt serviceAt numberFieldAt forcedAt erasingAt additionalAt fieldsOf requestOf elapsed delayOf delayAllowed rows.noticeSound rows.rowSound rows.noticeOf rows.recordAt rows.stored placeOf tableSound rowOf recordOf listSound flagsOf requests.requestChecks requests.request notices.sending notices.result
 p1-to-p15 =
     refl and refl and refl and refl and refl and refl and refl and refl and refl and refl and refl and refl and refl and refl and refl and refl and refl and refl and refl and done

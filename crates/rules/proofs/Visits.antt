@@ -7,10 +7,10 @@ use Prim.Native.Nat.{ℕ}
 use lib.ListN.{length}
 use lib.Dec.{eqb, ltb, leb}
 use borrow.Author.Tests.{eqb-true, not-false}
-use Rattle.answers.specs.Checks.{decide, isNone}
+use Rattle.answers.specs.Checks.{decide, isNone, anyHolds}
 use Rattle.answers.proofs.Tests.{no-path, or-neither, or-right}
 use Rattle.answers.proofs.Checks.{not-some}
-use Rattle.answers.proofs.Decide.{chosen, answering, decide-of}
+use Rattle.answers.proofs.Decide.{chosen, answering, decide-of, all-pass, any-answering, none-holds, one-holds}
 use Rattle.packing.specs.Packing.{unpacked}
 use Rattle.numbers.specs.Numbers.{isNumber}
 use Rattle.numbers.specs.declared.FunctionalNumber.{FunctionalNumber}
@@ -40,40 +40,8 @@ use Rattle.tables.proofs.Stored.{row-found}
 use Rattle.rules.specs.Answers.{Answer, refusal, error, delivered, dropped, again, Outcome, made, bufferRoom, refusing}
 use Rattle.rules.specs.Requests as requests
 use Rattle.rules.specs.Notices as notices
-use Rattle.rules.specs.Calls.{Call, request, sending, result, replied, reading, call, anyHolds, numberRead, nameOf}
+use Rattle.rules.specs.Calls.{Call, request, sending, result, replied, reading, call, numberRead, nameOf}
 use Rattle.rules.specs.Visits.{visited, storing, leaving, says, stepped, told, decides, decided, sentStep, resultStep, visitSending, visitResult, visitRequest, visit, saying, missedSending, missedResult, missedRequest, missed, stopped}
-
--- ---- checks
-
-module _ {A : Type 0} where
-  -- where none holds, what comes behind them decides
-  pub none-holds : (checks : List (Bool × A)) (done : A) → anyHolds checks ≡ false → decide checks done ≡ done
-  none-holds [] done h = refl
-  none-holds (check ∷ checks) done h = let b = or-neither (check .0) (anyHolds checks) h in rw (b .0) (none-holds checks done (b .1))
-
-  -- where one holds, what comes behind them does not matter
-  pub one-holds : (checks : List (Bool × A)) (done other : A) → anyHolds checks ≡ true → decide checks done ≡ decide checks other
-  one-holds [] done other h = no-path h
-  one-holds (check ∷ checks) done other h = go (check .0) h (one-holds checks done other)
-    where
-      go : (b : Bool) → (b || anyHolds checks) ≡ true → (anyHolds checks ≡ true → decide checks done ≡ decide checks other)
-          → cond b (check .1) (decide checks done) ≡ cond b (check .1) (decide checks other)
-      go true h rest = refl
-      go false h rest = rest h
-
-  -- none of them holds
-  abbrev pub AllPass : List (Bool × A) → Type 0
-  AllPass [] = Unit {0}
-  AllPass (check ∷ checks) = (check .0 ≡ false) × AllPass checks
-
-  pub all-pass : (checks : List (Bool × A)) → anyHolds checks ≡ false → AllPass checks
-  all-pass [] h = tt
-  all-pass (check ∷ checks) h = let b = or-neither (check .0) (anyHolds checks) h in (b .0, all-pass checks (b .1))
-
-  -- whether one holds has nothing to do with what it answers
-  any-answering : {B : Type 0} (g : A → B) (checks : List (Bool × A)) → anyHolds (map (answering g) checks) ≡ anyHolds checks
-  any-answering g [] = refl
-  any-answering g (check ∷ checks) = rw (any-answering g checks)
 
 -- ---- the row of a number in a sound table
 

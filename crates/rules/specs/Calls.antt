@@ -1,10 +1,11 @@
 -- Requests, sendings and results as calls over one table, with one subscriber list and one delay; and the number that a call names. Assumes nothing.
 use Prim.Native.Nat.{ℕ, _*_, _%_, _^_}
-use mathlib.Core.Bool.{Bool, true, false, cond, _||_}
+use mathlib.Core.Bool.{Bool, true, false, cond}
 use mathlib.Core.Option.{Option, none, some}
-use mathlib.Core.List.{List, [], _∷_}
+use mathlib.Core.List.{List, []}
 use lib.ListN.{take, drop}
 use lib.Dec.{eqb}
+use Rattle.answers.specs.Checks.{anyHolds}
 use Rattle.numbers.specs.declared.FunctionalNumber.{FunctionalNumber}
 use Rattle.numbers.specs.declared.Msisdn.{Msisdn}
 use Rattle.strings.specs.Text.{Request}
@@ -43,11 +44,6 @@ abbrev pub call : List ℕ → ℕ → Call → List ℕ → Reply × List ℕ
 call list delay (request requester scheme string reply) table = replied (requests.request table list reply requester scheme string)
 call list delay (sending now number buffer) table = replied (notices.sending table buffer number delay (reading now))
 call list delay (result now number kind) table = replied (notices.result table number kind (reading now))
-
--- one of the checks holds
-abbrev pub anyHolds : {A : Type 0} → List (Bool × A) → Bool
-anyHolds [] = false
-anyHolds (check ∷ checks) = check .0 || anyHolds checks
 
 abbrev pub numberRead : Option Request → Option ℕ
 numberRead none = none

@@ -3,19 +3,20 @@ use mathlib.Core.Path.{_≡_, refl}
 use mathlib.Core.List.{List, [], _++_}
 use Prim.Native.Nat.{ℕ, _/_}
 use lib.ListN.{length, getD, replicate}
+use Rattle.answers.specs.Leading.{leading}
 use Rattle.answers.specs.Ascii.{ascii}
-use Rattle.numbers.specs.Numbers.{isDigit, pushed, stored, digitsUpTo, digitsOf, leadingDigits, numberAt}
+use Rattle.numbers.specs.Numbers.{isDigit, pushed, stored, digitsUpTo, digitsOf, numberAt}
 use Rattle.packing.specs.Packing.{number, digits, octetsFor, charsIn, padded, packed, characters, readable, filled, kept, unpacked}
 use Rattle.strings.specs.declared.Operation.the-variants.{Register}
 use Rattle.strings.specs.declared.Erasing.the-variants.{Empty}
 use Rattle.strings.specs.Text.{Request, isAdditional, textOf}
-use Rattle.strings.specs.Reader.{begins, operationAt, serviceAt, numberFieldAt, forcedAt, erasingAt, leadingAdditional, additionalAt, fieldsOf}
+use Rattle.strings.specs.Reader.{begins, operationAt, serviceAt, numberFieldAt, forcedAt, erasingAt, additionalAt, fieldsOf}
 use Rattle.strings.specs.Outcomes.{requestOf, Told, reading}
 use Rattle.strings.specs.Outcomes.Told.{fields, error}
 
 -- what is told of a text, once it is packed
 unfoldable pub toldOf : List ℕ → Told
-unfolding begins operationAt serviceAt numberFieldAt forcedAt erasingAt leadingAdditional additionalAt fieldsOf requestOf reading isAdditional isDigit pushed stored leadingDigits numberAt number digits octetsFor charsIn padded packed characters readable filled kept unpacked
+unfolding begins operationAt serviceAt numberFieldAt forcedAt erasingAt leading additionalAt fieldsOf requestOf reading isAdditional isDigit pushed stored numberAt number digits octetsFor charsIn padded packed characters readable filled kept unpacked
 toldOf text = reading (packed text) .answer
 
 -- the registration of a number, with an additional field

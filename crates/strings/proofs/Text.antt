@@ -2,15 +2,17 @@
 use mathlib.Core.Path.{_≡_, refl}
 use mathlib.Core.Logic.{⊎-elim}
 use mathlib.Core.Bool.{true, false, _&&_, _||_, and-true, and-false}
-use mathlib.Core.List.{List, [], _∷_, _++_, append-assoc}
+use mathlib.Core.List.{List, _++_, append-assoc}
 use Prim.Native.Nat.{ℕ, _≤_, _<_}
 use native.Mathlib.Omega.{arith}
 use lib.ListN.{length, length-append}
 use lib.Dec.{leb, eqb}
 use borrow.Author.Tests.{leb-true, le-leb, lt-leb, eqb-true, lt-ltb, ne-eqb}
+use Rattle.answers.specs.Leading.{each}
 use Rattle.answers.specs.Ascii.{ascii}
+use Rattle.answers.proofs.Leading.{each-append, each-implies, each-leading}
 use Rattle.answers.proofs.Tests.{and-left, and-right, or-cases}
-use Rattle.numbers.specs.Numbers.{isDigit, areDigits, isNumber, digitsOf}
+use Rattle.numbers.specs.Numbers.{isDigit, isNumber, digitsOf}
 use Rattle.numbers.proofs.Digits.{digits-are, digits-most}
 use Rattle.numbers.specs.declared.FunctionalNumber.{FunctionalNumber}
 use Rattle.numbers.specs.declared.Msisdn.{Msisdn}
@@ -22,7 +24,6 @@ use Rattle.strings.specs.declared.Erasing.{Erasing}
 use Rattle.strings.specs.declared.Erasing.the-variants.{Empty, Forced}
 use Rattle.strings.specs.Text.{Request, isAdditional, areAdditional, mostAdditional, mayForce, erasingSound, requestSound, operationText, serviceText, star, hash, textOf, noticeOf, mostCharacters, mostOctets}
 use Rattle.strings.specs.Reader.{leadingAdditional}
-use Rattle.strings.proofs.Additional.{are-leading}
 use Rattle.strings.proofs.Exact.{starred, erasingText}
 
 -- the rules that sound fields keep, one by one
@@ -61,7 +62,7 @@ pub sound-few :
     (f : Request) → length (f .additional) ≤ mostAdditional
     → requestSound f ≡ (isNumber (f .number .0) && erasingSound (f .operation) (f .erasing) && eqb (leadingAdditional (f .additional)) (length (f .additional)))
 unfolding requestSound
-sound-few f h = rw (le-leb (length (f .additional)) mostAdditional h, and-true, are-leading)
+sound-few f h = rw (le-leb (length (f .additional)) mostAdditional h, and-true, each-leading isAdditional (f .additional))
 
 -- the text, field behind field
 pub text-fields :
@@ -88,22 +89,16 @@ additional-range c h =
     between : (a b : ℕ) → 32 ≤ a → b ≤ 90 → (leb a c && leb c b) ≡ true → (32 ≤ c) × (c ≤ 90)
     between a b low high e = omega (arith, leb-true a c (and-left (leb a c) (leb c b) e), leb-true c b (and-right (leb a c) (leb c b) e))
 
-additional-taken : (cs : List ℕ) → areAdditional cs ≡ true → takes cs ≡ true
-unfolding areAdditional takes taken
-additional-taken [] h = refl
-additional-taken (c ∷ cs) h =
-    let r = additional-range c (and-left (isAdditional c) (areAdditional cs) h) in
-    rw (lt-ltb c 128 (omega arith), ne-eqb c 13 (λ e. omega arith)) (additional-taken cs (and-right (isAdditional c) (areAdditional cs) h))
+additional-taken : (c : ℕ) → isAdditional c ≡ true → taken c ≡ true
+unfolding taken
+additional-taken c h = let r = additional-range c h in rw (lt-ltb c 128 (omega arith), ne-eqb c 13 (λ e. omega arith))
 
-digits-additional : (cs : List ℕ) → areDigits cs ≡ true → areAdditional cs ≡ true
-unfolding areDigits areAdditional isAdditional
-digits-additional [] h = refl
-digits-additional (c ∷ cs) h = rw (and-left (isDigit c) (areDigits cs) h) (digits-additional cs (and-right (isDigit c) (areDigits cs) h))
+digit-additional : (c : ℕ) → isDigit c ≡ true → isAdditional c ≡ true
+unfolding isAdditional
+digit-additional c h = rw h
 
-takes-append : (a b : List ℕ) → takes a ≡ true → takes b ≡ true → takes (a ++ b) ≡ true
-unfolding takes
-takes-append [] b p q = q
-takes-append (c ∷ a) b p q = rw (and-left (taken c) (takes a) p) (takes-append a b (and-right (taken c) (takes a) p) q)
+both-taken : (a b : List ℕ) → takes a ≡ true → takes b ≡ true → takes (a ++ b) ≡ true
+both-taken a b p q = rw (each-append taken a b, p) q
 
 -- an MSISDN that is named is a number
 pub sound-erasing : (o : Operation) (e : Erasing) → erasingSound o e ≡ true → erasingSound Erase e ≡ true
@@ -112,17 +107,17 @@ sound-erasing o (Forced m) h = and-right (mayForce o) (isNumber (m .0)) h
 
 starred-taken : (w : ℕ) → isNumber w ≡ true → takes (starred w) ≡ true
 starred-taken w h =
-    takes-append (digitsOf w) star (additional-taken (digitsOf w) (digits-additional (digitsOf w) (digits-are w h))) (unfold takes taken in refl)
+    both-taken (digitsOf w) star (each-implies isDigit taken (λ c d. additional-taken c (digit-additional c d)) (digitsOf w) (digits-are w h)) (unfold each taken in refl)
 
 pub text-taken : (f : Request) → requestSound f ≡ true → takes (textOf f) ≡ true
-unfolding takes taken
+unfolding each taken
 text-taken f h =
     let r = sound-rules f h in
     rw (text-fields f)
-    (takes-append (operationText (f .operation)) _ (operation (f .operation))
-    (takes-append (starred (f .number .0)) _ (starred-taken (f .number .0) (r .number))
-    (takes-append (erasingText (f .erasing)) _ (erasing (f .erasing) (r .erasing))
-    (takes-append (f .additional) hash (additional-taken (f .additional) (r .additional)) refl))))
+    (both-taken (operationText (f .operation)) _ (operation (f .operation))
+    (both-taken (starred (f .number .0)) _ (starred-taken (f .number .0) (r .number))
+    (both-taken (erasingText (f .erasing)) _ (erasing (f .erasing) (r .erasing))
+    (both-taken (f .additional) hash (each-implies isAdditional taken additional-taken (f .additional) (r .additional)) refl))))
   where
     operation : (o : Operation) → takes (operationText o) ≡ true
     operation Register = refl
@@ -189,7 +184,7 @@ notice-text n s = refl
 
 module _ (n : FunctionalNumber) (s : Msisdn) (number : isNumber (n .0) ≡ true) (supervisor : isNumber (s .0) ≡ true) where
   pub notice-sound : requestSound (noticeOf n s) ≡ true
-  unfolding requestSound noticeOf areAdditional
+  unfolding requestSound noticeOf each
   notice-sound = rw (number, supervisor)
 
   -- at most 42 characters, 37 octets: a notice fits the 80 octets of its buffer

@@ -1,11 +1,12 @@
 -- Document 01, "Request string": how the fields are read from a text. "Each field is read from the remaining part of the string; the first field that cannot be read ends the reading." Assumes nothing.
-use Prim.Native.Nat.{ℕ, suc, _+_}
-use mathlib.Core.Bool.{Bool, true, false, cond, _&&_}
+use Prim.Native.Nat.{ℕ, _+_}
+use mathlib.Core.Bool.{Bool, true, false, _&&_}
 use mathlib.Core.Option.{Option, none, some}
 use mathlib.Core.List.{List, [], _∷_, _++_}
 use lib.ListN.{length, take, drop}
 use lib.Dec.{leb, eqb}
 use Rattle.answers.specs.Ascii.{ascii}
+use Rattle.answers.specs.Leading.{leading}
 use Rattle.answers.specs.Checks.{_>>=_, onlyIf}
 use Rattle.numbers.specs.Numbers.{numberAt}
 use Rattle.numbers.specs.declared.NumberRead.{NumberRead}
@@ -71,9 +72,8 @@ unfoldable pub erasingAt : Operation → List ℕ → Option (Field Erasing)
 erasingAt o s = orElse (fieldAt Empty (star ++ star) s) (forcedAt o s)
 
 -- how many characters at the front may stand in an additional field
-unfoldable pub leadingAdditional : List ℕ → ℕ
-leadingAdditional [] = 0
-leadingAdditional (c ∷ s) = cond (isAdditional c) (suc (leadingAdditional s)) 0
+abbrev pub leadingAdditional : List ℕ → ℕ
+leadingAdditional s = leading isAdditional s
 
 -- the additional field: 0 to 30 characters, and `#` as last character of the string
 unfoldable pub additionalAt : List ℕ → Option (List ℕ)

@@ -5,6 +5,7 @@ use mathlib.Core.List.{List, [], _∷_, _++_}
 use lib.ListN.{length}
 use lib.Dec.{leb, eqb}
 use Rattle.answers.specs.Ascii.{ascii}
+use Rattle.answers.specs.Leading.{each}
 use Rattle.numbers.specs.Numbers.{isDigit, isNumber, digitsOf}
 use Rattle.numbers.specs.declared.FunctionalNumber.{FunctionalNumber}
 use Rattle.numbers.specs.declared.Msisdn.{Msisdn}
@@ -24,9 +25,8 @@ pub record Request : Type 0 where
 unfoldable pub isAdditional : ℕ → Bool
 isAdditional c = isDigit c || (leb 65 c && leb c 90) || eqb c 32
 
-unfoldable pub areAdditional : List ℕ → Bool
-areAdditional [] = true
-areAdditional (c ∷ cs) = isAdditional c && areAdditional cs
+abbrev pub areAdditional : List ℕ → Bool
+areAdditional cs = each isAdditional cs
 
 -- "The additional field has 0 to 30 characters"
 abbrev pub mostAdditional : ℕ

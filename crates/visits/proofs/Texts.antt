@@ -1,5 +1,5 @@
 -- The texts of outcomes: the packer takes them, and a buffer of 80 octets has room for them. Assumes nothing.
-use mathlib.Core.Path.{_≡_, refl, sym, ap, _∙_}
+use mathlib.Core.Path.{_≡_, sym, ap, _∙_}
 use mathlib.Core.Bool.{true}
 use mathlib.Core.List.{List, [], _∷_, _++_, append-nil}
 use Prim.Native.Nat.{ℕ, _+_, _/_, _%_, _≤_, _<_}
@@ -11,12 +11,14 @@ use lib.ListN.{length, take}
 use lib.Seq.{take-append-add, take-at}
 use native.Mathlib.Nat.{add-comm}
 use borrow.Author.Tests.{lt-ltb, ne-eqb}
+use Rattle.answers.specs.Leading.{each}
+use Rattle.answers.proofs.Leading.{each-implies}
 use Rattle.answers.proofs.Written.{the-type}
 use Rattle.answers.specs.declared.Written.{Written}
 use Rattle.answers.specs.declared.Written.the-variants.{Count}
 use Rattle.packing.specs.Packing.{taken, takes, octetsFor}
-use Rattle.numbers.specs.Numbers.{areDigits, isNumber, digitsOf}
-use Rattle.numbers.proofs.Digits.{digit-range, digits-head, digits-tail, digits-are, digits-most}
+use Rattle.numbers.specs.Numbers.{isDigit, isNumber, digitsOf}
+use Rattle.numbers.proofs.Digits.{digit-range, digits-are, digits-most}
 use Rattle.rules.specs.Answers.{twoDigits, holderText, bufferRoom}
 
 -- a character of digits, as of any octet's two digits, is taken
@@ -25,19 +27,15 @@ unfolding taken
 taken-low c h l = simp (lt-ltb c 128 l, ne-eqb c 13 (λ e. omega arith))
 
 pub takes-two : (n : ℕ) → n < 256 → takes (twoDigits n) ≡ true
-unfolding takes
+unfolding each
 takes-two n h = simp (taken-low (48 + n / 10) (omega arith) (omega arith), taken-low (48 + n % 10) (omega arith) (omega arith))
 
-takes-digits : (cs : List ℕ) → areDigits cs ≡ true → takes cs ≡ true
-unfolding takes
-takes-digits [] e = refl
-takes-digits (c ∷ cs) e =
-    let r = digit-range c (digits-head c cs e) in
-    simp (taken-low c (r .0) (omega (arith, r .1)), takes-digits cs (digits-tail c cs e))
+digit-taken : (c : ℕ) → isDigit c ≡ true → taken c ≡ true
+digit-taken c e = let r = digit-range c e in taken-low c (r .0) (omega (arith, r .1))
 
 pub takes-holder : (w : ℕ) → isNumber w ≡ true → takes (holderText w) ≡ true
-unfolding takes taken
-takes-holder w e = takes-digits (digitsOf w) (digits-are w e)
+unfolding each taken
+takes-holder w e = each-implies isDigit taken digit-taken (digitsOf w) (digits-are w e)
 
 pub holder-room : (w room : ℕ) → isNumber w ≡ true → bufferRoom ≤ room → octetsFor (length (holderText w)) ≤ room
 unfolding octetsFor

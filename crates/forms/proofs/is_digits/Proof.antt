@@ -7,7 +7,8 @@ use borrow.Author.Tests.{not-true, not-false}
 use lib.ListN.{length, drop}
 use Rattle.numbers.specs.Numbers.{isDigit, areDigits}
 use Rattle.forms.specs.Lines.{isDigits}
-use Rattle.forms.proofs.Digits.{digits-none, digits-some, digits-stop, digits-more, digits-end}
+use Rattle.forms.proofs.Digits.{digits-none, digits-some}
+use Rattle.answers.proofs.Leading.{each-stop-at, each-more-at, each-end-at}
 use Rattle.forms.proofs.is_digits.Statement.{statement}
 use Rattle.forms.proofs.is_digits.Tie as tie
 
@@ -30,7 +31,7 @@ returns-2 : tie.Need-returns-2 Inv-loop μ-loop
 unfolding isDigit
 returns-2 c =
     let l = c .before .before .before in
-    sym (l .loop .inv .1 ∙ digits-stop _ (l .loop .i) (c .before .before .loop-test .taken) (not-true _ (c .if2 .taken)))
+    sym (l .loop .inv .1 ∙ each-stop-at isDigit _ (l .loop .i) (c .before .before .loop-test .taken) (not-true _ (c .if2 .taken)))
 
 add-i : tie.Need-add-i Inv-loop μ-loop
 add-i c = search needs
@@ -42,10 +43,10 @@ loop-again : tie.Need-loop-again Inv-loop μ-loop
 unfolding isDigit
 loop-again c =
     let l = c .before .before .before in
-    (omega arith, l .loop .inv .1 ∙ digits-more _ (l .loop .i) (c .before .before .loop-test .taken) (not-false _ (c .if2 .left)))
+    (omega arith, l .loop .inv .1 ∙ each-more-at isDigit _ (l .loop .i) (c .before .before .loop-test .taken) (not-false _ (c .if2 .left)))
 
 returns-3 : tie.Need-returns-3 Inv-loop μ-loop
-returns-3 c = sym (c .before .loop .inv .1 ∙ digits-end _ (c .before .loop .i) (c .loop-test .left))
+returns-3 c = sym (c .before .loop .inv .1 ∙ each-end-at isDigit _ (c .before .loop .i) (c .loop-test .left))
 
 pub is-digits-spec : {M : Type 1} → statement M
 is-digits-spec =

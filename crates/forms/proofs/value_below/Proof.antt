@@ -8,8 +8,9 @@ use borrow.Author.Needs.{needs}
 use borrow.Author.Tests.{not-true, not-false}
 use lib.ListN.{length, drop}
 use Rattle.numbers.specs.Numbers.{areDigits, pushed}
+use Rattle.numbers.proofs.Reading.{Turn, turn}
 use Rattle.forms.specs.Lines.{isDigits}
-use Rattle.forms.proofs.Digits.{digits-all, Turn, turn, value-end, value-unread, value-over, value-read}
+use Rattle.forms.proofs.Digits.{digits-all, value-end, value-unread, value-over, value-read}
 use Rattle.forms.proofs.value_below.Statement.{statement}
 use Rattle.forms.proofs.value_below.Tie as tie
 
@@ -27,8 +28,11 @@ returns : tie.Need-returns Inv-loop μ-loop
 returns c = sym (value-unread _ _ (sym (c .before .is-digits .ensures) ∙ not-true _ (c .if1 .taken)))
 
 -- the turn
-step : (c : tie.In-loop Inv-loop μ-loop) → Turn (c .before .before .before .before .before .args .field .now) (c .before .loop .i) (c .before .loop .value)
-step c = turn _ (c .before .loop .i) (c .before .loop .value) (c .loop-test .taken) (c .before .loop .inv .3) (c .before .loop .inv .4)
+step :
+    (c : tie.In-loop Inv-loop μ-loop)
+    → let field = c .before .before .before .before .before .args .field .now in
+    Turn field (c .before .loop .i) (c .before .loop .value) (pushed 0 field)
+step c = turn _ (c .before .loop .i) (c .before .loop .value) _ (c .loop-test .taken) (c .before .loop .inv .3) (c .before .loop .inv .4)
 
 loop-holds : tie.Need-loop-holds Inv-loop μ-loop
 loop-holds c =

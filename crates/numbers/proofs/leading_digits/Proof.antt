@@ -5,8 +5,8 @@ use native.Mathlib.Omega.{arith}
 use borrow.Author.Needs.{needs}
 use borrow.Author.Tests.{not-true, not-false}
 use lib.ListN.{length, drop}
-use Rattle.numbers.specs.Numbers.{leadingDigits}
-use Rattle.numbers.proofs.Reading.{leading-stop-at, leading-more-at, leading-end}
+use Rattle.numbers.specs.Numbers.{isDigit, leadingDigits}
+use Rattle.answers.proofs.Leading.{count-end, count-stop, count-step}
 use Rattle.numbers.proofs.leading_digits.Statement.{statement}
 use Rattle.numbers.proofs.leading_digits.Tie as tie
 
@@ -27,10 +27,8 @@ is-digit-requires c κs = search needs
 
 returns : tie.Need-returns Inv-loop μ-loop
 returns c =
-    let t = c .before .before .before in
-    let h = t .before in
-    let none = sym (c .before .is-digit .ensures) ∙ not-true _ (c .if1 .taken) in
-    omega (arith, h .loop .inv .1, leading-stop-at (h .before .before .args .part .now) (h .loop .n) (t .loop-test .taken) none)
+    count-stop isDigit _ _ (c .before .before .before .before .loop .inv .1) (omega arith)
+    (sym (c .before .is-digit .ensures) ∙ not-true _ (c .if1 .taken))
 
 add-n : tie.Need-add-n Inv-loop μ-loop
 add-n c = search needs
@@ -40,15 +38,11 @@ loop-less c = search needs
 
 loop-again : tie.Need-loop-again Inv-loop μ-loop
 loop-again c =
-    let t = c .before .before .before in
-    let h = t .before in
-    let digit = sym (c .before .is-digit .ensures) ∙ not-false _ (c .if1 .left) in
-    (omega arith, omega (arith, h .loop .inv .1, leading-more-at (h .before .before .args .part .now) (h .loop .n) (t .loop-test .taken) digit))
+    let l = c .before .before .before .before .loop in
+    (omega arith, count-step isDigit _ _ (l .inv .1) (omega arith) (sym (c .before .is-digit .ensures) ∙ not-false _ (c .if1 .left)))
 
 returns-2 : tie.Need-returns-2 Inv-loop μ-loop
-returns-2 c =
-    let h = c .before in
-    omega (arith, h .loop .inv .1, leading-end (h .before .before .args .part .now) (h .loop .n) (c .loop-test .left))
+returns-2 c = count-end isDigit _ _ (c .before .loop .inv .1) (omega arith)
 
 pub leading-digits-spec : {M : Type 1} → statement M
 leading-digits-spec =

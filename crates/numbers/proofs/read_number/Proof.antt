@@ -3,7 +3,9 @@ use native.Mathlib.Omega.{arith}
 use borrow.Author.Needs.{needs}
 use lib.ListN.{length, take}
 use lib.Seq.{length-take-le}
-use Rattle.numbers.proofs.Reading.{Front, leading-front, too-few, too-many, reads}
+use Rattle.answers.proofs.Leading.{Front, leading-front}
+use Rattle.numbers.specs.Numbers.{isDigit}
+use Rattle.numbers.proofs.Reading.{too-few, too-many, reads}
 use Rattle.numbers.proofs.read_number.Statement.{statement}
 use Rattle.numbers.proofs.read_number.Tie as tie
 
@@ -17,8 +19,8 @@ returns-2 : tie.Need-returns-2
 returns-2 c = let d = c .before .before .leading-digits in sym (too-many _ (d .result) (d .ensures) (omega arith))
 
 -- what was counted stands at the front
-counted : (c : tie.After-leading-digits) → Front (c .leading-digits .result) (c .before .before .args .part .now)
-counted c = rw (c .leading-digits .ensures) (leading-front (c .before .before .args .part .now))
+counted : (c : tie.After-leading-digits) → Front isDigit (c .leading-digits .result) (c .before .before .args .part .now)
+counted c = rw (c .leading-digits .ensures) (leading-front isDigit (c .before .before .args .part .now))
 
 size : (c : tie.After-leading-digits) → length (take (c .leading-digits .result) (c .before .before .args .part .now)) ≡ c .leading-digits .result
 size c = length-take-le (c .leading-digits .result) (c .before .before .args .part .now) (counted c .within)
@@ -27,7 +29,7 @@ slice-aggregate-stored-of : tie.Need-slice-aggregate-stored-of
 slice-aggregate-stored-of c = sym (size (c .before .before .before))
 
 stored-of-requires : tie.Need-stored-of-requires
-stored-of-requires c κs = let d = c .before .before .before in (counted d .digits, omega (arith, size d))
+stored-of-requires c κs = let d = c .before .before .before in (counted d .passes, omega (arith, size d))
 
 returns-3 : tie.Need-returns-3
 returns-3 c =

@@ -1,12 +1,12 @@
 -- The invariant: what was read so far, with the digits that are left put behind it, is the stored form of all. Assumes nothing.
 use mathlib.Core.Path.{_≡_, refl}
 use mathlib.Core.Bool.{true}
-use Prim.Native.Nat.{_-_, _≤_, zero-le}
+use Prim.Native.Nat.{_+_, _-_, _*_, _^_, _≤_, _<_, zero-le}
 use native.Mathlib.Omega.{arith}
 use borrow.Author.Needs.{needs}
-use lib.ListN.{length, drop, drop-of-length-le}
-use Rattle.numbers.specs.Numbers.{areDigits, pushed, stored}
-use Rattle.numbers.proofs.Reading.{Turn, turn}
+use lib.ListN.{length, drop, getD, drop-of-length-le}
+use Rattle.numbers.specs.Numbers.{mostDigits, areDigits, pushed, stored}
+use Rattle.numbers.proofs.Reading.{Turn, turn, stored-fits}
 use Rattle.numbers.proofs.stored_of.Statement.{statement}
 use Rattle.numbers.proofs.stored_of.Tie as tie
 
@@ -20,13 +20,18 @@ loop-holds : tie.Need-loop-holds Inv-loop μ-loop
 unfolding stored
 loop-holds c = (zero-le, c .pre .0, refl)
 
-turned : (c : tie.In-loop Inv-loop μ-loop) → Turn (c .before .before .args .digits .now) (c .before .loop .i) (c .before .loop .word)
+turned :
+    (c : tie.In-loop Inv-loop μ-loop)
+    → Turn (c .before .before .args .digits .now) (c .before .loop .i) (c .before .loop .word) (stored (c .before .before .args .digits .now))
 turned c =
     let h = c .before in
-    turn (h .before .args .digits .now) (h .loop .i) (h .loop .word) (h .before .pre .0) (h .before .pre .1) (c .loop-test .taken) (h .loop .inv .1) (h .loop .inv .2)
+    turn (h .before .args .digits .now) (h .loop .i) (h .loop .word) _ (c .loop-test .taken) (h .loop .inv .1) (h .loop .inv .2)
+
+fits : (c : tie.In-loop Inv-loop μ-loop) → let h = c .before in 10 * h .loop .word + (getD (h .before .args .digits .now) (h .loop .i) 0 - 48) < 2 * 10 ^ mostDigits
+fits c = let h = c .before in stored-fits (h .before .args .digits .now) _ _ (h .before .pre .0) (h .before .pre .1) (turned c .same)
 
 mul-word : tie.Need-mul-word Inv-loop μ-loop
-mul-word c = omega (arith, turned c)
+mul-word c = omega (arith, fits c)
 
 shared-slice-read-word : tie.Need-shared-slice-read-word Inv-loop μ-loop
 shared-slice-read-word c = search needs
@@ -38,7 +43,7 @@ cast-word : tie.Need-cast-word Inv-loop μ-loop
 cast-word c = omega (arith, turned (c .before))
 
 add-word : tie.Need-add-word Inv-loop μ-loop
-add-word c = omega (arith, turned (c .before))
+add-word c = omega (arith, turned (c .before), fits (c .before))
 
 add-i : tie.Need-add-i Inv-loop μ-loop
 add-i c = search needs

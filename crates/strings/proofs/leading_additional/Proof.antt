@@ -5,8 +5,9 @@ use native.Mathlib.Omega.{arith}
 use borrow.Author.Needs.{needs}
 use borrow.Author.Tests.{not-true, not-false}
 use lib.ListN.{length, drop}
+use Rattle.strings.specs.Text.{isAdditional}
 use Rattle.strings.specs.Reader.{leadingAdditional}
-use Rattle.strings.proofs.Additional.{leading-end, leading-stop, leading-step}
+use Rattle.answers.proofs.Leading.{count-end, count-stop, count-step}
 use Rattle.strings.proofs.leading_additional.Statement.{statement}
 use Rattle.strings.proofs.leading_additional.Tie as tie
 
@@ -27,7 +28,7 @@ is-additional-requires c κs = search needs
 
 returns : tie.Need-returns Inv-loop μ-loop
 returns c =
-    leading-stop _ _ (c .before .before .before .before .loop .inv .1) (omega arith)
+    count-stop isAdditional _ _ (c .before .before .before .before .loop .inv .1) (omega arith)
     (sym (c .before .is-additional .ensures) ∙ not-true _ (c .if1 .taken))
 
 add-n : tie.Need-add-n Inv-loop μ-loop
@@ -39,10 +40,10 @@ loop-less c = omega arith
 loop-again : tie.Need-loop-again Inv-loop μ-loop
 loop-again c =
     let l = c .before .before .before .before .loop in
-    (omega arith, leading-step _ _ (l .inv .1) (omega arith) (sym (c .before .is-additional .ensures) ∙ not-false _ (c .if1 .left)))
+    (omega arith, count-step isAdditional _ _ (l .inv .1) (omega arith) (sym (c .before .is-additional .ensures) ∙ not-false _ (c .if1 .left)))
 
 returns-2 : tie.Need-returns-2 Inv-loop μ-loop
-returns-2 c = leading-end _ _ (c .before .loop .inv .1) (omega arith)
+returns-2 c = count-end isAdditional _ _ (c .before .loop .inv .1) (omega arith)
 
 pub leading-additional-spec : {M : Type 1} → statement M
 leading-additional-spec =

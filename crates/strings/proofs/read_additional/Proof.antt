@@ -3,13 +3,14 @@ use mathlib.Core.Path.{_≡_, sym, _∙_}
 use mathlib.Core.Bool.{true}
 use Prim.Native.Nat.{_≤_}
 use lib.ListN.{length, drop}
-use Rattle.strings.specs.Text.{hash}
+use Rattle.answers.proofs.Leading.{leading-front}
+use Rattle.strings.specs.Text.{isAdditional, hash}
 use Rattle.strings.specs.Reader.{begins}
 use native.Mathlib.Omega.{arith}
 use borrow.Author.Needs.{needs}
 use borrow.Author.Tests.{not-true, not-false}
 use Rattle.answers.proofs.Parts.{rest-of}
-use Rattle.strings.proofs.Additional.{leading-within, additional-many, additional-open, additional-more, additional-read}
+use Rattle.strings.proofs.Additional.{additional-many, additional-open, additional-more, additional-read}
 use Rattle.strings.proofs.read_additional.Statement.{statement}
 use Rattle.strings.proofs.read_additional.Tie as tie
 
@@ -21,7 +22,7 @@ returns c = additional-many _ _ (c .before .leading-additional .ensures) (omega 
 
 -- the count is within the part, and `#` stands behind it
 within : (c : tie.Else1) → c .before .leading-additional .result ≤ length (c .before .before .before .args .part .now)
-within c = rw (c .before .leading-additional .ensures) (leading-within (c .before .before .before .args .part .now))
+within c = rw (c .before .leading-additional .ensures) (leading-front isAdditional (c .before .before .before .args .part .now) .within)
 
 hashed :
     (c : tie.Else2) → let l = c .before .before .before .before .before in
