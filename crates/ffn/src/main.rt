@@ -1,26 +1,30 @@
 // The program of document 01: it reads at most 64 KiB of standard input, and writes what its lines print.
 use libc::STDIN_FILENO;
 use libc::STDOUT_FILENO;
+use lines::LIST_WORDS;
+use lines::MOST_OUTPUT;
+use lines::TABLE_WORDS;
 ghost use mathlib.Core.Path.{_≡_};
 ghost use lib.ListN.{length};
+ghost use Rattle.lines.specs.Memory.{tableWords, listWords, mostOutput};
 
 // Memory for the table, the list and the output; a caller needs only its length.
-fn table_words() -> [u64; 6144]
-    ensures { λ r. ⌜ 6144 ≡ length r ⌝ }
+fn table_words() -> [u64; TABLE_WORDS]
+    ensures { λ r. ⌜ tableWords ≡ length r ⌝ }
 {
-    [0; 6144]
+    [0; TABLE_WORDS]
 }
 
-fn list_words() -> [u64; 8192]
-    ensures { λ r. ⌜ 8192 ≡ length r ⌝ }
+fn list_words() -> [u64; LIST_WORDS]
+    ensures { λ r. ⌜ listWords ≡ length r ⌝ }
 {
-    [0; 8192]
+    [0; LIST_WORDS]
 }
 
-fn output_octets() -> [u8; 458813]
-    ensures { λ r. ⌜ 458813 ≡ length r ⌝ }
+fn output_octets() -> [u8; MOST_OUTPUT]
+    ensures { λ r. ⌜ mostOutput ≡ length r ⌝ }
 {
-    [0; 458813]
+    [0; MOST_OUTPUT]
 }
 
 fn main() {

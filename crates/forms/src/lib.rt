@@ -2,6 +2,7 @@
 use numbers::FunctionalNumber;
 use numbers::Msisdn;
 use numbers::NumberRead;
+use tables::MOST_FLAGS;
 ghost use mathlib.Core.Path.{_≡_};
 ghost use mathlib.Core.List.{List};
 ghost use Prim.Native.Nat.{ℕ, _^_, _≤_, _<_};
@@ -11,9 +12,9 @@ ghost use Rattle.forms.specs.Lines.{isDigits, numberOf, askedOf, valueBe
 ghost use Rattle.forms.specs.Reads.{valueIn, Reads};
 
 // Flags, and now and kind, are below these.
-const FLAGS: u64 = 4;
+const FLAGS_END: u64 = MOST_FLAGS + 1;
 
-const SECONDS: u64 = 4_294_967_296;
+const TWO_TO_THE_32: u64 = 4_294_967_296;
 
 // The form of a line behind its letter, with the values of its fields; a string by where it starts.
 pub enum Line {
@@ -126,7 +127,7 @@ fn read_subscriber(rest: &[u8]) -> Line
     let FieldRead::Value(word) = field else {
         return Line::Other;
     };
-    let last = value_below(&rest[next..], FLAGS);
+    let last = value_below(&rest[next..], FLAGS_END);
     let FieldRead::Value(flags) = last else {
         return Line::Other;
     };
@@ -157,7 +158,7 @@ fn read_sending(rest: &[u8]) -> Line
         return Line::Other;
     }
     let next = end + 1;
-    let field = value_below(&rest[..end], SECONDS);
+    let field = value_below(&rest[..end], TWO_TO_THE_32);
     let FieldRead::Value(clock) = field else {
         return Line::Other;
     };
@@ -181,7 +182,7 @@ fn read_result_at(clock: u32, rest: &[u8]) -> Line
     let FieldRead::Value(word) = field else {
         return Line::Other;
     };
-    let last = value_below(&rest[next..], SECONDS);
+    let last = value_below(&rest[next..], TWO_TO_THE_32);
     let FieldRead::Value(kind) = last else {
         return Line::Other;
     };
@@ -197,7 +198,7 @@ fn read_result(rest: &[u8]) -> Line
         return Line::Other;
     }
     let next = end + 1;
-    let field = value_below(&rest[..end], SECONDS);
+    let field = value_below(&rest[..end], TWO_TO_THE_32);
     let FieldRead::Value(clock) = field else {
         return Line::Other;
     };

@@ -67,6 +67,16 @@ packedRoom = 57344
 abbrev pub outputRoom : ℕ → ℕ
 outputRoom n = 7 * n + lineRoom
 
+-- the words of the fullest table and list, and room for what the longest input prints
+abbrev pub tableWords : ℕ
+tableWords = rowWords * mostNumbers
+
+abbrev pub listWords : ℕ
+listWords = subscriberWords * mostSubscribers
+
+abbrev pub mostOutput : ℕ
+mostOutput = outputRoom mostInput
+
 -- what is lent for an input
 pub record Lent (input table list out : List ℕ) : Type 0 where
   pub short : length input ≤ mostInput

@@ -52,7 +52,7 @@ filled allowed next p = cond allowed (record { prints = []; leaves = next }) (qu
 
 -- a number's row, free and with no notice
 abbrev pub freeRow : FunctionalNumber → List ℕ
-freeRow n = n .0 ∷ 0 ∷ 0 ∷ 0 ∷ 0 ∷ 0 ∷ []
+freeRow n = n .0 ∷ replicate (rowWords - 1) 0
 
 abbrev pub withNumber : FunctionalNumber → Program → Program
 withNumber n p = record { table = p .table ++ freeRow n; list = p .list; filling = p .filling }

@@ -1,9 +1,14 @@
 // What a line of the program comes to: its form is read, carried out over the lent table and list, and what it prints is written.
 use answers::Written;
 use forms::Line;
+use node::BUFFER_ROOM;
+use node::CODING_SCHEME;
 use numbers::FunctionalNumber;
 use numbers::Msisdn;
 use rows::ROW_WORDS;
+use tables::MOST_NUMBERS;
+use tables::MOST_SUBSCRIBERS;
+use tables::SUBSCRIBER_WORDS;
 ghost use mathlib.Core.Path.{_≡_};
 ghost use mathlib.Core.Bool.{true};
 ghost use mathlib.Core.List.{List, _++_};
@@ -20,20 +25,21 @@ ghost use Rattle.answers.specs.Writing.{Stands};
 ghost use Rattle.replies.specs.Replies.{answerRoom};
 ghost use Rattle.lines.specs.Memory.{held, Fits, lineRoom, Did, Answered, ending, packedRoom, Lent, ran, running};
 
-// At most so many numbers and subscribers, in rows of six and of two words.
-const MOST_NUMBERS: usize = 1024;
+// "It reads at most 64 KiB".
+const MOST_INPUT: usize = 65_536;
 
-const MOST_SUBSCRIBERS: usize = 4096;
+// Room for the octets of a string as long as that, packed.
+const PACKED_ROOM: usize = MOST_INPUT / 8 * 7;
 
-const SUBSCRIBER_WORDS: usize = 2;
+// The longest line that is printed, and room for what every line of an input prints: at most seven times its length with its line feed.
+const LINE_ROOM: usize = 61;
 
-// The reply and notice buffers, and the data coding scheme.
-const BUFFER_ROOM: usize = 80;
+pub const MOST_OUTPUT: usize = 7 * MOST_INPUT + LINE_ROOM;
 
-const CODING_SCHEME: u8 = 0x0F;
+// The words of the fullest table and list.
+pub const TABLE_WORDS: usize = ROW_WORDS * MOST_NUMBERS;
 
-// Room for the octets of a string as long as the longest input, packed.
-const PACKED_ROOM: usize = 57_344;
+pub const LIST_WORDS: usize = SUBSCRIBER_WORDS * MOST_SUBSCRIBERS;
 
 // How many rows of the lent table and list are in use, and whether they are still being filled.
 struct State {
@@ -108,7 +114,8 @@ fn add_number(state: State, number: FunctionalNumber, table: &mut [u64], out: &m
     if !may_follow(ROW_WORDS, MOST_NUMBERS, number.0, &table[..used]) {
         return question(state, out);
     }
-    let row = [number.0, 0, 0, 0, 0, 0];
+    let mut row = [0u64; ROW_WORDS];
+    row[0] = number.0;
     append(&row, used, table);
     let next = State {
         numbers: rows + 1,

@@ -24,13 +24,13 @@ ghost use Rattle.node.specs.Asked.{asked};
 ghost use Rattle.visits.specs.Said.{saidRequest, saidSending, saidResult, saidFinding};
 
 // Reply and notice buffers have at least so many octets.
-const BUFFER_ROOM: usize = 80;
+pub const BUFFER_ROOM: usize = 80;
 
 // A request's string has at most so many octets.
 const MOST_STRING_OCTETS: usize = 160;
 
 // The data coding scheme of a request's string.
-const CODING_SCHEME: u8 = 0x0F;
+pub const CODING_SCHEME: u8 = 0x0F;
 
 // A forced erasure without the supervisor's flag.
 fn is_forbidden(erasing: Erasing, flags: u64) -> bool

@@ -24,19 +24,19 @@ pub enum Found {
 }
 
 // "at most 1,024 numbers".
-const MOST_NUMBERS: usize = 1024;
+pub const MOST_NUMBERS: usize = 1024;
 
 // "at most 4,096".
-const MOST_SUBSCRIBERS: usize = 4096;
+pub const MOST_SUBSCRIBERS: usize = 4096;
 
 // "flags 0 to 3".
-const MOST_FLAGS: u64 = 3;
+pub const MOST_FLAGS: u64 = 3;
 
 // The end of the shortest numbers, which have 5 digits.
 const FIRST_END: u64 = 200000;
 
 // "two words each (MSISDN; flags 0 to 3 ..)".
-const SUBSCRIBER_WORDS: usize = 2;
+pub const SUBSCRIBER_WORDS: usize = 2;
 
 const FLAGS: usize = 1;
 

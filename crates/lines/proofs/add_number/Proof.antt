@@ -66,14 +66,17 @@ returns-2 c = λ list s.
     let t = q .before .before in
     did-as (q .question2 .ensures _ list s) (numbered-over _ _ (sym (t .before .may-follow .ensures) ∙ not-true _ (t .if2 .taken)))
 
+array-write-row : tie.Need-array-write-row
+array-write-row c = search needs
+
 slice-aggregate-append : tie.Need-slice-aggregate-append
 slice-aggregate-append c = search needs
 
 append-requires : tie.Need-append-requires
 append-requires c κs = omega (arith, below (c .before .before))
 
-add-t22 : tie.Need-add-t22
-add-t22 c = search needs
+add-t24 : tie.Need-add-t24
+add-t24 c = search needs
 
 same-length-4 : tie.Need-same-length-4
 same-length-4 c = search needs
@@ -107,8 +110,9 @@ add-number-spec =
     same-length-2
     same-length-3
     returns-2
+    array-write-row
     slice-aggregate-append
     append-requires
-    add-t22
+    add-t24
     same-length-4
     returns-3)
