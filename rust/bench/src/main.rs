@@ -319,12 +319,11 @@ fn growth(lines: &[Line]) {
     show("request, a subscriber", 4032.0, few, many);
 }
 
-/// Soundness with a notice in every row, through a call that ends after it.
-fn noticed() {
+/// The test of 1,024 rows that are harder than usual, through a finding that is refused right after it.
+fn harder(what: &str, change: impl Fn(usize, &mut [u64])) {
     let mut words = table(1024);
     for (i, row) in words.chunks_mut(6).enumerate() {
-        let addressee = SUBSCRIBERS + 5 * i as u64;
-        row[2..].copy_from_slice(&[3, addressee, addressee + 1, 77]);
+        change(i, row);
     }
     let t = best(
         50,
@@ -340,8 +339,13 @@ fn noticed() {
             },
         ],
     );
-    println!("\na notice in each of 1,024 rows, refused right after the table's test:");
+    println!("\n1,024 rows, {what}:");
     line(&mut Vec::new(), "finding", 1024, 0, t);
+}
+
+/// A draw without pattern, the same in each run.
+fn draw(i: usize) -> u64 {
+    (i as u64 + 1).wrapping_mul(0x9E37_79B9_7F4A_7C15) >> 40
 }
 
 fn main() {
@@ -354,5 +358,18 @@ fn main() {
         }
     }
     growth(&lines);
-    noticed();
+    harder("a notice in each", |i, row| {
+        let addressee = SUBSCRIBERS + 5 * i as u64;
+        row[2..].copy_from_slice(&[3, addressee, addressee + 1, 77]);
+    });
+    harder("half of them free, without pattern", |i, row| {
+        if draw(i) % 2 == 0 {
+            row[1] = 0;
+        }
+    });
+    harder("holders of two lengths, without pattern", |i, row| {
+        if draw(i) % 2 == 0 {
+            row[1] += 9 * SUBSCRIBERS;
+        }
+    });
 }
