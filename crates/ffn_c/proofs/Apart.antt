@@ -22,9 +22,9 @@ use Rattle.tables.specs.Tables.{tableSound, rowsIn, rowOf, recordOf}
 use Rattle.rules.specs.Answers.{Answer, refusal, error, outcome, holder, sent, delivered, dropped, again, found, noneDue, Outcome, refusing}
 use Rattle.rules.specs.Requests.{numberIn, carriedOut, carriedOutAt, requestChecks, request}
 use Rattle.rules.specs.Notices as notices
-use Rattle.ffn_c.specs.declared.Answer as numbers
-use Rattle.ffn_c.specs.Numbers.{ofAnswer}
-use Rattle.ffn_c.specs.Numbers as class
+use Rattle.structs.specs.declared.Answer as numbers
+use Rattle.structs.specs.Numbers.{ofAnswer}
+use Rattle.structs.specs.Numbers as class
 
 -- the answer that four numbers stand for
 answerOf : ℕ → ℕ → ℕ → ℕ → Answer

@@ -8,10 +8,10 @@ use Rattle.packing.specs.Outcomes.{packing, unpacking}
 use Rattle.strings.specs.declared.Erasing.{Erasing}
 use Rattle.rules.specs.Requests.{request}
 use Rattle.rules.specs.Notices.{sending, result, finding}
-use Rattle.ffn_c.specs.declared.Answer.{Answer}
-use Rattle.ffn_c.specs.declared.Operating.{Operating}
-use Rattle.ffn_c.specs.declared.RequestRead.{RequestRead}
-use Rattle.ffn_c.specs.Numbers.{ofAnswer}
+use Rattle.structs.specs.declared.Answer.{Answer}
+use Rattle.structs.specs.declared.Operating.{Operating}
+use Rattle.structs.specs.declared.RequestRead.{RequestRead}
+use Rattle.structs.specs.Numbers.{ofAnswer}
 use Rattle.ffn_c.specs.Calls.{Returned, returned, ofCall, ofWriter, writingFields, readingInto}
 
 -- a struct, a table and a buffer that one outcome allows are its own

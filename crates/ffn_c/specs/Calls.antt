@@ -1,25 +1,23 @@
 -- What each C function returns and leaves in all the memory that it was lent, for every input. Assumes nothing.
 use Prim.Native.Nat.{ℕ}
-use mathlib.Core.Bool.{true, cond}
+use mathlib.Core.Bool.{true}
 use mathlib.Core.Option.{Option, none, some}
 use mathlib.Core.List.{List, []}
 use lib.ListN.{length}
-use lib.Dec.{eqb, ltb}
+use lib.Dec.{ltb}
 use Rattle.answers.specs.Writing as writing
 use Rattle.numbers.specs.declared.FunctionalNumber.{FunctionalNumber}
 use Rattle.packing.specs.Packing.{unpacked}
 use Rattle.packing.specs.Outcomes.{unpacking}
-use Rattle.strings.specs.declared.Operation.the-variants.{Register, Erase, Interrogate}
 use Rattle.strings.specs.declared.Erasing.{Erasing}
-use Rattle.strings.specs.declared.Erasing.the-variants.{Empty, Forced}
 use Rattle.strings.specs.Text.{Request}
 use Rattle.strings.specs.Outcomes.{requestOf, tell, writerRoom, writingRequest}
 use Rattle.rules.specs.Answers as rules
-use Rattle.ffn_c.specs.declared.Answer.{Answer}
-use Rattle.ffn_c.specs.declared.Operating.{Operating}
-use Rattle.ffn_c.specs.declared.Operating.the-variants.{Known, Unknown}
-use Rattle.ffn_c.specs.declared.RequestRead.{RequestRead}
-use Rattle.ffn_c.specs.Numbers.{ofSaid, ofAnswer, ofTold}
+use Rattle.structs.specs.declared.Answer.{Answer}
+use Rattle.structs.specs.declared.Operating.{Operating}
+use Rattle.structs.specs.declared.Operating.the-variants.{Known, Unknown}
+use Rattle.structs.specs.declared.RequestRead.{RequestRead}
+use Rattle.structs.specs.Numbers.{ofSaid, ofAnswer, ofTold}
 
 -- the struct, the table and the buffer afterwards; [] for what is not lent
 pub record Returned (S : Type 0) : Type 0 where
@@ -39,14 +37,6 @@ abbrev pub ofWriter : writing.Outcome → Returned Answer
 ofWriter o = returned (ofSaid (o .answer)) [] (o .buffer)
 
 -- ---- the request's writer
-
--- an operation by its number; no other number is one
-abbrev pub operationOf : ℕ → Operating
-operationOf n = cond (eqb n 0) (Known Register) (cond (eqb n 1) (Known Erase) (cond (eqb n 2) (Known Interrogate) Unknown))
-
--- supervisor field and MSISDN: both empty for 0, of a forced erasure for any other word
-abbrev pub erasingOf : ℕ → Erasing
-erasingOf msisdn = cond (eqb msisdn 0) Empty (Forced (record { 0 = msisdn }))
 
 -- "the request writer is given fields that break the string's rules (checked after 1)": so does an operation that is none
 abbrev pub writingFields : Operating → FunctionalNumber → Erasing → List ℕ → List ℕ → writing.Outcome

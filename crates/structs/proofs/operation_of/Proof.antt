@@ -1,7 +1,7 @@
 -- `operation_of` meets its contract: the number by its cases. Assumes nothing.
 use borrow.Author.Tests.{ne-eqb}
-use Rattle.ffn_c.proofs.operation_of.Statement.{statement}
-use Rattle.ffn_c.proofs.operation_of.Tie as tie
+use Rattle.structs.proofs.operation_of.Statement.{statement}
+use Rattle.structs.proofs.operation_of.Tie as tie
 
 returns : tie.Need-returns
 returns c = rw (c .match .keys1)

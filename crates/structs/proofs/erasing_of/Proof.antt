@@ -1,7 +1,7 @@
 -- `erasing_of` meets its contract: 0, or any other word. Assumes nothing.
 use borrow.Author.Tests.{eq-eqb, ne-eqb}
-use Rattle.ffn_c.proofs.erasing_of.Statement.{statement}
-use Rattle.ffn_c.proofs.erasing_of.Tie as tie
+use Rattle.structs.proofs.erasing_of.Statement.{statement}
+use Rattle.structs.proofs.erasing_of.Tie as tie
 
 returns : tie.Need-returns
 returns c = rw (eq-eqb _ 0 (c .if1 .taken))

@@ -1,7 +1,7 @@
 -- `of_result` meets its contract: each arm gives the numbers of its case. Assumes nothing.
 use borrow.Author.Needs.{needs}
-use Rattle.ffn_c.proofs.of_result.Statement.{statement}
-use Rattle.ffn_c.proofs.of_result.Tie as tie
+use Rattle.structs.proofs.of_result.Statement.{statement}
+use Rattle.structs.proofs.of_result.Tie as tie
 
 enum-known-answer : tie.Need-enum-known-answer
 enum-known-answer c = search needs

@@ -1,7 +1,7 @@
--- `of_finding` meets its contract: each arm gives the numbers of its case. Assumes nothing.
+-- `of_sending` meets its contract: each arm gives the numbers of its case. Assumes nothing.
 use borrow.Author.Needs.{needs}
-use Rattle.ffn_c.proofs.of_finding.Statement.{statement}
-use Rattle.ffn_c.proofs.of_finding.Tie as tie
+use Rattle.structs.proofs.of_sending.Statement.{statement}
+use Rattle.structs.proofs.of_sending.Tie as tie
 
 enum-known-answer : tie.Need-enum-known-answer
 enum-known-answer c = search needs
@@ -15,31 +15,19 @@ numbered-requires c κs = search needs
 enum-known-answer-2 : tie.Need-enum-known-answer-2
 enum-known-answer-2 c = search needs
 
-enum-told : tie.Need-enum-told
-enum-told c = search needs
-
-numbered-requires-2 : tie.Need-numbered-requires-2
-numbered-requires-2 c κs = search needs
-
 returns : tie.Need-returns
 returns c = rw (c .before .before .answer .given .1) (c .numbered .ensures)
 
 returns-2 : tie.Need-returns-2
 returns-2 c = rw (c .before .answer2 .given .1)
 
-returns-3 : tie.Need-returns-3
-returns-3 c = rw (c .before .enum-told .given .1) (c .numbered2 .ensures)
-
-pub of-finding-spec : {M : Type 1} → statement M
-of-finding-spec =
+pub of-sending-spec : {M : Type 1} → statement M
+of-sending-spec =
     tie.close
     (tie.spec
     enum-known-answer
     cast-numbered
     numbered-requires
     enum-known-answer-2
-    enum-told
-    numbered-requires-2
     returns
-    returns-2
-    returns-3)
+    returns-2)

@@ -1,7 +1,7 @@
 -- `of_fields` meets its contract, by what the operation and the erasing are turned into. Assumes nothing.
 use borrow.Author.Needs.{needs}
-use Rattle.ffn_c.proofs.of_fields.Statement.{statement}
-use Rattle.ffn_c.proofs.of_fields.Tie as tie
+use Rattle.structs.proofs.of_fields.Statement.{statement}
+use Rattle.structs.proofs.of_fields.Tie as tie
 
 of-operation-requires : tie.Need-of-operation-requires
 of-operation-requires c κs = search needs

@@ -1,7 +1,7 @@
 -- `of_written` meets its contract: each arm gives the numbers of its case. Assumes nothing.
 use borrow.Author.Needs.{needs}
-use Rattle.ffn_c.proofs.of_written.Statement.{statement}
-use Rattle.ffn_c.proofs.of_written.Tie as tie
+use Rattle.structs.proofs.of_written.Statement.{statement}
+use Rattle.structs.proofs.of_written.Tie as tie
 
 enum-known-written : tie.Need-enum-known-written
 enum-known-written c = search needs

@@ -1,6 +1,8 @@
 -- The numbers of the two structs that the C functions return, from the answers in document 01's words. Assumes nothing.
 use Prim.Native.Nat.{ℕ}
+use mathlib.Core.Bool.{cond}
 use lib.ListN.{length}
+use lib.Dec.{eqb}
 use Rattle.answers.specs.Writing as writing
 use Rattle.rules.specs.Answers as rules
 use Rattle.numbers.specs.declared.FunctionalNumber.{FunctionalNumber}
@@ -9,8 +11,10 @@ use Rattle.strings.specs.declared.Operation.the-variants.{Register, Erase, Inte
 use Rattle.strings.specs.declared.Erasing.{Erasing}
 use Rattle.strings.specs.declared.Erasing.the-variants.{Empty, Forced}
 use Rattle.strings.specs.Outcomes as reading
-use Rattle.ffn_c.specs.declared.Answer.{Answer}
-use Rattle.ffn_c.specs.declared.RequestRead.{RequestRead}
+use Rattle.structs.specs.declared.Answer.{Answer}
+use Rattle.structs.specs.declared.Operating.{Operating}
+use Rattle.structs.specs.declared.Operating.the-variants.{Known, Unknown}
+use Rattle.structs.specs.declared.RequestRead.{RequestRead}
 
 -- the classes: "Refusals, errors and outcomes are numbered apart"
 abbrev pub written : ℕ
@@ -98,3 +102,11 @@ ofFields operation number erasing start count = record {
 abbrev pub ofTold : reading.Told → RequestRead
 ofTold (reading.fields f start) = ofFields (f .operation) (f .number) (f .erasing) start (length (f .additional))
 ofTold (reading.error n) = record { class = error; number = n; operation = 0; «functional_number» = 0; msisdn = 0; start = 0; length = 0 }
+
+-- an operation by its number; no other number is one
+abbrev pub operationOf : ℕ → Operating
+operationOf n = cond (eqb n 0) (Known Register) (cond (eqb n 1) (Known Erase) (cond (eqb n 2) (Known Interrogate) Unknown))
+
+-- supervisor field and MSISDN: both empty for 0, of a forced erasure for any other word
+abbrev pub erasingOf : ℕ → Erasing
+erasingOf msisdn = cond (eqb msisdn 0) Empty (Forced (record { 0 = msisdn }))

@@ -1,7 +1,7 @@
 -- `of_request` meets its contract: each arm gives the numbers of its case. Assumes nothing.
 use borrow.Author.Needs.{needs}
-use Rattle.ffn_c.proofs.of_request.Statement.{statement}
-use Rattle.ffn_c.proofs.of_request.Tie as tie
+use Rattle.structs.proofs.of_request.Statement.{statement}
+use Rattle.structs.proofs.of_request.Tie as tie
 
 enum-known-answer : tie.Need-enum-known-answer
 enum-known-answer c = search needs

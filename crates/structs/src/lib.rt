@@ -1,0 +1,216 @@
+// The structs that the C functions return, and the numbers that stand in them for the answers.
+use answers::Written;
+use numbers::Msisdn;
+use strings::Erasing;
+use strings::Fields;
+use strings::Operation;
+use visits::FindingAnswer;
+use visits::RequestAnswer;
+use visits::ResultAnswer;
+use visits::SendingAnswer;
+ghost use mathlib.Core.Path.{_≡_};
+ghost use Rattle.answers.specs.Writing.{said};
+ghost use Rattle.visits.specs.Said.{saidRequest, saidSending, saidResult, saidFinding};
+ghost use Rattle.structs.specs.Numbers.{ofSaid, ofAnswer, ofOperation, ofErasing, ofFields, four, operationOf, erasingOf};
+
+// The classes of an answer.
+const WRITTEN: u32 = 0;
+
+const REFUSAL: u32 = 1;
+
+pub const ERROR: u32 = 2;
+
+const OUTCOME: u32 = 3;
+
+const SENT: u32 = 4;
+
+const RESULT: u32 = 5;
+
+const FOUND: u32 = 6;
+
+const NONE_DUE: u32 = 7;
+
+const READ: u32 = 8;
+
+// What a function answers: the class; the number of a refusal, an error, an outcome or a result; the count of octets or characters;
+// the holder's MSISDN, the notice's addressee or the number found.
+#[repr(C)]
+pub struct Answer {
+    pub class: u32,
+    pub number: u32,
+    pub count: usize,
+    pub value: u64,
+}
+
+// What the request's reader answers: the class; the number of an error; the operation, the functional number, the MSISDN that a forced
+// erasure names, or 0; and the start and the length of the additional field in the text.
+#[repr(C)]
+pub struct RequestRead {
+    pub class: u32,
+    pub number: u32,
+    pub operation: u32,
+    pub functional_number: u64,
+    pub msisdn: u64,
+    pub start: usize,
+    pub length: usize,
+}
+
+// The operation that a number stands for.
+pub enum Operating {
+    Known(Operation),
+    Unknown,
+}
+
+// An answer that is only a number of its class.
+fn numbered(class: u32, number: u32) -> Answer
+    ensures { λ r. ⌜ r ≡ four class number 0 0 ⌝ }
+{
+    Answer {
+        class,
+        number,
+        count: 0,
+        value: 0,
+    }
+}
+
+// A writer's answer.
+pub fn of_written(written: Written) -> Answer
+    ensures { λ r. ⌜ r ≡ ofSaid (said written) ⌝ }
+{
+    match written {
+        Written::Count(count) => Answer {
+            class: WRITTEN,
+            number: 0,
+            count,
+            value: 0,
+        },
+        Written::TooShort => numbered(REFUSAL, 1),
+        Written::Unfit => numbered(REFUSAL, 9),
+    }
+}
+
+// A request's answer.
+pub fn of_request(answer: RequestAnswer) -> Answer
+    ensures { λ r. ⌜ r ≡ ofAnswer (saidRequest answer) ⌝ }
+{
+    match answer {
+        RequestAnswer::Refused(n) => numbered(REFUSAL, n as u32),
+        RequestAnswer::Error(n) => numbered(ERROR, n as u32),
+        RequestAnswer::Outcome(n, octets) => Answer {
+            class: OUTCOME,
+            number: n as u32,
+            count: octets,
+            value: 0,
+        },
+        RequestAnswer::Held(msisdn, octets) => Answer {
+            class: OUTCOME,
+            number: 3,
+            count: octets,
+            value: msisdn.0,
+        },
+    }
+}
+
+// A sending's answer.
+pub fn of_sending(answer: SendingAnswer) -> Answer
+    ensures { λ r. ⌜ r ≡ ofAnswer (saidSending answer) ⌝ }
+{
+    match answer {
+        SendingAnswer::Refused(n) => numbered(REFUSAL, n as u32),
+        SendingAnswer::Sent(addressee, octets) => Answer {
+            class: SENT,
+            number: 0,
+            count: octets,
+            value: addressee.0,
+        },
+    }
+}
+
+// A result's answer.
+pub fn of_result(answer: ResultAnswer) -> Answer
+    ensures { λ r. ⌜ r ≡ ofAnswer (saidResult answer) ⌝ }
+{
+    match answer {
+        ResultAnswer::Refused(n) => numbered(REFUSAL, n as u32),
+        ResultAnswer::Delivered => numbered(RESULT, 0),
+        ResultAnswer::Dropped => numbered(RESULT, 1),
+        ResultAnswer::Again => numbered(RESULT, 2),
+    }
+}
+
+// A finding's answer.
+pub fn of_finding(answer: FindingAnswer) -> Answer
+    ensures { λ r. ⌜ r ≡ ofAnswer (saidFinding answer) ⌝ }
+{
+    match answer {
+        FindingAnswer::Refused(n) => numbered(REFUSAL, n as u32),
+        FindingAnswer::Due(number) => Answer {
+            class: FOUND,
+            number: 0,
+            count: 0,
+            value: number.0,
+        },
+        FindingAnswer::NoneDue => numbered(NONE_DUE, 0),
+    }
+}
+
+// The operation of a number.
+pub fn operation_of(n: u32) -> Operating
+    ensures { λ r. ⌜ r ≡ operationOf n ⌝ }
+{
+    match n {
+        0 => Operating::Known(Operation::Register),
+        1 => Operating::Known(Operation::Erase),
+        2 => Operating::Known(Operation::Interrogate),
+        _ => Operating::Unknown,
+    }
+}
+
+// The number of an operation.
+fn of_operation(operation: Operation) -> u32
+    ensures { λ r. ⌜ r ≡ ofOperation operation ⌝ }
+{
+    match operation {
+        Operation::Register => 0,
+        Operation::Erase => 1,
+        Operation::Interrogate => 2,
+    }
+}
+
+// Supervisor field and MSISDN to erase: both empty for 0.
+pub fn erasing_of(msisdn: u64) -> Erasing
+    ensures { λ r. ⌜ r ≡ erasingOf msisdn ⌝ }
+{
+    if msisdn == 0 {
+        return Erasing::Empty;
+    }
+    Erasing::Forced(Msisdn(msisdn))
+}
+
+// The MSISDN that a forced erasure names, or 0.
+fn of_erasing(erasing: Erasing) -> u64
+    ensures { λ r. ⌜ r ≡ ofErasing erasing ⌝ }
+{
+    match erasing {
+        Erasing::Empty => 0,
+        Erasing::Forced(msisdn) => msisdn.0,
+    }
+}
+
+// The fields that were read.
+pub fn of_fields(fields: Fields) -> RequestRead
+    ensures { λ r. ⌜ r ≡ ofFields (fields .operation) (fields .number) (fields .erasing) (fields .start) (fields .count) ⌝ }
+{
+    let operation = fields.operation;
+    let erasing = fields.erasing;
+    let number = fields.number;
+    RequestRead {
+        class: READ,
+        number: 0,
+        operation: of_operation(operation),
+        functional_number: number.0,
+        msisdn: of_erasing(erasing),
+        start: fields.start,
+        length: fields.count,
+    }
+}
