@@ -27,5 +27,5 @@ wholeOutput =
     "R 01\nR 02\nT 4915100001 ##214*0492123401*88*4915100002*#\nD again\nT refused 5\nT 4915100001 ##214*0492123401*88*4915100002*#\nD delivered\n"
 
 pub listing : outputOf (ascii wholeInput) ≡ ascii wholeOutput
-unfolding number digits octetsFor charsIn taken each padded packed characters readable filled kept unpacked isDigit pushed stored isNumber digitsUpTo digitsOf leading numberAt isAdditional textOf noticeOf begins operationAt serviceAt numberFieldAt forcedAt erasingAt additionalAt fieldsOf requestOf elapsed delayOf delayAllowed rows.noticeSound rows.rowSound rows.noticeOf rows.recordAt rows.stored placeOf tableSound rowOf recordOf listSound flagsOf requests.requestChecks requests.request notices.sending notices.result lines.linesOf lines.fieldAt lines.behindField lines.isDigits lines.numberOf lines.askedOf lines.valueBelow lines.numberForm lines.subscriberForm lines.requestForm lines.sendingForm lines.resultAt lines.resultForm lines.lettered lines.formOf program.mayFollow program.numbered program.subscribed program.asked program.requested program.dispatched program.reported program.lineEffect program.linesEffect program.programEffect program.outputOf
+unfolding number digits octetsFor charsIn taken each padded packed characters readable filled kept unpacked isDigit pushed stored isNumber digitsUpTo digitsOf leading numberAt isAdditional textOf noticeOf begins operationAt serviceAt numberFieldAt forcedAt erasingAt additionalAt fieldsOf requestOf elapsed delayOf delayAllowed rows.noticeBy rows.rowSound rows.noticeOf rows.recordAt rows.stored placeOf tableSound rowOf recordOf listSound flagsOf requests.requestChecks requests.request notices.sending notices.result lines.linesOf lines.fieldAt lines.behindField lines.isDigits lines.numberOf lines.askedOf lines.valueBelow lines.numberForm lines.subscriberForm lines.requestForm lines.sendingForm lines.resultAt lines.resultForm lines.lettered lines.formOf program.mayFollow program.numbered program.subscribed program.asked program.requested program.dispatched program.reported program.lineEffect program.linesEffect program.programEffect program.outputOf
 listing = refl

@@ -29,12 +29,19 @@ held s table list = record {
   filling = s .filling;
 }
 
+-- the words of the fullest table and list
+abbrev pub tableWords : ℕ
+tableWords = rowWords * mostNumbers
+
+abbrev pub listWords : ℕ
+listWords = subscriberWords * mostSubscribers
+
 -- the rows in use are within the lent words, which have room for the most
 pub record Fits (s : State) (table list : List ℕ) : Type 0 where
   pub numbers : rowWords * s .numbers ≤ length table
   pub subscribers : subscriberWords * s .subscribers ≤ length list
-  pub tableRoom : rowWords * mostNumbers ≤ length table
-  pub listRoom : subscriberWords * mostSubscribers ≤ length list
+  pub tableRoom : tableWords ≤ length table
+  pub listRoom : listWords ≤ length list
 
 -- room for the longest line: the letter, the space, what follows them and the line feed
 abbrev pub lineRoom : ℕ
@@ -67,21 +74,15 @@ packedRoom = 57344
 abbrev pub outputRoom : ℕ → ℕ
 outputRoom n = 7 * n + lineRoom
 
--- the words of the fullest table and list, and room for what the longest input prints
-abbrev pub tableWords : ℕ
-tableWords = rowWords * mostNumbers
-
-abbrev pub listWords : ℕ
-listWords = subscriberWords * mostSubscribers
-
+-- room for what the longest input prints
 abbrev pub mostOutput : ℕ
 mostOutput = outputRoom mostInput
 
 -- what is lent for an input
 pub record Lent (input table list out : List ℕ) : Type 0 where
   pub short : length input ≤ mostInput
-  pub tableRoom : rowWords * mostNumbers ≤ length table
-  pub listRoom : subscriberWords * mostSubscribers ≤ length list
+  pub tableRoom : tableWords ≤ length table
+  pub listRoom : listWords ≤ length list
   pub room : outputRoom (length input) ≤ length out
 
 -- how many octets the whole input prints, and what table, list and output then hold

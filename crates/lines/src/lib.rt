@@ -16,14 +16,14 @@ ghost use Prim.Native.Nat.{ℕ, _+_, _*_, _≤_, _<_};
 ghost use lib.ListN.{length, take, set};
 ghost use Rattle.packing.specs.Packing.{octetsFor};
 ghost use Rattle.rows.specs.Rows.{rowWords};
-ghost use Rattle.tables.specs.Tables.{mostNumbers, subscriberWords, mostSubscribers};
+ghost use Rattle.tables.specs.Tables.{subscriberWords};
 ghost use Rattle.rules.specs.Notices as notices;
 ghost use Rattle.forms.specs.Lines.{lineFeed};
 ghost use Rattle.lines.specs.Program.{questioned, lastKey, mayFollow, numbered, subscribed, buffer, asked, requested, dispatched, reported, effectOf, lineEffect};
 ghost use Rattle.forms.specs.Reads.{formIn, startIn};
 ghost use Rattle.answers.specs.Writing.{Stands};
 ghost use Rattle.replies.specs.Replies.{answerRoom};
-ghost use Rattle.lines.specs.Memory.{held, Fits, lineRoom, Did, Answered, ending, packedRoom, Lent, ran, running};
+ghost use Rattle.lines.specs.Memory.{held, tableWords, listWords, Fits, lineRoom, Did, Answered, ending, packedRoom, Lent, ran, running};
 
 // "It reads at most 64 KiB".
 const MOST_INPUT: usize = 65_536;
@@ -102,7 +102,7 @@ fn question(state: State, out: &mut [u8]) -> Done
 
 // `N` number: a row more of the table.
 fn add_number(state: State, number: FunctionalNumber, table: &mut [u64], out: &mut [u8]) -> Done
-    requires { ⌜ (rowWords * state .numbers ≤ length (now table)) × (rowWords * mostNumbers ≤ length (now table)) ⌝ }
+    requires { ⌜ (rowWords * state .numbers ≤ length (now table)) × (tableWords ≤ length (now table)) ⌝ }
     requires { ⌜ lineRoom ≤ length (now out) ⌝ }
     ensures { λ r. ⌜ ((list : List ℕ) → Fits state (now (table .entry)) list → Did (numbered number (held state (now (table .entry)) list)) state (now (table .entry)) list (now (out .entry)) r (now (table .exit)) list (now (out .exit))) ⌝ }
 {
@@ -130,7 +130,7 @@ fn add_number(state: State, number: FunctionalNumber, table: &mut [u64], out: &m
 
 // `S` MSISDN flags: a row more of the list.
 fn add_subscriber(state: State, msisdn: Msisdn, flags: u8, list: &mut [u64], out: &mut [u8]) -> Done
-    requires { ⌜ (subscriberWords * state .subscribers ≤ length (now list)) × (subscriberWords * mostSubscribers ≤ length (now list)) ⌝ }
+    requires { ⌜ (subscriberWords * state .subscribers ≤ length (now list)) × (listWords ≤ length (now list)) ⌝ }
     requires { ⌜ lineRoom ≤ length (now out) ⌝ }
     ensures { λ r. ⌜ ((table : List ℕ) → Fits state table (now (list .entry)) → Did (subscribed msisdn flags (held state table (now (list .entry)))) state table (now (list .entry)) (now (out .entry)) r table (now (list .exit)) (now (out .exit))) ⌝ }
 {

@@ -18,7 +18,7 @@ use Rattle.records.specs.declared.Step.the-variants.{Stays, Becomes}
 use Rattle.records.specs.declared.Resulted.{Resulted}
 use Rattle.records.specs.declared.Resulted.the-variants.{Refused, Delivered, Dropped, Again}
 use Rattle.records.specs.Steps.{nobody, isNobody, same, heldBy, mostSendings, isAbsent, isWaiting, isInFlight, sendingsDone, withNotice, cleared, forcedOff, registered, erased, forced, delayAllowed, isDue, launched, sent, lastKind, resulted}
-use Rattle.rows.specs.Rows.{lastPhase, failedOnce, holderSound, noticeSound, phaseOf, secondOf, sentOnce, recordSound}
+use Rattle.rows.specs.Rows.{lastPhase, failedOnce, holderSound, noticeBy, phaseOf, secondOf, sentOnce, recordSound}
 use Rattle.rows.proofs.Notices.{Pending, pending, pending-sound}
 use Rattle.rows.proofs.Rows.{sound-record, record-is-sound}
 
@@ -94,7 +94,7 @@ module _ (r : Record) (s : recordSound r ≡ true) where
   erased-sound requester = two-checks (isNobody (r .holder)) (not (same (r .holder) requester)) 62 63 (heldBy nobody r) (held-sound nobody refl)
 
   off-sound : (supervisor : Msisdn) → isNumber (r .holder .0) ≡ true → isNumber (supervisor .0) ≡ true → same (r .holder) supervisor ≡ false → recordSound (forcedOff supervisor r) ≡ true
-  unfolding recordSound noticeSound
+  unfolding recordSound noticeBy
   off-sound supervisor h n e = simp (e, h, n)
 
   pub forced-sound : (supervisor named : Msisdn) → isNumber (supervisor .0) ≡ true → SoundStep (forced supervisor named r)
@@ -132,7 +132,7 @@ module _ (r : Record) (s : recordSound r ≡ true) where
       (λ a b. launched-sound (r .notice) refl (not-false _ b))
 
   cleared-sound : recordSound (cleared r) ≡ true
-  unfolding recordSound noticeSound
+  unfolding recordSound noticeBy
   cleared-sound = rw (sound-record r s .holder)
 
   -- a notice that comes back from its k-th sending

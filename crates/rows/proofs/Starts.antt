@@ -9,8 +9,8 @@ use Rattle.answers.proofs.Tests.{and-left, and-right, and-three, and-both, or-c
 use Rattle.numbers.specs.Numbers.{isNumber}
 use Rattle.numbers.specs.Least.{leastFor, isFrom}
 use Rattle.numbers.proofs.Least.{Starts, starts-for, least-tells}
-use Rattle.rows.specs.Rows.{numberAt, holderAt, phaseAt, addresseeAt, supervisorAt, secondAt, lastPhase, failedOnce, holderSound, noticeSound, rowSound}
-use Rattle.rows.specs.Starts.{noticeBy, nearFrom, holderStart, restFrom}
+use Rattle.rows.specs.Rows.{numberAt, holderAt, phaseAt, addresseeAt, supervisorAt, secondAt, lastPhase, failedOnce, holderSound, noticeBy, noticeSound, rowSound}
+use Rattle.rows.specs.Starts.{nearFrom, holderStart, restFrom}
 
 -- the start that the next holder is tested by
 pub starts-holder : (near h : ℕ) → Starts near → Starts (holderStart near h)
@@ -31,18 +31,12 @@ holder-tells near h s = go (eqb h 0) (isFrom near h) refl
     go false true e = s .numbers h e ∙ sym e
     go false false e = sym (least-tells h)
 
--- whether addressee and supervisor are numbers decides for a notice
-notice-by : (phase addressee supervisor second : ℕ) → noticeSound phase addressee supervisor second ≡ noticeBy (isNumber addressee && isNumber supervisor) phase addressee supervisor second
-unfolding noticeSound noticeBy
-notice-by phase addressee supervisor second = refl
-
 -- a row is sound by its number and by what stands behind it
 pub row-tells : (near : ℕ) (t : List ℕ) (i : ℕ) → Starts near → rowSound t i ≡ (isNumber (numberAt t i) && restFrom (holderStart near (holderAt t i)) t i)
 unfolding rowSound restFrom
 row-tells near t i s =
     and-assoc (isNumber (numberAt t i)) (holderSound (holderAt t i)) (noticeSound (phaseAt t i) (addresseeAt t i) (supervisorAt t i) (secondAt t i))
     ∙ ap (λ (b : Bool). isNumber (numberAt t i) && (b && noticeSound (phaseAt t i) (addresseeAt t i) (supervisorAt t i) (secondAt t i))) (holder-tells near (holderAt t i) s)
-    ∙ rw notice-by
 
 -- what is told by fewer numbers is told by more
 notice-more : (a b : Bool) (phase addressee supervisor second : ℕ) → (a ≡ true → b ≡ true) → noticeBy a phase addressee supervisor second ≡ true → noticeBy b phase addressee supervisor second ≡ true
@@ -63,7 +57,7 @@ unfolding rowSound nearFrom
 near-sound near t i s n p =
     let a = isFrom near (addresseeAt t i) in
     let notice = and-right (eqb (holderAt t i) 0 || isFrom near (holderAt t i)) _ p in
-    rw (n, holder (and-left _ _ p), notice-by (phaseAt t i) (addresseeAt t i) (supervisorAt t i) (secondAt t i))
+    rw (n, holder (and-left _ _ p))
     (notice-more (a && isFrom near (supervisorAt t i)) _ (phaseAt t i) (addresseeAt t i) (supervisorAt t i) (secondAt t i)
     (λ both. and-both _ _ (s .numbers (addresseeAt t i) (and-left a _ both)) (s .numbers (supervisorAt t i) (and-right a _ both))) notice)
   where

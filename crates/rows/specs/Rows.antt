@@ -58,13 +58,17 @@ lastPhase = 2 * mostSendings
 abbrev pub failedOnce : ℕ → Bool
 failedOnce phase = eqb (phase % 2) 1 && leb 3 phase
 
--- "With phase 0 the last three words are 0. Otherwise addressee and supervisor are numbers and differ. The last word is below 2^32, and 0 unless the phase is 3, 5, 7 or 9"
-unfoldable pub noticeSound : ℕ → ℕ → ℕ → ℕ → Bool
-noticeSound phase addressee supervisor second =
+-- "With phase 0 the last three words are 0. Otherwise addressee and supervisor are numbers and differ. The last word is below 2^32, and 0 unless the phase is 3, 5, 7 or 9";
+-- whether addressee and supervisor are numbers is said beside them
+unfoldable pub noticeBy : Bool → ℕ → ℕ → ℕ → ℕ → Bool
+noticeBy numbers phase addressee supervisor second =
     cond (eqb phase 0) (eqb addressee 0 && eqb supervisor 0 && eqb second 0)
     (leb phase lastPhase
-    && (isNumber addressee && isNumber supervisor && not (eqb addressee supervisor))
+    && (numbers && not (eqb addressee supervisor))
     && (ltb second (2 ^ 32) && (eqb second 0 || failedOnce phase)))
+
+abbrev pub noticeSound : ℕ → ℕ → ℕ → ℕ → Bool
+noticeSound phase addressee supervisor second = noticeBy (isNumber addressee && isNumber supervisor) phase addressee supervisor second
 
 -- "holder, a number, or 0"
 abbrev pub holderSound : ℕ → Bool

@@ -1,22 +1,16 @@
 -- How a scan of many rows tests one: the start of the length that it saw last tells most holders. Assumes nothing.
-use Prim.Native.Nat.{ℕ, _^_}
-use mathlib.Core.Bool.{Bool, cond, not, _&&_, _||_}
+use Prim.Native.Nat.{ℕ}
+use mathlib.Core.Bool.{Bool, cond, _&&_, _||_}
 use mathlib.Core.List.{List}
-use lib.Dec.{eqb, ltb, leb}
+use lib.Dec.{eqb}
 use Rattle.numbers.specs.Numbers.{isNumber}
 use Rattle.numbers.specs.Least.{leastFor, isFrom}
 use Rattle.rows.specs.declared.Words.{Words}
-use Rattle.rows.specs.Rows.{addresseeAt, supervisorAt, wordsAt, lastPhase, failedOnce}
+use Rattle.rows.specs.Rows.{addresseeAt, supervisorAt, wordsAt, noticeBy}
 
 -- the start by which a holder is tested: one that was found before, where that tells already, else the least number that her leading zero bits leave
 unfoldable pub holderStart : ℕ → ℕ → ℕ
 holderStart near holder = cond (eqb holder 0 || isFrom near holder) near (leastFor holder)
-
--- the words of a notice, or of none, where it is known whether addressee and supervisor are numbers
-unfoldable pub noticeBy : Bool → ℕ → ℕ → ℕ → ℕ → Bool
-noticeBy numbers phase addressee supervisor second =
-    cond (eqb phase 0) (eqb addressee 0 && eqb supervisor 0 && eqb second 0)
-    (leb phase lastPhase && (numbers && not (eqb addressee supervisor)) && (ltb second (2 ^ 32) && (eqb second 0 || failedOnce phase)))
 
 -- what stands behind a row's number, the holder by a start
 abbrev pub restBy : ℕ → Bool → Words → Bool

@@ -12,8 +12,8 @@ ghost use Prim.Native.Nat.{_/_, _^_, _≤_, _<_};
 ghost use lib.ListN.{length};
 ghost use Rattle.numbers.specs.Least.{leastNumbers};
 ghost use Rattle.numbers.specs.Numbers.{mostDigits};
-ghost use Rattle.rows.specs.Rows.{rowWords, holderAt, lastPhase, phaseOf, secondOf, noticeOf, wordsAt, rowSound, recordAt, stored};
-ghost use Rattle.rows.specs.Starts.{noticeBy, restBy, nearFrom, holderStart, restFrom};
+ghost use Rattle.rows.specs.Rows.{rowWords, holderAt, lastPhase, phaseOf, secondOf, noticeOf, wordsAt, noticeBy, rowSound, recordAt, stored};
+ghost use Rattle.rows.specs.Starts.{restBy, nearFrom, holderStart, restFrom};
 
 // "Even 2k (2 to 10): in flight, k done".
 const LAST_PHASE: u64 = 2 * (MOST_SENDINGS as u64);

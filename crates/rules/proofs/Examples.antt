@@ -133,6 +133,6 @@ examples =
     ∷ []
 
 pub p1-to-p15 : All examples
-unfolding number digits octetsFor charsIn padded packed characters readable filled kept unpacked isDigit pushed stored isNumber digitsUpTo digitsOf leading numberAt isAdditional textOf noticeOf begins operationAt serviceAt numberFieldAt forcedAt erasingAt additionalAt fieldsOf requestOf elapsed delayOf delayAllowed rows.noticeSound rows.rowSound rows.noticeOf rows.recordAt rows.stored placeOf tableSound rowOf recordOf listSound flagsOf requests.requestChecks requests.request notices.sending notices.result
+unfolding number digits octetsFor charsIn padded packed characters readable filled kept unpacked isDigit pushed stored isNumber digitsUpTo digitsOf leading numberAt isAdditional textOf noticeOf begins operationAt serviceAt numberFieldAt forcedAt erasingAt additionalAt fieldsOf requestOf elapsed delayOf delayAllowed rows.noticeBy rows.rowSound rows.noticeOf rows.recordAt rows.stored placeOf tableSound rowOf recordOf listSound flagsOf requests.requestChecks requests.request notices.sending notices.result
 p1-to-p15 =
     refl and refl and refl and refl and refl and refl and refl and refl and refl and refl and refl and refl and refl and refl and refl and refl and refl and refl and refl and done

@@ -1,5 +1,5 @@
 use borrow.Author.Tests.{eq-eqb, ne-eqb}
-use Rattle.rows.specs.Starts.{noticeBy}
+use Rattle.rows.specs.Rows.{noticeBy}
 use Rattle.rows.proofs.notice_by.Statement.{statement}
 use Rattle.rows.proofs.notice_by.Tie as tie
 
