@@ -19,30 +19,30 @@ use Rattle.rows.specs.Rows.{numberAt, recordAt}
 use Rattle.tables.specs.declared.Found.{Found}
 use Rattle.tables.specs.declared.Found.the-variants.{At, Nothing}
 use Rattle.tables.specs.Tables.{tableSound, rowsIn, rowOf, recordOf}
-use Rattle.rules.specs.Answers.{Answer, refusal, error, outcome, holder, sent, delivered, dropped, again, found, noneDue, Outcome, refusing}
-use Rattle.rules.specs.Requests.{numberIn, carriedOut, carriedOutAt, requestChecks, request}
+use Rattle.rules.specs.Answers.{Answer, refusal, error, outcome, holderIs, sentTo, delivered, dropped, again, found, noneDue, Outcome, refusing}
+use Rattle.rules.specs.Answers as class
+use Rattle.rules.specs.Requests.{numberIn, carriedOut, carriedOutAt, requestChecks, requesting}
 use Rattle.rules.specs.Notices as notices
 use Rattle.structs.specs.declared.Answer as numbers
 use Rattle.structs.specs.Numbers.{ofAnswer}
-use Rattle.structs.specs.Numbers as class
 
 -- the answer that four numbers stand for
 answerOf : ℕ → ℕ → ℕ → ℕ → Answer
 answerOf c number count value =
-    cond (eqb c class.refusal) (refusal number)
-    (cond (eqb c class.error) (error number)
-    (cond (eqb c class.outcome) (cond (eqb number 3) (holder value count) (outcome number count))
-    (cond (eqb c class.sent) (sent value count)
-    (cond (eqb c class.result) (cond (eqb number class.delivered) delivered (cond (eqb number class.dropped) dropped again))
-    (cond (eqb c class.found) (found value) noneDue)))))
+    cond (eqb c class.refusalClass) (refusal number)
+    (cond (eqb c class.errorClass) (error number)
+    (cond (eqb c class.outcomeClass) (cond (eqb number class.interrogationNumber) (holderIs value count) (outcome number count))
+    (cond (eqb c class.sentClass) (sentTo value count)
+    (cond (eqb c class.resultClass) (cond (eqb number class.deliveredNumber) delivered (cond (eqb number class.droppedNumber) dropped again))
+    (cond (eqb c class.foundClass) (found value) noneDue)))))
 
 -- outcome 03 comes with the holder
 tells : Answer → Bool
 tells (refusal n) = true
 tells (error n) = true
-tells (outcome n octets) = not (eqb n 3)
-tells (holder msisdn octets) = true
-tells (sent addressee octets) = true
+tells (outcome n octets) = not (eqb n class.interrogationNumber)
+tells (holderIs msisdn octets) = true
+tells (sentTo addressee octets) = true
 tells delivered = true
 tells dropped = true
 tells again = true
@@ -64,8 +64,8 @@ unfolding answerOf tells IsTold readBack
 back (refusal n) t = refl
 back (error n) t = refl
 back (outcome n octets) t = rw (not-true (eqb n 3) t)
-back (holder msisdn octets) t = refl
-back (sent addressee octets) t = refl
+back (holderIs msisdn octets) t = refl
+back (sentTo addressee octets) t = refl
 back delivered t = refl
 back dropped t = refl
 back again t = refl
@@ -90,8 +90,8 @@ done-at-tells (some f) (At i) requester table reply = done-tells (f .operation) 
 
 pub request-back :
     (table list reply : List ℕ) (requester : Msisdn) (scheme : ℕ) (string : List ℕ)
-    → let a = request table list reply requester scheme string .answer in readBack (ofAnswer a) ≡ a
-unfolding tells IsTold Tells requestChecks request
+    → let a = requesting table list reply requester scheme string .answer in readBack (ofAnswer a) ≡ a
+unfolding tells IsTold Tells requestChecks requesting
 request-back table list reply requester scheme string =
     back _
     (decide-each Tells (requestChecks table list reply requester scheme string)
@@ -108,8 +108,8 @@ sent-tells number (At i) table buffer = refl
 
 pub sending-back :
     (table buffer : List ℕ) (number : FunctionalNumber) (delay clock : ℕ)
-    → let a = notices.sending table buffer number delay clock .answer in readBack (ofAnswer a) ≡ a
-unfolding tells IsTold Tells notices.sending
+    → let a = notices.sendingNotice table buffer number delay clock .answer in readBack (ofAnswer a) ≡ a
+unfolding tells IsTold Tells notices.sendingNotice
 sending-back table buffer number delay clock =
     back _
     (decide-each Tells (refusing table buffer (notices.sendingChecks (tableSound table) buffer (number .0) (recordOf table (number .0)) delay clock))
@@ -127,8 +127,8 @@ resulted-tells kind clock (At i) table =
 
 pub result-back :
     (table : List ℕ) (number : FunctionalNumber) (kind clock : ℕ)
-    → let a = notices.result table number kind clock .answer in readBack (ofAnswer a) ≡ a
-unfolding tells IsTold Tells notices.result
+    → let a = notices.takingResult table number kind clock .answer in readBack (ofAnswer a) ≡ a
+unfolding tells IsTold Tells notices.takingResult
 result-back table number kind clock =
     back _
     (decide-each Tells (refusing table [] (notices.resultChecks (tableSound table) (number .0) (recordOf table (number .0)) kind))

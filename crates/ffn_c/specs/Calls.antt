@@ -25,21 +25,21 @@ pub record Returned (S : Type 0) : Type 0 where
   pub table : List ℕ
   pub buffer : List ℕ
 
-abbrev pub returned : {S : Type 0} → S → List ℕ → List ℕ → Returned S
-returned answer table buffer = record { answer = answer; table = table; buffer = buffer }
+abbrev pub returning : {S : Type 0} → S → List ℕ → List ℕ → Returned S
+returning answer table buffer = record { answer = answer; table = table; buffer = buffer }
 
 -- what a call of the node comes to
 abbrev pub ofCall : rules.Outcome → Returned Answer
-ofCall o = returned (ofAnswer (o .answer)) (o .table) (o .buffer)
+ofCall o = returning (ofAnswer (o .answer)) (o .table) (o .buffer)
 
 -- what a writer comes to
-abbrev pub ofWriter : writing.Outcome → Returned Answer
-ofWriter o = returned (ofSaid (o .answer)) [] (o .buffer)
+abbrev pub ofWriter : writing.WriteOutcome → Returned Answer
+ofWriter o = returning (ofSaid (o .answer)) [] (o .buffer)
 
 -- ---- the request's writer
 
 -- "the request writer is given fields that break the string's rules (checked after 1)": so does an operation that is none
-abbrev pub writingFields : Operating → FunctionalNumber → Erasing → List ℕ → List ℕ → writing.Outcome
+abbrev pub writingFields : Operating → FunctionalNumber → Erasing → List ℕ → List ℕ → writing.WriteOutcome
 writingFields Unknown number erasing additional out = writing.writing (ltb (length out) writerRoom) true [] out
 writingFields (Known operation) number erasing additional out =
     writingRequest (record { operation = operation; number = number; erasing = erasing; additional = additional }) out
@@ -48,8 +48,8 @@ writingFields (Known operation) number erasing additional out =
 
 -- by what the octets read as. "Errors and refusals … touch no memory"; the characters of a string that reads go into the text, if it has room for them
 abbrev pub readingAs : List ℕ → List ℕ → Option Request → Returned RequestRead
-readingAs octets text none = returned (ofTold (tell (unpacked octets) none)) [] text
-readingAs octets text (some f) = returned (ofTold (tell (unpacked octets) (some f))) [] (unpacking octets text .buffer)
+readingAs octets text none = returning (ofTold (tell (unpacked octets) none)) [] text
+readingAs octets text (some f) = returning (ofTold (tell (unpacked octets) (some f))) [] (unpacking octets text .buffer)
 
 unfoldable pub readingInto : List ℕ → List ℕ → Returned RequestRead
 readingInto octets text = readingAs octets text (requestOf octets)

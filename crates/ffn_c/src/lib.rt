@@ -13,12 +13,12 @@ ghost use Rattle.packing.specs.Outcomes.{packing, unpacking};
 ghost use Rattle.rules.specs.Requests as requests;
 ghost use Rattle.rules.specs.Notices as notices;
 ghost use Rattle.structs.specs.Numbers.{ofAnswer, operationOf, erasingOf};
-ghost use Rattle.ffn_c.specs.Calls.{returned, ofCall, ofWriter, writingFields, readingInto};
+ghost use Rattle.ffn_c.specs.Calls.{returning, ofCall, ofWriter, writingFields, readingInto};
 
 // Packs the characters into out.
 #[no_mangle]
 pub extern "C" fn ffn_pack(chars: &[u8], out: &mut [u8]) -> Answer
-    ensures { λ r. ⌜ returned r [] (now (out .exit)) ≡ ofWriter (packing (now (chars .entry)) (now (out .entry))) ⌝ }
+    ensures { λ r. ⌜ returning r [] (now (out .exit)) ≡ ofWriter (packing (now (chars .entry)) (now (out .entry))) ⌝ }
 {
     structs::of_written(packing::pack(chars, out))
 }
@@ -26,7 +26,7 @@ pub extern "C" fn ffn_pack(chars: &[u8], out: &mut [u8]) -> Answer
 // Unpacks the octets into out.
 #[no_mangle]
 pub extern "C" fn ffn_unpack(octets: &[u8], out: &mut [u8]) -> Answer
-    ensures { λ r. ⌜ returned r [] (now (out .exit)) ≡ ofWriter (unpacking (now (octets .entry)) (now (out .entry))) ⌝ }
+    ensures { λ r. ⌜ returning r [] (now (out .exit)) ≡ ofWriter (unpacking (now (octets .entry)) (now (out .entry))) ⌝ }
 {
     structs::of_written(packing::unpack(octets, out))
 }
@@ -40,7 +40,7 @@ pub extern "C" fn ffn_write_request(
     additional: &[u8],
     out: &mut [u8],
 ) -> Answer
-    ensures { λ r. ⌜ returned r [] (now (out .exit)) ≡ ofWriter (writingFields (operationOf operation) (record { 0 = number }) (erasingOf msisdn) (now (additional .entry)) (now (out .entry))) ⌝ }
+    ensures { λ r. ⌜ returning r [] (now (out .exit)) ≡ ofWriter (writingFields (operationOf operation) (record { 0 = number }) (erasingOf msisdn) (now (additional .entry)) (now (out .entry))) ⌝ }
 {
     let erasing = structs::erasing_of(msisdn);
     let Operating::Known(operation) = structs::operation_of(operation) else {
@@ -65,7 +65,7 @@ pub extern "C" fn ffn_write_request(
 // Reads a packed request string; its characters go into the text, if it has room for them.
 #[no_mangle]
 pub extern "C" fn ffn_read_request(octets: &[u8], text: &mut [u8]) -> RequestRead
-    ensures { λ r. ⌜ returned r [] (now (text .exit)) ≡ readingInto (now (octets .entry)) (now (text .entry)) ⌝ }
+    ensures { λ r. ⌜ returning r [] (now (text .exit)) ≡ readingInto (now (octets .entry)) (now (text .entry)) ⌝ }
 {
     let read = strings::read_request(octets);
     let reading = read.reading;
@@ -94,7 +94,7 @@ pub extern "C" fn ffn_request(
     scheme: u8,
     string: &[u8],
 ) -> Answer
-    ensures { λ r. ⌜ returned r (now (table .exit)) (now (reply .exit)) ≡ ofCall (requests.request (now (table .entry)) (now (list .entry)) (now (reply .entry)) (record { 0 = requester }) scheme (now (string .entry))) ⌝ }
+    ensures { λ r. ⌜ returning r (now (table .exit)) (now (reply .exit)) ≡ ofCall (requests.requesting (now (table .entry)) (now (list .entry)) (now (reply .entry)) (record { 0 = requester }) scheme (now (string .entry))) ⌝ }
 {
     structs::of_request(node::request(table, list, reply, Msisdn(requester), scheme, string))
 }
@@ -108,7 +108,7 @@ pub extern "C" fn ffn_sending(
     delay: u32,
     clock: u32,
 ) -> Answer
-    ensures { λ r. ⌜ returned r (now (table .exit)) (now (buffer .exit)) ≡ ofCall (notices.sending (now (table .entry)) (now (buffer .entry)) (record { 0 = number }) delay clock) ⌝ }
+    ensures { λ r. ⌜ returning r (now (table .exit)) (now (buffer .exit)) ≡ ofCall (notices.sendingNotice (now (table .entry)) (now (buffer .entry)) (record { 0 = number }) delay clock) ⌝ }
 {
     structs::of_sending(node::sending(table, buffer, FunctionalNumber(number), delay, clock))
 }
@@ -116,7 +116,7 @@ pub extern "C" fn ffn_sending(
 // The result of a sending.
 #[no_mangle]
 pub extern "C" fn ffn_result(table: &mut [u64], number: u64, kind: u32, clock: u32) -> Answer
-    ensures { λ r. ⌜ returned r (now (table .exit)) [] ≡ ofCall (notices.result (now (table .entry)) (record { 0 = number }) kind clock) ⌝ }
+    ensures { λ r. ⌜ returning r (now (table .exit)) [] ≡ ofCall (notices.takingResult (now (table .entry)) (record { 0 = number }) kind clock) ⌝ }
 {
     structs::of_result(node::result(table, FunctionalNumber(number), kind, clock))
 }

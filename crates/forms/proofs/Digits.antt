@@ -9,7 +9,7 @@ use lib.ListN.{length, drop, drop-of-length-le}
 use lib.Seq.{take-length}
 use borrow.Author.Tests.{lt-ltb, le-ltb, eqb-true}
 use Rattle.answers.proofs.Tests.{no-path, and-no}
-use Rattle.numbers.specs.Numbers.{isDigit, areDigits, pushed, stored, leadingDigits, numberAt}
+use Rattle.numbers.specs.Numbers.{isDigit, areDigits, pushed, storedForm, leadingDigits, leadingNumber}
 use Rattle.numbers.proofs.Digits.{pushed-grows}
 use Rattle.answers.proofs.Leading.{each-leading}
 use Rattle.numbers.specs.declared.NumberRead.the-variants.{Number, Unreadable}
@@ -56,25 +56,25 @@ leading-all : (s : List ℕ) → areDigits s ≡ true → leadingDigits s ≡ le
 leading-all s h = eqb-true (leadingDigits s) (length s) (sym (each-leading isDigit s) ∙ h)
 
 -- a field of digits is a number if it is long enough and not too long
-number-by-length : (s : List ℕ) → isDigits s ≡ true → numberAt s ≡ cond (isNumberLong s) (Number (stored s) (length s)) Unreadable
-unfolding numberAt
+number-by-length : (s : List ℕ) → isDigits s ≡ true → leadingNumber s ≡ cond (isNumberLong s) (Number (storedForm s) (length s)) Unreadable
+unfolding leadingNumber
 number-by-length s h = rw (leading-all s (digits-all s h), take-length s)
 
 pub number-unread : (s : List ℕ) → isDigits s ≡ false → (numberOf s ≡ none) × (askedOf s ≡ none)
 unfolding numberOf askedOf
 number-unread s h = (rw h, rw h)
 
-pub number-read : (s : List ℕ) (w n : ℕ) → isDigits s ≡ true → numberAt s ≡ Number w n → (numberOf s ≡ some w) × (askedOf s ≡ some w)
+pub number-read : (s : List ℕ) (w n : ℕ) → isDigits s ≡ true → leadingNumber s ≡ Number w n → (numberOf s ≡ some w) × (askedOf s ≡ some w)
 unfolding numberOf askedOf
 number-read s w n h e = go (isNumberLong s) refl
   where
     go : (b : Bool) → isNumberLong s ≡ b → (numberOf s ≡ some w) × (askedOf s ≡ some w)
     go true l =
-        let f : stored s ≡ w = cc (rw l at (sym (number-by-length s h) ∙ e)) in
+        let f : storedForm s ≡ w = cc (rw l at (sym (number-by-length s h) ∙ e)) in
         (rw (h, l, f), rw (h, l, f))
     go false l = absurd (let z : _≡_ {A = ℕ} 0 1 = cc (rw l at (sym (number-by-length s h) ∙ e)) in omega arith)
 
-pub number-malformed : (s : List ℕ) → isDigits s ≡ true → numberAt s ≡ Unreadable → (numberOf s ≡ none) × (askedOf s ≡ some 0)
+pub number-malformed : (s : List ℕ) → isDigits s ≡ true → leadingNumber s ≡ Unreadable → (numberOf s ≡ none) × (askedOf s ≡ some 0)
 unfolding numberOf askedOf
 number-malformed s h e = go (isNumberLong s) refl
   where

@@ -11,18 +11,18 @@ use lib.Seq.{take-all}
 use lib.Dec.{eqb}
 use borrow.Author.Tests.{eq-eqb, ne-eqb}
 use Rattle.bytes.specs.Bytes.{indexOf, indexAfter, slice}
-use Rattle.forms.specs.Lines.{lineFeed, onFirst, linesOf, space, fieldAt, behindField, lettered, formOf}
+use Rattle.forms.specs.Lines.{lineFeed, onFirst, linesOf, space, firstField, behindField, lettered, formOf}
 
 pub whole-slice : (s : List ℕ) → slice 0 (length s) s ≡ s
 unfolding slice
 whole-slice s = take-all (length s) s (omega arith)
 
-pub field-front : (s : List ℕ) → fieldAt s ≡ take (indexOf space s) s
-unfolding indexOf indexAfter fieldAt
+pub field-front : (s : List ℕ) → firstField s ≡ take (indexOf space s) s
+unfolding indexOf indexAfter firstField
 field-front [] = refl
 field-front (c ∷ s) = go (eqb c space) (field-front s)
   where
-    go : (b : Bool) → fieldAt s ≡ take (indexOf space s) s → cond b [] (c ∷ fieldAt s) ≡ take (indexAfter b (indexOf space s)) (c ∷ s)
+    go : (b : Bool) → firstField s ≡ take (indexOf space s) s → cond b [] (c ∷ firstField s) ≡ take (indexAfter b (indexOf space s)) (c ∷ s)
     go true e = refl
     go false e = ap (λ (l : List ℕ). c ∷ l) e
 
@@ -51,7 +51,7 @@ behind-none (c ∷ s) h = go (eqb c space) h (λ k. behind-none s k)
 
 -- a part of a line, split at the place of its first space
 pub record Split (s : List ℕ) (end : ℕ) : Type 0 where
-  pub field : fieldAt s ≡ take end s
+  pub field : firstField s ≡ take end s
   pub behind : behindField s ≡ some (drop (end + 1) s)
 
 pub split : (s : List ℕ) (end : ℕ) → (end ≡ indexOf space s) × (end ≤ length s) → (end ≡ length s → ⊥) → Split s end

@@ -7,7 +7,7 @@ use mathlib.Core.List.{List, [], _∷_}
 use lib.ListN.{length}
 use lib.Dec.{eqb, leb, ltb}
 use Rattle.answers.specs.Checks.{decide, _>>=_, onlyIf}
-use Rattle.numbers.specs.Numbers.{fewestDigits, mostDigits, areDigits, pushed, stored}
+use Rattle.numbers.specs.Numbers.{fewestDigits, mostDigits, areDigits, pushed, storedForm}
 use Rattle.numbers.specs.declared.FunctionalNumber.{FunctionalNumber}
 use Rattle.numbers.specs.declared.Msisdn.{Msisdn}
 use Rattle.tables.specs.Tables.{mostFlags}
@@ -33,9 +33,9 @@ abbrev pub space : ℕ
 space = code " "
 
 -- "Fields stand one space apart": the field at the front of a part of a line reaches to the next space
-unfoldable pub fieldAt : List ℕ → List ℕ
-fieldAt [] = []
-fieldAt (c ∷ cs) = cond (eqb c space) [] (c ∷ fieldAt cs)
+unfoldable pub firstField : List ℕ → List ℕ
+firstField [] = []
+firstField (c ∷ cs) = cond (eqb c space) [] (c ∷ firstField cs)
 
 -- what stands behind that space; nothing where the field is the last one
 unfoldable pub behindField : List ℕ → Option (List ℕ)
@@ -53,11 +53,11 @@ isNumberLong field = leb fewestDigits (length field) && leb (length field) mostD
 
 -- a number of `N` or `S`, as stored
 unfoldable pub numberOf : List ℕ → Option ℕ
-numberOf field = onlyIf (isDigits field && isNumberLong field) (stored field)
+numberOf field = onlyIf (isDigits field && isNumberLong field) (storedForm field)
 
 -- "In `R`, `T` and `D`, digits not 5 to 15 long are a malformed number": the node is given the word 0
 unfoldable pub askedOf : List ℕ → Option ℕ
-askedOf field = onlyIf (isDigits field) (cond (isNumberLong field) (stored field) 0)
+askedOf field = onlyIf (isDigits field) (cond (isNumberLong field) (storedForm field) 0)
 
 -- flags, now and kind count by their value, "now and kind are below 2^32"
 unfoldable pub valueBelow : ℕ → List ℕ → Option ℕ
@@ -67,55 +67,55 @@ valueBelow limit field = onlyIf (isDigits field && ltb (pushed 0 field) limit) (
 
 pub data Form : Type 0 where
   -- `N` number
-  number : FunctionalNumber → Form
+  numberLine : FunctionalNumber → Form
   -- `S` MSISDN flags
-  subscriber : Msisdn → ℕ → Form
+  subscriberLine : Msisdn → ℕ → Form
   -- `R` requester string
-  request : Msisdn → List ℕ → Form
+  requestLine : Msisdn → List ℕ → Form
   -- `T` now number
-  sending : ℕ → FunctionalNumber → Form
+  sendingLine : ℕ → FunctionalNumber → Form
   -- `D` now number kind
-  result : ℕ → FunctionalNumber → ℕ → Form
+  resultLine : ℕ → FunctionalNumber → ℕ → Form
 
 -- what stands behind the letter and its space, in each form; "a string is the rest of its line", and so is every last field
 unfoldable pub numberForm : List ℕ → Option Form
 numberForm rest = do
   word ← numberOf rest
-  some (number (record { 0 = word }))
+  some (numberLine (record { 0 = word }))
 
 unfoldable pub subscriberForm : List ℕ → Option Form
 subscriberForm rest = do
   flagsField ← behindField rest
-  word ← numberOf (fieldAt rest)
+  word ← numberOf (firstField rest)
   flags ← valueBelow (suc mostFlags) flagsField
-  some (subscriber (record { 0 = word }) flags)
+  some (subscriberLine (record { 0 = word }) flags)
 
 unfoldable pub requestForm : List ℕ → Option Form
 requestForm rest = do
   string ← behindField rest
-  word ← askedOf (fieldAt rest)
-  some (request (record { 0 = word }) string)
+  word ← askedOf (firstField rest)
+  some (requestLine (record { 0 = word }) string)
 
 unfoldable pub sendingForm : List ℕ → Option Form
 sendingForm rest = do
   numberField ← behindField rest
-  now ← valueBelow (2 ^ 32) (fieldAt rest)
+  now ← valueBelow (2 ^ 32) (firstField rest)
   word ← askedOf numberField
-  some (sending now (record { 0 = word }))
+  some (sendingLine now (record { 0 = word }))
 
 -- number and kind, behind now
-unfoldable pub resultAt : ℕ → List ℕ → Option Form
-resultAt now rest = do
+unfoldable pub resultFields : ℕ → List ℕ → Option Form
+resultFields now rest = do
   kindField ← behindField rest
-  word ← askedOf (fieldAt rest)
+  word ← askedOf (firstField rest)
   kind ← valueBelow (2 ^ 32) kindField
-  some (result now (record { 0 = word }) kind)
+  some (resultLine now (record { 0 = word }) kind)
 
 unfoldable pub resultForm : List ℕ → Option Form
 resultForm rest = do
   fields ← behindField rest
-  now ← valueBelow (2 ^ 32) (fieldAt rest)
-  resultAt now fields
+  now ← valueBelow (2 ^ 32) (firstField rest)
+  resultFields now fields
 
 -- the form by its letter
 abbrev pub letters : ℕ → List ℕ → List (Bool × Option Form)

@@ -8,7 +8,7 @@ use Rattle.forms.specs.declared.FieldRead.{FieldRead}
 use Rattle.forms.specs.declared.FieldRead.the-variants.{Value, Unreadable}
 use Rattle.forms.specs.declared.Line.{Line}
 use Rattle.forms.specs.declared.Line.the-variants as line
-use Rattle.forms.specs.Lines.{Form, number, subscriber, request, sending, result}
+use Rattle.forms.specs.Lines.{Form, numberLine, subscriberLine, requestLine, sendingLine, resultLine}
 
 -- the value that a field's reader answers
 abbrev pub valueIn : FieldRead → Option ℕ
@@ -17,11 +17,11 @@ valueIn Unreadable = none
 
 -- the form that a line's reader answers; a string stands in the line from its start on
 abbrev pub formIn : List ℕ → Line → Option Form
-formIn rest (line.Number n) = some (number n)
-formIn rest (line.Subscriber m flags) = some (subscriber m flags)
-formIn rest (line.Request m start) = some (request m (drop start rest))
-formIn rest (line.Sending now n) = some (sending now n)
-formIn rest (line.Result now n kind) = some (result now n kind)
+formIn rest (line.Number n) = some (numberLine n)
+formIn rest (line.Subscriber m flags) = some (subscriberLine m flags)
+formIn rest (line.Request m start) = some (requestLine m (drop start rest))
+formIn rest (line.Sending now n) = some (sendingLine now n)
+formIn rest (line.Result now n kind) = some (resultLine now n kind)
 formIn rest line.Other = none
 
 -- where the string of a line starts

@@ -8,7 +8,7 @@ ghost use mathlib.Core.List.{List};
 ghost use Prim.Native.Nat.{ℕ, _^_, _≤_, _<_};
 ghost use lib.ListN.{length};
 ghost use Rattle.bytes.specs.Bytes.{indexOf};
-ghost use Rattle.forms.specs.Lines.{isDigits, numberOf, askedOf, valueBelow, numberForm, subscriberForm, requestForm, sendingForm, resultAt, resultForm, lettered};
+ghost use Rattle.forms.specs.Lines.{isDigits, numberOf, askedOf, valueBelow, numberForm, subscriberForm, requestForm, sendingForm, resultFields, resultForm, lettered};
 ghost use Rattle.forms.specs.Reads.{valueIn, Reads};
 
 // Flags, and now and kind, are below these.
@@ -171,7 +171,7 @@ fn read_sending(rest: &[u8]) -> Line
 
 // Number and kind of a `D`, behind its now.
 fn read_result_at(clock: u32, rest: &[u8]) -> Line
-    ensures { λ r. ⌜ ((line : List ℕ) → Reads line r (resultAt clock (now (rest .entry)))) ⌝ }
+    ensures { λ r. ⌜ ((line : List ℕ) → Reads line r (resultFields clock (now (rest .entry)))) ⌝ }
 {
     let end = place_of(b' ', rest);
     if end == rest.len() {

@@ -14,17 +14,17 @@ use Rattle.answers.proofs.Tests.{and-left}
 use Rattle.answers.proofs.Decide.{decide-each}
 use Rattle.answers.proofs.Checks.{not-some, onlyIf-some}
 use Rattle.packing.specs.Packing.{charsIn}
-use Rattle.numbers.specs.Numbers.{mostDigits, isNumber, digitsOf, stored}
+use Rattle.numbers.specs.Numbers.{mostDigits, isNumber, digitsOf, storedForm}
 use Rattle.numbers.specs.declared.FunctionalNumber.{FunctionalNumber}
 use Rattle.numbers.proofs.Lengths.{number-some}
-use Rattle.rules.specs.Answers.{Answer, refusal, error, outcome, holder, sent, delivered, dropped, again, found, noneDue, Outcome}
+use Rattle.rules.specs.Answers.{Answer, refusal, error, outcome, holderIs, sentTo, delivered, dropped, again, found, noneDue, Outcome}
 use Rattle.rules.specs.Notices as notices
 use Rattle.forms.specs.Lines as form
-use Rattle.forms.specs.Lines.{lineFeed, space, fieldAt, behindField, isDigits, isNumberLong, askedOf, valueBelow, Form, sendingForm, lettered, formOf}
+use Rattle.forms.specs.Lines.{lineFeed, space, firstField, behindField, isDigits, isNumberLong, askedOf, valueBelow, Form, sendingForm, lettered, formOf}
 use Rattle.rows.specs.Rows.{rowWords}
 use Rattle.tables.specs.Tables.{mostNumbers, subscriberWords, mostSubscribers}
-use Rattle.lines.specs.Program.{Program, Effect, mayFollow, filled, withNumber, withSubscriber, answered, buffer, numbered, subscribed, asked, requested, dispatched, reported, effectOf, lineEffect}
-use Rattle.replies.specs.Replies.{textIn, said, Printable, answerRoom}
+use Rattle.lines.specs.Program.{Program, Effect, mayFollow, mayFill, withNumber, withSubscriber, answered, lentBuffer, numbered, subscribed, asked, requested, dispatched, reported, effectOf, lineEffect}
+use Rattle.replies.specs.Replies.{textIn, behindLetter, Printable, answerRoom}
 use Rattle.replies.proofs.Writing.{numeral-short, text-most}
 use Rattle.lines.proofs.Printing.{digits-short, isSent, Replies, asked-replies, result-replies, sending-sends}
 
@@ -34,29 +34,29 @@ use Rattle.lines.proofs.Printing.{digits-short, isSent, Replies, asked-
 abbrev mostSaid : Bool → ℕ
 mostSaid isNotice = cond isNotice answerRoom 18
 
-said-most : (a : Answer) (b : List ℕ) → Printable a b → length (said a b) ≤ mostSaid (isSent a)
+said-most : (a : Answer) (b : List ℕ) → Printable a b → length (behindLetter a b) ≤ mostSaid (isSent a)
 unfolding charsIn digitsOf
 said-most (refusal n) b h = omega (arith, numeral-short n)
 said-most (error n) b h = omega (arith, numeral-short n)
 said-most (outcome n count) b h = omega (arith, text-most h)
-said-most (holder msisdn count) b h = omega (arith, text-most h)
-said-most (sent addressee count) b h = omega (arith, text-most (h .1), digits-short 15 addressee, length-append (digitsOf addressee) (space ∷ textIn count b))
+said-most (holderIs msisdn count) b h = omega (arith, text-most h)
+said-most (sentTo addressee count) b h = omega (arith, text-most (h .1), digits-short 15 addressee, length-append (digitsOf addressee) (space ∷ textIn count b))
 said-most delivered b h = omega arith
 said-most dropped b h = omega arith
 said-most again b h = omega arith
 said-most (found n) b h = omega arith
 said-most noneDue b h = omega arith
 
-pub said-room : (o : Outcome) → Printable (o .answer) (o .buffer) → length (said (o .answer) (o .buffer)) ≤ answerRoom
+pub said-room : (o : Outcome) → Printable (o .answer) (o .buffer) → length (behindLetter (o .answer) (o .buffer)) ≤ answerRoom
 said-room o h = go (isSent (o .answer)) (said-most (o .answer) (o .buffer) h)
   where
-    go : (b : Bool) → length (said (o .answer) (o .buffer)) ≤ mostSaid b → length (said (o .answer) (o .buffer)) ≤ answerRoom
+    go : (b : Bool) → length (behindLetter (o .answer) (o .buffer)) ≤ mostSaid b → length (behindLetter (o .answer) (o .buffer)) ≤ answerRoom
     go true m = m
     go false m = omega arith
 
 -- with the letter, the space and the line feed
 answered-most : (letter : ℕ) (o : Outcome) (p : Program) → Printable (o .answer) (o .buffer) → length (answered letter o p .prints) ≤ 3 + mostSaid (isSent (o .answer))
-answered-most letter o p h = omega (arith, said-most (o .answer) (o .buffer) h, length-append (said (o .answer) (o .buffer)) (lineFeed ∷ []))
+answered-most letter o p h = omega (arith, said-most (o .answer) (o .buffer) h, length-append (behindLetter (o .answer) (o .buffer)) (lineFeed ∷ []))
 
 replied-most : (letter : ℕ) (o : Outcome) (p : Program) → Replies o → length (answered letter o p .prints) ≤ 21
 replied-most letter o p h = rw (h .1) at (answered-most letter o p (h .0))
@@ -77,18 +77,18 @@ asked-long : (s : List ℕ) (w : ℕ) → askedOf s ≡ some w → isNumber w �
 unfolding askedOf
 asked-long s w e h = go (isNumberLong s) refl (onlyIf-some (isDigits s) e .1)
   where
-    go : (b : Bool) → isNumberLong s ≡ b → cond b (stored s) 0 ≡ w → 5 ≤ length s
+    go : (b : Bool) → isNumberLong s ≡ b → cond b (storedForm s) 0 ≡ w → 5 ≤ length s
     go true l same = leb-true 5 (length s) (and-left (leb 5 (length s)) (leb (length s) mostDigits) l)
     go false l same = absurd (number-some w h (sym same))
 
 -- a form of a line: a `T` with a number has a space and 5 digits at least behind the letter and its space
 abbrev Long : ℕ → Option Form → Type 0
 Long n none = Unit {0}
-Long n (some (form.number number)) = Unit {0}
-Long n (some (form.subscriber msisdn flags)) = Unit {0}
-Long n (some (form.request msisdn string)) = Unit {0}
-Long n (some (form.sending clock number)) = isNumber (number .0) ≡ true → 6 ≤ n
-Long n (some (form.result clock number kind)) = Unit {0}
+Long n (some (form.numberLine number)) = Unit {0}
+Long n (some (form.subscriberLine msisdn flags)) = Unit {0}
+Long n (some (form.requestLine msisdn string)) = Unit {0}
+Long n (some (form.sendingLine clock number)) = isNumber (number .0) ≡ true → 6 ≤ n
+Long n (some (form.resultLine clock number kind)) = Unit {0}
 
 -- what holds of nothing, and of what is read from everything that can be read first
 bind-each : {X Y : Type 0} (P : Option Y → Type 0) (m : Option X) (f : X → Option Y) → P none → ((x : X) → m ≡ some x → P (f x)) → P (m >>= f)
@@ -103,7 +103,7 @@ module _ (rest : List ℕ) where
   unfolding sendingForm
   sending-long =
       bind-each IsLong (behindField rest) _ tt (λ last b.
-      bind-each IsLong (valueBelow (2 ^ 32) (fieldAt rest)) _ tt (λ clock c.
+      bind-each IsLong (valueBelow (2 ^ 32) (firstField rest)) _ tt (λ clock c.
       bind-each IsLong (askedOf last) _ tt (λ w a h. omega (arith, asked-long last w a h, behind-shorter rest last b))))
 
   number-long : IsLong (form.numberForm rest)
@@ -114,19 +114,19 @@ module _ (rest : List ℕ) where
   unfolding form.subscriberForm
   subscriber-long =
       bind-each IsLong (behindField rest) _ tt (λ last b.
-      bind-each IsLong (form.numberOf (fieldAt rest)) _ tt (λ w e. bind-each IsLong (valueBelow 4 last) _ tt (λ flags v. tt)))
+      bind-each IsLong (form.numberOf (firstField rest)) _ tt (λ w e. bind-each IsLong (valueBelow 4 last) _ tt (λ flags v. tt)))
 
   request-long : IsLong (form.requestForm rest)
   unfolding form.requestForm
-  request-long = bind-each IsLong (behindField rest) _ tt (λ string b. bind-each IsLong (askedOf (fieldAt rest)) _ tt (λ w a. tt))
+  request-long = bind-each IsLong (behindField rest) _ tt (λ string b. bind-each IsLong (askedOf (firstField rest)) _ tt (λ w a. tt))
 
   result-long : IsLong (form.resultForm rest)
-  unfolding form.resultForm form.resultAt
+  unfolding form.resultForm form.resultFields
   result-long =
       bind-each IsLong (behindField rest) _ tt (λ fields b.
-      bind-each IsLong (valueBelow (2 ^ 32) (fieldAt rest)) _ tt (λ clock c.
+      bind-each IsLong (valueBelow (2 ^ 32) (firstField rest)) _ tt (λ clock c.
       bind-each IsLong (behindField fields) _ tt (λ last d.
-      bind-each IsLong (askedOf (fieldAt fields)) _ tt (λ w a. bind-each IsLong (valueBelow (2 ^ 32) last) _ tt (λ kind v. tt)))))
+      bind-each IsLong (askedOf (firstField fields)) _ tt (λ w a. bind-each IsLong (valueBelow (2 ^ 32) last) _ tt (λ kind v. tt)))))
 
   letter-long : (letter : ℕ) → IsLong (lettered letter rest)
   unfolding lettered
@@ -153,7 +153,7 @@ pub record Bounded (line : List ℕ) (e : Effect) : Type 0 where
   pub times : length (e .prints) ≤ 7 * (length line + 1)
 
 -- nothing, or `?`
-filled-bounded : (line : List ℕ) (b : Bool) (next p : Program) → Bounded line (filled b next p)
+filled-bounded : (line : List ℕ) (b : Bool) (next p : Program) → Bounded line (mayFill b next p)
 filled-bounded line true next p = record { most = omega arith; times = omega arith }
 filled-bounded line false next p = record { most = omega arith; times = omega arith }
 
@@ -176,20 +176,20 @@ module _ (line : List ℕ) (p : Program) where
   effect-bounded : (f : Option Form) → formOf line ≡ f → Bounded line (effectOf f p)
   unfolding numbered subscribed requested dispatched reported
   effect-bounded none e = record { most = omega arith; times = omega arith }
-  effect-bounded (some (form.number n)) e =
+  effect-bounded (some (form.numberLine n)) e =
       filled-bounded line (p .filling && mayFollow rowWords mostNumbers (n .0) (p .table)) (withNumber n p) p
-  effect-bounded (some (form.subscriber m flags)) e =
+  effect-bounded (some (form.subscriberLine m flags)) e =
       filled-bounded line (p .filling && mayFollow subscriberWords mostSubscribers (m .0) (p .list)) (withSubscriber m flags p) p
-  effect-bounded (some (form.request m string)) e =
-      let l = form-long line (form.request m string) e in
+  effect-bounded (some (form.requestLine m string)) e =
+      let l = form-long line (form.requestLine m string) e in
       replied-bounded (code "R") (asked m string (p .table) (p .list)) (omega arith) (asked-replies m string (p .table) (p .list))
-  effect-bounded (some (form.sending clock n)) e =
-      let l = form-long line (form.sending clock n) e in
+  effect-bounded (some (form.sendingLine clock n)) e =
+      let l = form-long line (form.sendingLine clock n) e in
       let longer : isNumber (n .0) ≡ true → 8 ≤ length line = λ h. let k = l .2 h in omega arith in
-      sent-bounded (code "T") (notices.sending (p .table) buffer n 0 clock) n (omega arith) longer (sending-sends (p .table) buffer n 0 clock)
-  effect-bounded (some (form.result clock n kind)) e =
-      let l = form-long line (form.result clock n kind) e in
-      replied-bounded (code "D") (notices.result (p .table) n kind clock) (omega arith) (result-replies (p .table) n kind clock)
+      sent-bounded (code "T") (notices.sendingNotice (p .table) lentBuffer n 0 clock) n (omega arith) longer (sending-sends (p .table) lentBuffer n 0 clock)
+  effect-bounded (some (form.resultLine clock n kind)) e =
+      let l = form-long line (form.resultLine clock n kind) e in
+      replied-bounded (code "D") (notices.takingResult (p .table) n kind clock) (omega arith) (result-replies (p .table) n kind clock)
 
   pub line-bounded : Bounded line (lineEffect line p)
   unfolding lineEffect

@@ -19,8 +19,8 @@ use Rattle.numbers.specs.declared.Msisdn.{Msisdn}
 use Rattle.rules.specs.Answers.{Answer, refusal, Outcome, made}
 use Rattle.rules.specs.Requests as requests
 use Rattle.visits.proofs.Texts.{counts-only}
-use Rattle.replies.specs.Replies.{said, Printable}
-use Rattle.lines.specs.Program.{buffer, asked}
+use Rattle.replies.specs.Replies.{behindLetter, Printable}
+use Rattle.lines.specs.Program.{lentBuffer, asked}
 use Rattle.answers.specs.Writing.{Stands}
 use Rattle.lines.specs.Memory.{Answered}
 use Rattle.lines.proofs.Bounds.{said-room}
@@ -30,25 +30,25 @@ module _ (a : Answer) (table b : List ℕ) (o : Outcome) (e : made a table b ≡
   pub printable-by : Printable (o .answer) (o .buffer) → Printable a b
   printable-by = subst⁻¹ (λ (x : Outcome). Printable (x .answer) (x .buffer)) e
 
-  pub answered-by : {old new : List ℕ} {n : ℕ} → Printable (o .answer) (o .buffer) → Stands (said a b) old n new → Answered o table old new n
+  pub answered-by : {old new : List ℕ} {n : ℕ} → Printable (o .answer) (o .buffer) → Stands (behindLetter a b) old n new → Answered o table old new n
   answered-by {old} {new} {n} h p =
       subst (λ (x : Outcome). Answered x table old new n) e (record { leaves = refl; says = p; short = rw (p .count) (said-room (made a table b) (printable-by h)) })
 
 -- where the packer has room and does not count, it does not take the string
 pub pack-fails :
-    (cs out new : List ℕ) (r : Written) → writing.made r new ≡ packing cs out → octetsFor (length cs) ≤ length out → OneOf (1 ∷ 2 ∷ []) (tagOf the-type r)
+    (cs out new : List ℕ) (r : Written) → writing.madeWrite r new ≡ packing cs out → octetsFor (length cs) ≤ length out → OneOf (1 ∷ 2 ∷ []) (tagOf the-type r)
     → takes cs ≡ false
 pack-fails cs out new (Count n) e h o = counts-only (Count n) n refl o
 pack-fails cs out new TooShort e h o = absurd (not-le-of-lt (pack-short cs out TooShort new e refl .0) h)
 pack-fails cs out new Unfit e h o = pack-unfit cs out Unfit new e refl .1
 
-pub asked-unfit : (m : Msisdn) (string table list : List ℕ) → takes string ≡ false → made (refusal 9) table buffer ≡ asked m string table list
+pub asked-unfit : (m : Msisdn) (string table list : List ℕ) → takes string ≡ false → made (refusal 9) table lentBuffer ≡ asked m string table list
 unfolding asked
 asked-unfit m string table list t = rw t
 
 pub asked-fit :
     (m : Msisdn) (string table list : List ℕ) → takes string ≡ true
-    → requests.request table list buffer m requests.codingScheme (packed string) ≡ asked m string table list
+    → requests.requesting table list lentBuffer m requests.codingScheme (packed string) ≡ asked m string table list
 unfolding asked
 asked-fit m string table list t = rw t
 

@@ -19,9 +19,9 @@ use Rattle.rules.specs.Answers.{Outcome}
 use Rattle.lines.specs.declared.State.{State}
 use Rattle.lines.specs.declared.Done.{Done}
 use Rattle.forms.specs.Lines.{lineFeed, space}
-use Rattle.lines.specs.Program.{Program, Effect, questioned, lastKey, mayFollow, filled, withNumber, numbered, withSubscriber, subscribed, answered}
+use Rattle.lines.specs.Program.{Program, Effect, questioned, lastKey, mayFollow, mayFill, withNumber, numbered, withSubscriber, subscribed, answered}
 use Rattle.answers.specs.Writing.{Stands}
-use Rattle.lines.specs.Memory.{Answered, held, Fits, lineRoom, Did, ending}
+use Rattle.lines.specs.Memory.{Answered, programIn, Fits, lineRoom, Did, ending}
 use Rattle.answers.proofs.Parts.{rest-of, rest-back}
 use Rattle.answers.proofs.Parts.{stands-behind}
 
@@ -80,7 +80,7 @@ module _ (n : FunctionalNumber) (p : Program) where
   unfolding numbered
   numbered-over m = rw (and-no (p .filling) (mayFollow rowWords mostNumbers (n .0) (p .table)) m)
 
-  pub numbered-in : p .filling ≡ true → mayFollow rowWords mostNumbers (n .0) (p .table) ≡ true → numbered n p ≡ filled true (withNumber n p) p
+  pub numbered-in : p .filling ≡ true → mayFollow rowWords mostNumbers (n .0) (p .table) ≡ true → numbered n p ≡ mayFill true (withNumber n p) p
   unfolding numbered
   numbered-in f m = rw (f, m)
 
@@ -93,7 +93,7 @@ module _ (m : Msisdn) (flags : ℕ) (p : Program) where
   unfolding subscribed
   subscribed-over e = rw (and-no (p .filling) (mayFollow subscriberWords mostSubscribers (m .0) (p .list)) e)
 
-  pub subscribed-in : p .filling ≡ true → mayFollow subscriberWords mostSubscribers (m .0) (p .list) ≡ true → subscribed m flags p ≡ filled true (withSubscriber m flags p) p
+  pub subscribed-in : p .filling ≡ true → mayFollow subscriberWords mostSubscribers (m .0) (p .list) ≡ true → subscribed m flags p ≡ mayFill true (withSubscriber m flags p) p
   unfolding subscribed
   subscribed-in f e = rw (f, e)
 
@@ -124,7 +124,7 @@ pub line-did :
     → Fits s table list → Stands (letter ∷ space ∷ []) out h mid → Answered o t (take (length mid - h) (drop h mid)) part n
     → length t ≡ rowWords * s .numbers → h + n < length (putMid h (length mid - h) mid part)
     → d ≡ ending s (h + n) → new ≡ set (putMid h (length mid - h) mid part) (h + n) lineFeed
-    → Did (answered letter o (held s table list)) s table list out d (t ++ drop (rowWords * s .numbers) table) list new
+    → Did (answered letter o (programIn s table list)) s table list out d (t ++ drop (rowWords * s .numbers) table) list new
 line-did {s = s} {table} {list} stands head body rows room ended written =
     rw (ended, written)
     (record {

@@ -23,7 +23,7 @@ use Rattle.numbers.specs.declared.FunctionalNumber.{FunctionalNumber}
 use Rattle.numbers.specs.declared.Msisdn.{Msisdn}
 use Rattle.strings.specs.declared.Operation.{Operation}
 use Rattle.strings.specs.declared.Operation.the-variants.{Register, Erase, Interrogate}
-use Rattle.strings.specs.Text.{Request, textOf, noticeOf}
+use Rattle.strings.specs.Text.{Request, textOf, noticeFields}
 use Rattle.strings.specs.Outcomes.{requestOf}
 use Rattle.tables.specs.declared.Found.{Found}
 use Rattle.tables.specs.declared.Found.the-variants.{At, Nothing}
@@ -35,12 +35,12 @@ use Rattle.rows.proofs.Rows.{record-sound}
 use Rattle.rows.proofs.Kept.{pending-words}
 use Rattle.tables.specs.Tables.{tableSound, rowOf, recordOf}
 use Rattle.tables.proofs.Stored.{record-found}
-use Rattle.rules.specs.Answers.{Answer, refusal, error, outcome, holder, sent, delivered, dropped, again, found, noneDue, Outcome, made, twoDigits, holderText, over, octetCount, refusing}
+use Rattle.rules.specs.Answers.{Answer, refusal, error, outcome, holderIs, sentTo, delivered, dropped, again, found, noneDue, Outcome, made, twoDigits, holderText, packedOver, octetCount, refusing}
 use Rattle.rules.specs.Requests as requests
 use Rattle.rules.specs.Notices as notices
 use Rattle.rules.proofs.Visits.{found-sound, found-number}
 use Rattle.visits.proofs.Texts.{takes-two}
-use Rattle.lines.specs.Program.{buffer, asked}
+use Rattle.lines.specs.Program.{lentBuffer, asked}
 use Rattle.replies.specs.Replies.{Text, mostReplyOctets, mostNoticeOctets, Printable}
 
 -- ---- digits, of any word
@@ -65,20 +65,20 @@ takes-digits (suc room) w = go (ltb w 10) (takes-digits room (w / 10))
 
 -- ---- a packed text at the front of a buffer
 
-text-stands : (most : ℕ) (text buffer : List ℕ) → takes text ≡ true → octetsFor (length text) ≤ most → Text most (octetCount text) (over text buffer)
-text-stands most text buffer t h = record {
-  within = omega (arith, length-append (packed text) (drop (length (packed text)) buffer));
+text-stands : (most : ℕ) (text lentBuffer : List ℕ) → takes text ≡ true → octetsFor (length text) ≤ most → Text most (octetCount text) (packedOver text lentBuffer)
+text-stands most text lentBuffer t h = record {
+  within = omega (arith, length-append (packed text) (drop (length (packed text)) lentBuffer));
   short = rw length-packed h;
   reads = rw take-append-seam (packed-reads text t);
 }
 
 -- ---- a request
 
-said-stands : (n : ℕ) (reply : List ℕ) → n < 256 → Text mostReplyOctets (octetCount (twoDigits n)) (over (twoDigits n) reply)
+said-stands : (n : ℕ) (reply : List ℕ) → n < 256 → Text mostReplyOctets (octetCount (twoDigits n)) (packedOver (twoDigits n) reply)
 unfolding octetsFor
 said-stands n reply h = text-stands mostReplyOctets (twoDigits n) reply (takes-two n h) (omega arith)
 
-held-stands : (w : ℕ) (reply : List ℕ) → Text mostReplyOctets (octetCount (holderText w)) (over (holderText w) reply)
+held-stands : (w : ℕ) (reply : List ℕ) → Text mostReplyOctets (octetCount (holderText w)) (packedOver (holderText w) reply)
 unfolding octetsFor each taken digitsOf
 held-stands w reply = text-stands mostReplyOctets (holderText w) reply (takes-digits 15 w) (omega (arith, digits-short 15 w))
 
@@ -86,8 +86,8 @@ abbrev pub isSent : Answer → Bool
 isSent (refusal n) = false
 isSent (error n) = false
 isSent (outcome n count) = false
-isSent (holder msisdn count) = false
-isSent (sent addressee count) = true
+isSent (holderIs msisdn count) = false
+isSent (sentTo addressee count) = true
 isSent delivered = false
 isSent dropped = false
 isSent again = false
@@ -112,8 +112,8 @@ module _ (table list reply : List ℕ) (requester : Msisdn) (scheme : ℕ) (stri
   done-replies (some f) Nothing = says 41 table reply (omega arith)
   done-replies (some f) (At i) = carried-replies (f .operation) f i
 
-  request-replies : Replies (requests.request table list reply requester scheme string)
-  unfolding requests.requestChecks requests.request
+  request-replies : Replies (requests.requesting table list reply requester scheme string)
+  unfolding requests.requestChecks requests.requesting
   request-replies =
       decide-each Replies (requests.requestChecks table list reply requester scheme string) _ (
         (tt, refl),
@@ -155,8 +155,8 @@ pub asked-replies : (m : Msisdn) (string table list : List ℕ) → Replies (ask
 unfolding asked
 asked-replies m string table list = go (takes string)
   where
-    go : (b : Bool) → Replies (cond b (requests.request table list buffer m requests.codingScheme (packed string)) (made (refusal 9) table buffer))
-    go true = request-replies table list buffer m requests.codingScheme (packed string)
+    go : (b : Bool) → Replies (cond b (requests.requesting table list lentBuffer m requests.codingScheme (packed string)) (made (refusal 9) table lentBuffer))
+    go true = request-replies table list lentBuffer m requests.codingScheme (packed string)
     go false = (tt, refl)
 
 -- ---- a result
@@ -171,8 +171,8 @@ module _ (table : List ℕ) (number : FunctionalNumber) (kind clock : ℕ) where
   result-at-replies Nothing = (tt, refl)
   result-at-replies (At i) = returned-replies (eqb kind 0) (notices.clears kind (recordAt table i .notice))
 
-  pub result-replies : Replies (notices.result table number kind clock)
-  unfolding notices.result
+  pub result-replies : Replies (notices.takingResult table number kind clock)
+  unfolding notices.takingResult
   result-replies =
       decide-each Replies
       (refusing table [] (notices.resultChecks (tableSound table) (number .0) (recordOf table (number .0)) kind))
@@ -192,11 +192,11 @@ notice-short : (a b : List ℕ) → length a ≤ 15 → length b ≤ 15 → octe
 unfolding octetsFor
 notice-short a b p q = omega (arith, length-append a (ascii "*88*" ++ (b ++ ascii "*#")), length-append b (ascii "*#"))
 
-notice-stands : (number : FunctionalNumber) (supervisor : Msisdn) (buffer : List ℕ)
-    → Text mostNoticeOctets (octetCount (textOf (noticeOf number supervisor))) (over (textOf (noticeOf number supervisor)) buffer)
-unfolding textOf noticeOf digitsOf
-notice-stands number supervisor buffer =
-    text-stands mostNoticeOctets (textOf (noticeOf number supervisor)) buffer
+notice-stands : (number : FunctionalNumber) (supervisor : Msisdn) (lentBuffer : List ℕ)
+    → Text mostNoticeOctets (octetCount (textOf (noticeFields number supervisor))) (packedOver (textOf (noticeFields number supervisor)) lentBuffer)
+unfolding textOf noticeFields digitsOf
+notice-stands number supervisor lentBuffer =
+    text-stands mostNoticeOctets (textOf (noticeFields number supervisor)) lentBuffer
     (notice-taken _ _ (takes-digits 15 (number .0)) (takes-digits 15 (supervisor .0)))
     (notice-short (digitsOf (number .0)) (digitsOf (supervisor .0)) (digits-short 15 (number .0)) (digits-short 15 (supervisor .0)))
 
@@ -205,7 +205,7 @@ present Absent h = no-path h
 present (Waiting k s) h = refl
 present (InFlight k) h = refl
 
-module _ (table buffer : List ℕ) (number : FunctionalNumber) (delay clock : ℕ) where
+module _ (table lentBuffer : List ℕ) (number : FunctionalNumber) (delay clock : ℕ) where
   -- what an outcome says can be printed, and what is sent names a number
   abbrev pub Sends : Outcome → Type 0
   Sends o = Printable (o .answer) (o .buffer) × (isSent (o .answer) ≡ true → isNumber (number .0) ≡ true)
@@ -215,25 +215,25 @@ module _ (table buffer : List ℕ) (number : FunctionalNumber) (delay clock : �
   refuses e = no-path e
 
   abbrev checks : List (Bool × Outcome)
-  checks = refusing table buffer (notices.sendingChecks (tableSound table) buffer (number .0) (recordOf table (number .0)) delay clock)
+  checks = refusing table lentBuffer (notices.sendingChecks (tableSound table) lentBuffer (number .0) (recordOf table (number .0)) delay clock)
 
-  sent-sends : AllPass checks → (place : Found) → rowOf table (number .0) ≡ place → Sends (notices.sentAt number place table buffer)
+  sent-sends : AllPass checks → (place : Found) → rowOf table (number .0) ≡ place → Sends (notices.sentAt number place table lentBuffer)
   sent-sends pass Nothing e = (tt, refuses)
   sent-sends pass (At i) e =
       let sound : tableSound table ≡ true = not-false _ (pass .1 .0) in
       let r = recordAt table i in
       let waits : isWaiting (r .notice) ≡ true = rw (record-found table (number .0) i e) at (not-false (isWaiting (notices.noticeIn (recordOf table (number .0)))) (pass .1 .1 .1 .1 .0)) in
       let words = pending-words r (record-sound table i (found-sound table (number .0) i sound e)) (present (r .notice) waits) in
-      ((words .addressed, notice-stands number (r .supervisor) buffer), λ _. found-number table (number .0) i sound e)
+      ((words .addressed, notice-stands number (r .supervisor) lentBuffer), λ _. found-number table (number .0) i sound e)
 
-  pub sending-sends : Sends (notices.sending table buffer number delay clock)
-  unfolding notices.sending
+  pub sending-sends : Sends (notices.sendingNotice table lentBuffer number delay clock)
+  unfolding notices.sendingNotice
   sending-sends = go (anyHolds checks) refl
     where
       done : Outcome
-      done = notices.sentAt number (rowOf table (number .0)) table buffer
+      done = notices.sentAt number (rowOf table (number .0)) table lentBuffer
 
       go : (b : Bool) → anyHolds checks ≡ b → Sends (decide checks done)
-      go true h = rw (one-holds checks done (made (refusal 7) table buffer) h) (decide-each Sends checks (made (refusal 7) table buffer)
+      go true h = rw (one-holds checks done (made (refusal 7) table lentBuffer) h) (decide-each Sends checks (made (refusal 7) table lentBuffer)
           ((tt, refuses), ((tt, refuses), ((tt, refuses), ((tt, refuses), ((tt, refuses), ((tt, refuses), tt)))))) (tt, refuses))
       go false h = rw (none-holds checks done h) (sent-sends (all-pass checks h) (rowOf table (number .0)) refl)

@@ -14,9 +14,9 @@ use Rattle.tables.specs.Tables.{subscriberWords}
 use Rattle.lines.specs.declared.State.{State}
 use Rattle.lines.specs.declared.Done.{Done}
 use Rattle.forms.specs.Lines.{lineFeed, linesOf}
-use Rattle.lines.specs.Program.{Program, Effect, behind, lineEffect, linesEffect, programEffect, outputOf}
-use Rattle.answers.specs.Writing.{Stands}
-use Rattle.lines.specs.Memory.{held, Fits, Did, Lent, Ran, ran, over, running}
+use Rattle.lines.specs.Program.{Program, Effect, printedBehind, lineEffect, linesEffect, programEffect, outputOf}
+use Rattle.answers.specs.Writing.{Stands, over}
+use Rattle.lines.specs.Memory.{programIn, Fits, Did, Lent, Ran, ran, running}
 use Rattle.forms.proofs.Places.{lines-first}
 use Rattle.lines.proofs.Bounds.{line-bounded}
 
@@ -28,7 +28,7 @@ pub record Run (input table list out : List ℕ) (s : State) (at n : ℕ) (t l o
   pub outLong : length o ≡ length out
   pub near : at ≤ length input + 1
   pub most : n ≤ 7 * at
-  pub effect : programEffect input ≡ behind (take n o) (linesEffect (linesOf (drop at input)) (held s t l))
+  pub effect : programEffect input ≡ printedBehind (take n o) (linesEffect (linesOf (drop at input)) (programIn s t l))
   pub tableStays : drop (rowWords * s .numbers) t ≡ drop (rowWords * s .numbers) table
   pub listStays : drop (subscriberWords * s .subscribers) l ≡ drop (subscriberWords * s .subscribers) list
   pub outStays : drop n o ≡ drop n out
@@ -73,18 +73,18 @@ lines-next : (input : List ℕ) (at end : ℕ) → at < length input → end ≡
 lines-next input at end h e =
     lines-first (drop at input) (omega (arith, length-drop at input)) ∙ rw (← e, drop-drop (end + 1) at input)
 
-behind-behind : (a b : List ℕ) (e : Effect) → behind a (behind b e) ≡ behind (a ++ b) e
+behind-behind : (a b : List ℕ) (e : Effect) → printedBehind a (printedBehind b e) ≡ printedBehind (a ++ b) e
 behind-behind a b e = λ i. record { prints = sym (append-assoc a b (e .prints)) i; leaves = e .leaves }
 
 -- what the first of the lines prints stands in front of what the others print
 first-line :
     (input printed : List ℕ) (p : Program) (at end : ℕ) → at < length input → end ≡ indexOf lineFeed (drop at input)
-    → behind printed (linesEffect (linesOf (drop at input)) p)
-    ≡ behind (printed ++ lineEffect (take end (drop at input)) p .prints)
+    → printedBehind printed (linesEffect (linesOf (drop at input)) p)
+    ≡ printedBehind (printed ++ lineEffect (take end (drop at input)) p .prints)
     (linesEffect (linesOf (drop (at + (end + 1)) input)) (lineEffect (take end (drop at input)) p .leaves))
 unfolding linesEffect
 first-line input printed p at end h e =
-    ap (λ (ls : List (List ℕ)). behind printed (linesEffect ls p)) (lines-next input at end h e)
+    ap (λ (ls : List (List ℕ)). printedBehind printed (linesEffect ls p)) (lines-next input at end h e)
     ∙ behind-behind printed (lineEffect (take end (drop at input)) p .prints) _
 
 -- a part written behind the first n words
@@ -103,19 +103,19 @@ module _
 
   module _
       {end : ℕ} (found : (end ≡ indexOf lineFeed (drop at input)) × (end ≤ length (drop at input))) {d : Done} {newTable newList part : List ℕ}
-      (did : Did (lineEffect (take end (drop at input)) (held s t l)) s t l (take (length o - n) (drop n o)) d newTable newList part)
+      (did : Did (lineEffect (take end (drop at input)) (programIn s t l)) s t l (take (length o - n) (drop n o)) d newTable newList part)
       (sameTable : length newTable ≡ length t) (sameList : length newList ≡ length l) (samePart : length part ≡ length (take (length o - n) (drop n o))) where
     abbrev line : List ℕ
     line = take end (drop at input)
 
     abbrev effect : Effect
-    effect = lineEffect line (held s t l)
+    effect = lineEffect line (programIn s t l)
 
     pub printed-most : d .printed ≤ 7 * (end + 1)
-    printed-most = omega (arith, did .printed .count, line-bounded line (held s t l) .times, length-take-le end (drop at input) (found .1))
+    printed-most = omega (arith, did .printed .count, line-bounded line (programIn s t l) .times, length-take-le end (drop at input) (found .1))
 
-    left : held (d .state) newTable newList ≡ effect .leaves
-    left = program-same (held (d .state) newTable newList) (effect .leaves) (put-front (did .numbers)) (put-front (did .subscribers)) (did .filling)
+    left : programIn (d .state) newTable newList ≡ effect .leaves
+    left = program-same (programIn (d .state) newTable newList) (effect .leaves) (put-front (did .numbers)) (put-front (did .subscribers)) (did .filling)
 
     -- the output, with what the line printed behind what was printed before
     wide : n ≤ length o
@@ -151,7 +151,7 @@ module _
       most = omega (arith, before .most, printed-most);
       effect =
           before .effect
-          ∙ first-line input (take n o) (held s t l) at end more (found .0)
+          ∙ first-line input (take n o) (programIn s t l) at end more (found .0)
           ∙ rw (front, left);
       tableStays = put-rest (did .numbers) ∙ later (rowWords * s .numbers) (rowWords * d .state .numbers) t table (omega (arith, did .moreNumbers)) (before .tableStays);
       listStays = put-rest (did .subscribers) ∙ later (subscriberWords * s .subscribers) (subscriberWords * d .state .subscribers) l list (omega (arith, did .moreSubscribers)) (before .listStays);
@@ -171,7 +171,7 @@ pub run-end :
 unfolding linesEffect linesOf running
 run-end input table list out s at n t l o run lent done =
     let wide : n ≤ length o = omega (arith, run .most, run .near, lent .room, run .outLong) in
-    let e : programEffect input ≡ record { prints = take n o; leaves = held s t l } = run .effect ∙ rw (drop-of-length-le input done, append-nil) in
+    let e : programEffect input ≡ record { prints = take n o; leaves = programIn s t l } = run .effect ∙ rw (drop-of-length-le input done, append-nil) in
     rw e
     (λ i. record {
       count = sym (length-take-le n o wide) i;

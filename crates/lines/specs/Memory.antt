@@ -2,28 +2,28 @@
 use mathlib.Core.Path.{_≡_}
 use Prim.Native.Nat.{ℕ, _+_, _*_, _≤_}
 use mathlib.Core.Bool.{false}
-use mathlib.Core.List.{List, _++_}
-use lib.ListN.{length, take, drop}
+use mathlib.Core.List.{List}
+use lib.ListN.{length, take}
 use Rattle.rows.specs.Rows.{rowWords}
 use Rattle.tables.specs.Tables.{mostNumbers, subscriberWords, mostSubscribers}
 use Rattle.rules.specs.Answers.{Outcome}
 use Rattle.lines.specs.declared.State.{State}
 use Rattle.lines.specs.declared.Done.{Done}
 use Rattle.lines.specs.Program.{Program, Effect, programEffect}
-use Rattle.answers.specs.Writing.{Stands}
-use Rattle.replies.specs.Replies.{said, answerRoom}
+use Rattle.answers.specs.Writing.{Stands, over}
+use Rattle.replies.specs.Replies.{behindLetter, answerRoom}
 
 -- a call's outcome: its table, and what it says, written
 pub record Answered (o : Outcome) (table old new : List ℕ) (n : ℕ) : Type 0 where
   pub leaves : table ≡ o .table
-  pub says : Stands (said (o .answer) (o .buffer)) old n new
+  pub says : Stands (behindLetter (o .answer) (o .buffer)) old n new
   pub short : n ≤ answerRoom
 
 -- ---- the program in memory
 
 -- the program that the lent words hold: the rows in use, and whether they are still being filled
-abbrev pub held : State → List ℕ → List ℕ → Program
-held s table list = record {
+abbrev pub programIn : State → List ℕ → List ℕ → Program
+programIn s table list = record {
   table = take (rowWords * s .numbers) table;
   list = take (subscriberWords * s .subscribers) list;
   filling = s .filling;
@@ -94,10 +94,6 @@ pub record Ran : Type 0 where
 
 abbrev pub ran : ℕ → List ℕ → List ℕ → List ℕ → Ran
 ran n table list out = record { count = n; table = table; list = list; out = out }
-
--- words over the front of lent ones; what lies beyond stays
-abbrev pub over : List ℕ → List ℕ → List ℕ
-over words lent = words ++ drop (length words) lent
 
 unfoldable pub running : List ℕ → List ℕ → List ℕ → List ℕ → Ran
 running input table list out =

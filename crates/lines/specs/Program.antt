@@ -15,8 +15,8 @@ use Rattle.tables.specs.Tables.{mostNumbers, subscriberWords, mostSubscribers}
 use Rattle.rules.specs.Answers.{refusal, Outcome, made, bufferRoom}
 use Rattle.rules.specs.Requests as requests
 use Rattle.rules.specs.Notices as notices
-use Rattle.replies.specs.Replies.{said}
-use Rattle.forms.specs.Lines.{lineFeed, space, linesOf, Form, number, subscriber, request, sending, result, formOf}
+use Rattle.replies.specs.Replies.{behindLetter}
+use Rattle.forms.specs.Lines.{lineFeed, space, linesOf, Form, numberLine, subscriberLine, requestLine, sendingLine, resultLine, formOf}
 
 -- the words of the table and of the list, and whether they are still being filled
 pub record Program : Type 0 where
@@ -47,8 +47,8 @@ unfoldable pub mayFollow : ℕ → ℕ → ℕ → List ℕ → Bool
 mayFollow width most key words = ltb (length words / width) most && ltb (lastKey width words) key
 
 -- "`N` number and `S` MSISDN flags fill table and list … before any `R`, `T` or `D`, and print nothing"
-abbrev pub filled : Bool → Program → Program → Effect
-filled allowed next p = cond allowed (record { prints = []; leaves = next }) (questioned p)
+abbrev pub mayFill : Bool → Program → Program → Effect
+mayFill allowed next p = cond allowed (record { prints = []; leaves = next }) (questioned p)
 
 -- a number's row, free and with no notice
 abbrev pub freeRow : FunctionalNumber → List ℕ
@@ -58,7 +58,7 @@ abbrev pub withNumber : FunctionalNumber → Program → Program
 withNumber n p = record { table = p .table ++ freeRow n; list = p .list; filling = p .filling }
 
 unfoldable pub numbered : FunctionalNumber → Program → Effect
-numbered n p = filled (p .filling && mayFollow rowWords mostNumbers (n .0) (p .table)) (withNumber n p) p
+numbered n p = mayFill (p .filling && mayFollow rowWords mostNumbers (n .0) (p .table)) (withNumber n p) p
 
 abbrev pub subscriberRow : Msisdn → ℕ → List ℕ
 subscriberRow m flags = m .0 ∷ flags ∷ []
@@ -67,25 +67,25 @@ abbrev pub withSubscriber : Msisdn → ℕ → Program → Program
 withSubscriber m flags p = record { table = p .table; list = p .list ++ subscriberRow m flags; filling = p .filling }
 
 unfoldable pub subscribed : Msisdn → ℕ → Program → Effect
-subscribed m flags p = filled (p .filling && mayFollow subscriberWords mostSubscribers (m .0) (p .list)) (withSubscriber m flags p) p
+subscribed m flags p = mayFill (p .filling && mayFollow subscriberWords mostSubscribers (m .0) (p .list)) (withSubscriber m flags p) p
 
 -- ---- answers
 
 -- an answer to an `R`, `T` or `D`, which ends the filling
 abbrev pub answered : ℕ → Outcome → Program → Effect
 answered letter o p = record {
-  prints = letter ∷ space ∷ said (o .answer) (o .buffer) ++ (lineFeed ∷ []);
+  prints = letter ∷ space ∷ behindLetter (o .answer) (o .buffer) ++ (lineFeed ∷ []);
   leaves = record { table = o .table; list = p .list; filling = false };
 }
 
 -- the buffer that each request and each sending is lent
-abbrev pub buffer : List ℕ
-buffer = replicate bufferRoom 0
+abbrev pub lentBuffer : List ℕ
+lentBuffer = replicate bufferRoom 0
 
 -- "the program packs it", and "one the packer refuses" is refused 9, whoever the requester is
 unfoldable pub asked : Msisdn → List ℕ → List ℕ → List ℕ → Outcome
 asked m string table list =
-    cond (takes string) (requests.request table list buffer m requests.codingScheme (packed string)) (made (refusal 9) table buffer)
+    cond (takes string) (requests.requesting table list lentBuffer m requests.codingScheme (packed string)) (made (refusal 9) table lentBuffer)
 
 -- "`R` requester string (unpacked …) prints `R` and the reply text"
 unfoldable pub requested : Msisdn → List ℕ → Program → Effect
@@ -93,33 +93,33 @@ requested m string p = answered (code "R") (asked m string (p .table) (p .list))
 
 -- "`T` now number prints `T`, addressee, notice", with "delay 0"
 unfoldable pub dispatched : ℕ → FunctionalNumber → Program → Effect
-dispatched now n p = answered (code "T") (notices.sending (p .table) buffer n 0 now) p
+dispatched now n p = answered (code "T") (notices.sendingNotice (p .table) lentBuffer n 0 now) p
 
 -- "`D` now number kind prints `D delivered`, `D dropped` or `D again`"
 unfoldable pub reported : ℕ → FunctionalNumber → ℕ → Program → Effect
-reported now n kind p = answered (code "D") (notices.result (p .table) n kind now) p
+reported now n kind p = answered (code "D") (notices.takingResult (p .table) n kind now) p
 
 -- ---- lines
 
 abbrev pub effectOf : Option Form → Program → Effect
 effectOf none p = questioned p
-effectOf (some (number n)) p = numbered n p
-effectOf (some (subscriber m flags)) p = subscribed m flags p
-effectOf (some (request m string)) p = requested m string p
-effectOf (some (sending now n)) p = dispatched now n p
-effectOf (some (result now n kind)) p = reported now n kind p
+effectOf (some (numberLine n)) p = numbered n p
+effectOf (some (subscriberLine m flags)) p = subscribed m flags p
+effectOf (some (requestLine m string)) p = requested m string p
+effectOf (some (sendingLine now n)) p = dispatched now n p
+effectOf (some (resultLine now n kind)) p = reported now n kind p
 
 unfoldable pub lineEffect : List ℕ → Program → Effect
 lineEffect line p = effectOf (formOf line) p
 
 -- an effect behind what was printed before
-abbrev pub behind : List ℕ → Effect → Effect
-behind printed e = record { prints = printed ++ e .prints; leaves = e .leaves }
+abbrev pub printedBehind : List ℕ → Effect → Effect
+printedBehind printed e = record { prints = printed ++ e .prints; leaves = e .leaves }
 
 -- lines one after the other, each on the program that the one before it leaves
 unfoldable pub linesEffect : List (List ℕ) → Program → Effect
 linesEffect [] p = record { prints = []; leaves = p }
-linesEffect (line ∷ lines) p = let e = lineEffect line p in behind (e .prints) (linesEffect lines (e .leaves))
+linesEffect (line ∷ lines) p = let e = lineEffect line p in printedBehind (e .prints) (linesEffect lines (e .leaves))
 
 -- the whole input, from empty table and list on
 unfoldable pub programEffect : List ℕ → Effect

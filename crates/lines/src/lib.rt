@@ -19,11 +19,11 @@ ghost use Rattle.rows.specs.Rows.{rowWords};
 ghost use Rattle.tables.specs.Tables.{subscriberWords};
 ghost use Rattle.rules.specs.Notices as notices;
 ghost use Rattle.forms.specs.Lines.{lineFeed};
-ghost use Rattle.lines.specs.Program.{questioned, lastKey, mayFollow, numbered, subscribed, buffer, asked, requested, dispatched, reported, effectOf, lineEffect};
+ghost use Rattle.lines.specs.Program.{questioned, lastKey, mayFollow, numbered, subscribed, lentBuffer, asked, requested, dispatched, reported, effectOf, lineEffect};
 ghost use Rattle.forms.specs.Reads.{formIn, startIn};
 ghost use Rattle.answers.specs.Writing.{Stands};
 ghost use Rattle.replies.specs.Replies.{answerRoom};
-ghost use Rattle.lines.specs.Memory.{held, tableWords, listWords, Fits, lineRoom, Did, Answered, ending, packedRoom, Lent, ran, running};
+ghost use Rattle.lines.specs.Memory.{programIn, tableWords, listWords, Fits, lineRoom, Did, Answered, ending, packedRoom, Lent, ran, running};
 
 // "It reads at most 64 KiB".
 const MOST_INPUT: usize = 65_536;
@@ -94,7 +94,7 @@ fn append(row: &[u64], used: usize, words: &mut [u64])
 // Any other line.
 fn question(state: State, out: &mut [u8]) -> Done
     requires { ⌜ lineRoom ≤ length (now out) ⌝ }
-    ensures { λ r. ⌜ ((table list : List ℕ) → Fits state table list → Did (questioned (held state table list)) state table list (now (out .entry)) r table list (now (out .exit))) ⌝ }
+    ensures { λ r. ⌜ ((table list : List ℕ) → Fits state table list → Did (questioned (programIn state table list)) state table list (now (out .entry)) r table list (now (out .exit))) ⌝ }
 {
     let printed = writers::put(b"?\n", out);
     Done { state, printed }
@@ -104,7 +104,7 @@ fn question(state: State, out: &mut [u8]) -> Done
 fn add_number(state: State, number: FunctionalNumber, table: &mut [u64], out: &mut [u8]) -> Done
     requires { ⌜ (rowWords * state .numbers ≤ length (now table)) × (tableWords ≤ length (now table)) ⌝ }
     requires { ⌜ lineRoom ≤ length (now out) ⌝ }
-    ensures { λ r. ⌜ ((list : List ℕ) → Fits state (now (table .entry)) list → Did (numbered number (held state (now (table .entry)) list)) state (now (table .entry)) list (now (out .entry)) r (now (table .exit)) list (now (out .exit))) ⌝ }
+    ensures { λ r. ⌜ ((list : List ℕ) → Fits state (now (table .entry)) list → Did (numbered number (programIn state (now (table .entry)) list)) state (now (table .entry)) list (now (out .entry)) r (now (table .exit)) list (now (out .exit))) ⌝ }
 {
     let rows = state.numbers;
     let used = ROW_WORDS * rows;
@@ -132,7 +132,7 @@ fn add_number(state: State, number: FunctionalNumber, table: &mut [u64], out: &m
 fn add_subscriber(state: State, msisdn: Msisdn, flags: u8, list: &mut [u64], out: &mut [u8]) -> Done
     requires { ⌜ (subscriberWords * state .subscribers ≤ length (now list)) × (listWords ≤ length (now list)) ⌝ }
     requires { ⌜ lineRoom ≤ length (now out) ⌝ }
-    ensures { λ r. ⌜ ((table : List ℕ) → Fits state table (now (list .entry)) → Did (subscribed msisdn flags (held state table (now (list .entry)))) state table (now (list .entry)) (now (out .entry)) r table (now (list .exit)) (now (out .exit))) ⌝ }
+    ensures { λ r. ⌜ ((table : List ℕ) → Fits state table (now (list .entry)) → Did (subscribed msisdn flags (programIn state table (now (list .entry)))) state table (now (list .entry)) (now (out .entry)) r table (now (list .exit)) (now (out .exit))) ⌝ }
 {
     let rows = state.subscribers;
     let used = SUBSCRIBER_WORDS * rows;
@@ -186,7 +186,7 @@ fn ask(
 // Sends the notice of a number, and writes what follows the `T`.
 fn send(clock: u32, number: FunctionalNumber, table: &mut [u64], out: &mut [u8]) -> usize
     requires { ⌜ answerRoom ≤ length (now out) ⌝ }
-    ensures { λ r. ⌜ Answered (notices.sending (now (table .entry)) buffer number 0 clock) (now (table .exit)) (now (out .entry)) (now (out .exit)) r ⌝ }
+    ensures { λ r. ⌜ Answered (notices.sendingNotice (now (table .entry)) lentBuffer number 0 clock) (now (table .exit)) (now (out .entry)) (now (out .exit)) r ⌝ }
 {
     let mut notice = [0u8; BUFFER_ROOM];
     let answer = node::sending(table, &mut notice, number, 0, clock);
@@ -202,7 +202,7 @@ fn report(
     out: &mut [u8],
 ) -> usize
     requires { ⌜ answerRoom ≤ length (now out) ⌝ }
-    ensures { λ r. ⌜ Answered (notices.result (now (table .entry)) number kind clock) (now (table .exit)) (now (out .entry)) (now (out .exit)) r ⌝ }
+    ensures { λ r. ⌜ Answered (notices.takingResult (now (table .entry)) number kind clock) (now (table .exit)) (now (out .entry)) (now (out .exit)) r ⌝ }
 {
     let answer = node::result(table, number, kind, clock);
     replies::put_result_answer(answer, out)
@@ -237,7 +237,7 @@ fn request_line(
 ) -> Done
     requires { ⌜ Fits state (now table) (now list) ⌝ }
     requires { ⌜ (octetsFor (length (now string)) ≤ length (now packed)) × (lineRoom ≤ length (now out)) ⌝ }
-    ensures { λ r. ⌜ Did (requested requester (now (string .entry)) (held state (now (table .entry)) (now (list .entry)))) state (now (table .entry)) (now (list .entry)) (now (out .entry)) r (now (table .exit)) (now (list .entry)) (now (out .exit)) ⌝ }
+    ensures { λ r. ⌜ Did (requested requester (now (string .entry)) (programIn state (now (table .entry)) (now (list .entry)))) state (now (table .entry)) (now (list .entry)) (now (out .entry)) r (now (table .exit)) (now (list .entry)) (now (out .exit)) ⌝ }
 {
     let words = ROW_WORDS * state.numbers;
     let entries = SUBSCRIBER_WORDS * state.subscribers;
@@ -262,7 +262,7 @@ fn sending_line(
     out: &mut [u8],
 ) -> Done
     requires { ⌜ (rowWords * state .numbers ≤ length (now table)) × (lineRoom ≤ length (now out)) ⌝ }
-    ensures { λ r. ⌜ ((list : List ℕ) → Fits state (now (table .entry)) list → Did (dispatched clock number (held state (now (table .entry)) list)) state (now (table .entry)) list (now (out .entry)) r (now (table .exit)) list (now (out .exit))) ⌝ }
+    ensures { λ r. ⌜ ((list : List ℕ) → Fits state (now (table .entry)) list → Did (dispatched clock number (programIn state (now (table .entry)) list)) state (now (table .entry)) list (now (out .entry)) r (now (table .exit)) list (now (out .exit))) ⌝ }
 {
     let words = ROW_WORDS * state.numbers;
     let at = writers::put(b"T ", out);
@@ -280,7 +280,7 @@ fn result_line(
     out: &mut [u8],
 ) -> Done
     requires { ⌜ (rowWords * state .numbers ≤ length (now table)) × (lineRoom ≤ length (now out)) ⌝ }
-    ensures { λ r. ⌜ ((list : List ℕ) → Fits state (now (table .entry)) list → Did (reported clock number kind (held state (now (table .entry)) list)) state (now (table .entry)) list (now (out .entry)) r (now (table .exit)) list (now (out .exit))) ⌝ }
+    ensures { λ r. ⌜ ((list : List ℕ) → Fits state (now (table .entry)) list → Did (reported clock number kind (programIn state (now (table .entry)) list)) state (now (table .entry)) list (now (out .entry)) r (now (table .exit)) list (now (out .exit))) ⌝ }
 {
     let words = ROW_WORDS * state.numbers;
     let at = writers::put(b"D ", out);
@@ -300,7 +300,7 @@ fn carry_out(
 ) -> Done
     requires { ⌜ (startIn line ≤ length (now rest)) × Fits state (now table) (now list) ⌝ }
     requires { ⌜ (octetsFor (length (now rest)) ≤ length (now packed)) × (lineRoom ≤ length (now out)) ⌝ }
-    ensures { λ r. ⌜ Did (effectOf (formIn (now (rest .entry)) line) (held state (now (table .entry)) (now (list .entry)))) state (now (table .entry)) (now (list .entry)) (now (out .entry)) r (now (table .exit)) (now (list .exit)) (now (out .exit)) ⌝ }
+    ensures { λ r. ⌜ Did (effectOf (formIn (now (rest .entry)) line) (programIn state (now (table .entry)) (now (list .entry)))) state (now (table .entry)) (now (list .entry)) (now (out .entry)) r (now (table .exit)) (now (list .exit)) (now (out .exit)) ⌝ }
 {
     match line {
         Line::Number(number) => add_number(state, number, table, out),
@@ -325,7 +325,7 @@ fn do_line(
 ) -> Done
     requires { ⌜ Fits state (now table) (now list) ⌝ }
     requires { ⌜ (octetsFor (length (now line)) ≤ length (now packed)) × (lineRoom ≤ length (now out)) ⌝ }
-    ensures { λ r. ⌜ Did (lineEffect (now (line .entry)) (held state (now (table .entry)) (now (list .entry)))) state (now (table .entry)) (now (list .entry)) (now (out .entry)) r (now (table .exit)) (now (list .exit)) (now (out .exit)) ⌝ }
+    ensures { λ r. ⌜ Did (lineEffect (now (line .entry)) (programIn state (now (table .entry)) (now (list .entry)))) state (now (table .entry)) (now (list .entry)) (now (out .entry)) r (now (table .exit)) (now (list .exit)) (now (out .exit)) ⌝ }
 {
     if line.len() < 2 {
         return question(state, out);

@@ -2,7 +2,7 @@
 use mathlib.Core.Path.{_≡_, refl, sym, ap, _∙_}
 use mathlib.Core.List.{List}
 use Prim.Native.Nat.{ℕ}
-use Rattle.rules.specs.Answers.{Answer, refusal, error, outcome, holder, sent, delivered, dropped, again, found, noneDue, Outcome, made}
+use Rattle.rules.specs.Answers.{Answer, refusal, error, outcome, holderIs, sentTo, delivered, dropped, again, found, noneDue, Outcome, made}
 use Rattle.visits.specs.Said.{saidRequest, saidSending, saidResult, saidFinding}
 use Rattle.visits.specs.declared.RequestAnswer.{RequestAnswer}
 use Rattle.visits.specs.declared.RequestAnswer.the-variants as request
@@ -33,8 +33,8 @@ module _ {X : Type 0} (onRefusal onError : ℕ → X) (onOutcome onHolder onSent
   byCase (refusal n) = onRefusal n
   byCase (error n) = onError n
   byCase (outcome n octets) = onOutcome n octets
-  byCase (holder msisdn octets) = onHolder msisdn octets
-  byCase (sent addressee octets) = onSent addressee octets
+  byCase (holderIs msisdn octets) = onHolder msisdn octets
+  byCase (sentTo addressee octets) = onSent addressee octets
   byCase delivered = onDelivered
   byCase dropped = onDropped
   byCase again = onAgain

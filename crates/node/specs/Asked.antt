@@ -11,6 +11,6 @@ use Rattle.rules.specs.Answers.{Outcome}
 use Rattle.rules.specs.Visits.{storing, leaving, visitRequest, missedRequest}
 
 -- a request whose string was read, by the row of its number
-abbrev pub asked : List ℕ → ℕ → List ℕ → Msisdn → Request → Found → Outcome
-asked table flags reply requester f Nothing = leaving table (missedRequest flags reply (some f))
-asked table flags reply requester f (At i) = storing table i (visitRequest flags requester reply (some f) (recordAt table i))
+abbrev pub askedAt : List ℕ → ℕ → List ℕ → Msisdn → Request → Found → Outcome
+askedAt table flags reply requester f Nothing = leaving table (missedRequest flags reply (some f))
+askedAt table flags reply requester f (At i) = storing table i (visitRequest flags requester reply (some f) (recordAt table i))

@@ -20,7 +20,7 @@ ghost use Rattle.rules.specs.Requests.{isForced, isSupervisor};
 ghost use Rattle.rules.specs.Requests as requests;
 ghost use Rattle.rules.specs.Notices as notices;
 ghost use Rattle.visits.specs.Deciding.{deciding};
-ghost use Rattle.node.specs.Asked.{asked};
+ghost use Rattle.node.specs.Asked.{askedAt};
 ghost use Rattle.visits.specs.Said.{saidRequest, saidSending, saidResult, saidFinding};
 
 // Reply and notice buffers have at least so many octets.
@@ -51,7 +51,7 @@ fn ask(
     fields: Fields,
 ) -> RequestAnswer
     requires { ⌜ (tableSound (now table) ≡ true) × (listSound (now list) ≡ true) × (bufferRoom ≤ length (now reply)) ⌝ }
-    ensures { λ r. ⌜ made (saidRequest r) (now (table .exit)) (now (reply .exit)) ≡ asked (now (table .entry)) (flagsOf (now (list .entry)) (requester .0)) (now (reply .entry)) requester (deciding fields) (rowOf (now (table .entry)) (fields .number .0)) ⌝ }
+    ensures { λ r. ⌜ made (saidRequest r) (now (table .exit)) (now (reply .exit)) ≡ askedAt (now (table .entry)) (flagsOf (now (list .entry)) (requester .0)) (now (reply .entry)) requester (deciding fields) (rowOf (now (table .entry)) (fields .number .0)) ⌝ }
 {
     let erasing = fields.erasing;
     let number = fields.number;
@@ -78,7 +78,7 @@ pub fn request(
     scheme: u8,
     string: &[u8],
 ) -> RequestAnswer
-    ensures { λ r. ⌜ made (saidRequest r) (now (table .exit)) (now (reply .exit)) ≡ requests.request (now (table .entry)) (now (list .entry)) (now (reply .entry)) requester scheme (now (string .entry)) ⌝ }
+    ensures { λ r. ⌜ made (saidRequest r) (now (table .exit)) (now (reply .exit)) ≡ requests.requesting (now (table .entry)) (now (list .entry)) (now (reply .entry)) requester scheme (now (string .entry)) ⌝ }
 {
     if reply.len() < BUFFER_ROOM {
         return RequestAnswer::Refused(1);
@@ -117,7 +117,7 @@ pub fn sending(
     delay: u32,
     clock: u32,
 ) -> SendingAnswer
-    ensures { λ r. ⌜ made (saidSending r) (now (table .exit)) (now (buffer .exit)) ≡ notices.sending (now (table .entry)) (now (buffer .entry)) number delay clock ⌝ }
+    ensures { λ r. ⌜ made (saidSending r) (now (table .exit)) (now (buffer .exit)) ≡ notices.sendingNotice (now (table .entry)) (now (buffer .entry)) number delay clock ⌝ }
 {
     if buffer.len() < BUFFER_ROOM {
         return SendingAnswer::Refused(1);
@@ -137,7 +137,7 @@ pub fn sending(
 
 // A result names a number and a kind.
 pub fn result(table: &mut [u64], number: FunctionalNumber, kind: u32, clock: u32) -> ResultAnswer
-    ensures { λ r. ⌜ made (saidResult r) (now (table .exit)) [] ≡ notices.result (now (table .entry)) number kind clock ⌝ }
+    ensures { λ r. ⌜ made (saidResult r) (now (table .exit)) [] ≡ notices.takingResult (now (table .entry)) number kind clock ⌝ }
 {
     if !tables::table_sound(table) {
         return ResultAnswer::Refused(2);

@@ -3,10 +3,10 @@ use mathlib.Core.Path.{_≡_, sym, _∙_}
 use mathlib.Core.Bool.{Bool}
 use mathlib.Core.List.{List}
 use Prim.Native.Nat.{ℕ}
-use Rattle.answers.specs.Writing.{made}
+use Rattle.answers.specs.Writing.{madeWrite}
 use Rattle.answers.specs.declared.Written.{Written}
 use Rattle.answers.proofs.Writing.{made-one}
-use Rattle.numbers.specs.Numbers.{isNumber, numberAt, writingDigits}
+use Rattle.numbers.specs.Numbers.{isNumber, leadingNumber, writingDigits}
 use Rattle.numbers.specs.Least.{leastNumbers}
 use Rattle.numbers.specs.declared.NumberRead.{NumberRead}
 
@@ -17,10 +17,10 @@ is-number-one w a b p q = p ∙ sym q
 pub least-numbers-one : (a b : List ℕ) → a ≡ leastNumbers → b ≡ leastNumbers → a ≡ b
 least-numbers-one a b p q = p ∙ sym q
 
-pub read-number-one : (s : List ℕ) (a b : NumberRead) → a ≡ numberAt s → b ≡ numberAt s → a ≡ b
+pub read-number-one : (s : List ℕ) (a b : NumberRead) → a ≡ leadingNumber s → b ≡ leadingNumber s → a ≡ b
 read-number-one s a b p q = p ∙ sym q
 
 pub write-digits-one :
-    (w : ℕ) (out : List ℕ) (a b : Written) (new other : List ℕ) → made a new ≡ writingDigits w out → made b other ≡ writingDigits w out
+    (w : ℕ) (out : List ℕ) (a b : Written) (new other : List ℕ) → madeWrite a new ≡ writingDigits w out → madeWrite b other ≡ writingDigits w out
     → (a ≡ b) × (new ≡ other)
 write-digits-one w out a b new other p q = made-one a b new other p q

@@ -12,7 +12,7 @@ use borrow.Author.Tests.{leb-true, le-leb, lt-ltb, le-ltb}
 use Rattle.answers.specs.Leading.{each}
 use Rattle.answers.proofs.Leading.{each-head, each-tail, each-append}
 use Rattle.answers.proofs.Tests.{and-left, and-right, and-both}
-use Rattle.numbers.specs.Numbers.{fewestDigits, mostDigits, isDigit, areDigits, pushed, stored, isNumber, digitsUpTo, digitsOf}
+use Rattle.numbers.specs.Numbers.{fewestDigits, mostDigits, isDigit, areDigits, pushed, storedForm, isNumber, digitsUpTo, digitsOf}
 use Rattle.numbers.proofs.Lengths.{HasLength, length-of, is-number}
 
 -- ---- digits are characters
@@ -58,15 +58,15 @@ pushed-below w (c ∷ cs) h =
     lt-of-lt-of-le (pushed-below (10 * w + (c - 48)) cs (each-tail isDigit c cs h))
     (le-trans (mul-le-mul-right (10 ^ length cs) (omega arith)) (le-of-eq (sym (tenfold (suc w) (length cs)))))
 
-pub stored-length : (cs : List ℕ) → areDigits cs ≡ true → (10 ^ length cs ≤ stored cs) × (stored cs < 2 * 10 ^ length cs)
-unfolding stored
+pub stored-length : (cs : List ℕ) → areDigits cs ≡ true → (10 ^ length cs ≤ storedForm cs) × (storedForm cs < 2 * 10 ^ length cs)
+unfolding storedForm
 stored-length cs h = (omega (arith, pushed-least 1 cs), pushed-below 1 cs h)
 
 -- the stored form of 5 to 15 digits is a number
-pub stored-number : (cs : List ℕ) → areDigits cs ≡ true → fewestDigits ≤ length cs → length cs ≤ mostDigits → isNumber (stored cs) ≡ true
+pub stored-number : (cs : List ℕ) → areDigits cs ≡ true → fewestDigits ≤ length cs → length cs ≤ mostDigits → isNumber (storedForm cs) ≡ true
 stored-number cs h l m =
     let s = stored-length cs h in
-    is-number (length cs) (stored cs) (record { fewest = l; most = m; least = s .0; below = s .1 })
+    is-number (length cs) (storedForm cs) (record { fewest = l; most = m; least = s .0; below = s .1 })
 
 -- ---- the digits behind a number's first
 
@@ -93,8 +93,8 @@ digits-pushed (c ∷ cs) w room r h p e =
     digits-pushed cs v room (suc r) (each-tail isDigit c cs h) (omega arith) (omega arith) ∙ rw one (append-snoc (digitsUpTo r w) c cs)
 
 -- any room that they fit gives digits back from their stored form
-digits-back : (cs : List ℕ) (room : ℕ) → areDigits cs ≡ true → length cs ≤ room → digitsUpTo room (stored cs) ≡ cs
-unfolding stored
+digits-back : (cs : List ℕ) (room : ℕ) → areDigits cs ≡ true → length cs ≤ room → digitsUpTo room (storedForm cs) ≡ cs
+unfolding storedForm
 digits-back cs room h l =
     digits-pushed cs 1 room (room - length cs) h (omega arith) (omega arith) ∙ rw (digits-none (room - length cs) 1 (omega arith))
 
@@ -104,10 +104,10 @@ digits-back cs room h l =
 record Spelt (n w : ℕ) (cs : List ℕ) : Type 0 where
   size : length cs ≡ n
   digits : areDigits cs ≡ true
-  value : stored cs ≡ w
+  value : storedForm cs ≡ w
 
 spelt : (n room w : ℕ) → n ≤ room → 10 ^ n ≤ w → w < 2 * 10 ^ n → Spelt n w (digitsUpTo room w)
-unfolding each stored pushed
+unfolding each storedForm pushed
 spelt zero room w f l b = rw (digits-none room w (omega arith)) (record { size = refl; digits = refl; value = omega arith })
 spelt (suc n) zero w f l b = absurd (omega arith)
 spelt (suc n) (suc room) w f l b =
@@ -136,7 +136,7 @@ module _ (w : ℕ) (h : isNumber w ≡ true) where
   pub digits-most : length (digitsOf w) ≤ mostDigits
   digits-most = omega (arith, digits-spelt .1 .most, digits-spelt .2 .size)
 
-  pub stored-digits : stored (digitsOf w) ≡ w
+  pub stored-digits : storedForm (digitsOf w) ≡ w
   stored-digits = digits-spelt .2 .value
 
   -- room for so many gives them all
@@ -146,16 +146,16 @@ module _ (w : ℕ) (h : isNumber w ≡ true) where
   pub digits-least : 10 ^ length (digitsOf w) ≤ w
   digits-least = rw stored-digits at (stored-length (digitsOf w) digits-are .0)
 
-pub digits-stored : (cs : List ℕ) → areDigits cs ≡ true → length cs ≤ mostDigits → digitsOf (stored cs) ≡ cs
+pub digits-stored : (cs : List ℕ) → areDigits cs ≡ true → length cs ≤ mostDigits → digitsOf (storedForm cs) ≡ cs
 unfolding digitsOf
 digits-stored cs h l = digits-back cs mostDigits h l
 
 -- ---- a number is its digits
 
 pub same-number : (v w : ℕ) → isNumber v ≡ true → isNumber w ≡ true → digitsOf v ≡ digitsOf w → v ≡ w
-same-number v w g h e = sym (stored-digits v g) ∙ ap stored e ∙ stored-digits w h
+same-number v w g h e = sym (stored-digits v g) ∙ ap storedForm e ∙ stored-digits w h
 
-pub same-digits : (cs ds : List ℕ) → areDigits cs ≡ true → areDigits ds ≡ true → stored cs ≡ stored ds → cs ≡ ds
+pub same-digits : (cs ds : List ℕ) → areDigits cs ≡ true → areDigits ds ≡ true → storedForm cs ≡ storedForm ds → cs ≡ ds
 same-digits cs ds g h e =
     let room = length cs + length ds in
     sym (digits-back cs room g (omega arith)) ∙ ap (digitsUpTo room) e ∙ digits-back ds room h (omega arith)

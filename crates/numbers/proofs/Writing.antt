@@ -10,7 +10,7 @@ use lib.ListN.{length, drop, set, length-append}
 use lib.Seq.{append-snoc, drop-cons, getD-set-same, drop-set-lt, lt-length-set}
 use lib.Dec.{lit<}
 use borrow.Author.Tests.{lt-ltb, le-ltb}
-use Rattle.answers.specs.Writing.{made}
+use Rattle.answers.specs.Writing.{madeWrite}
 use Rattle.answers.specs.declared.Written.{Written}
 use Rattle.answers.specs.declared.Written.the-variants.{Count, TooShort, Unfit}
 use Rattle.answers.proofs.Tests.{less-or-not}
@@ -61,17 +61,17 @@ left-more left k w e h =
 
 -- ---- what the digit writer comes to
 
-pub digits-short : (w : ℕ) (out : List ℕ) → length out < mostDigits → made TooShort out ≡ writingDigits w out
+pub digits-short : (w : ℕ) (out : List ℕ) → length out < mostDigits → madeWrite TooShort out ≡ writingDigits w out
 unfolding writingDigits
 digits-short w out h = sym (writing-short _ _ _ out (lt-ltb (length out) mostDigits h))
 
-pub digits-unfit : (w : ℕ) (out : List ℕ) → mostDigits ≤ length out → isNumber w ≡ false → made Unfit out ≡ writingDigits w out
+pub digits-unfit : (w : ℕ) (out : List ℕ) → mostDigits ≤ length out → isNumber w ≡ false → madeWrite Unfit out ≡ writingDigits w out
 unfolding writingDigits
 digits-unfit w out h u = sym (writing-unfit _ _ _ out (le-ltb (length out) mostDigits h) (ap not u))
 
 pub digits-good :
     (w n : ℕ) (out new : List ℕ) → mostDigits ≤ length out → isNumber w ≡ true → n ≡ length (digitsOf w) → new ≡ digitsUpTo n w ++ drop n out
-    → made (Count n) new ≡ writingDigits w out
+    → madeWrite (Count n) new ≡ writingDigits w out
 unfolding writingDigits
 digits-good w n out new h g e f =
     let all : digitsUpTo n w ≡ digitsOf w = rw e (digits-fit w g) in
@@ -80,7 +80,7 @@ digits-good w n out new h g e f =
 
 -- what a caller knows of a number's digits written where there is room
 pub written-digits :
-    (w : ℕ) (out : List ℕ) (r : Written) (new : List ℕ) → isNumber w ≡ true → mostDigits ≤ length out → made r new ≡ writingDigits w out
+    (w : ℕ) (out : List ℕ) (r : Written) (new : List ℕ) → isNumber w ≡ true → mostDigits ≤ length out → madeWrite r new ≡ writingDigits w out
     → (r ≡ Count (length (digitsOf w))) × (new ≡ digitsOf w ++ drop (length (digitsOf w)) out)
 unfolding writingDigits
 written-digits w out r new g h done = done-good _ _ _ out r new done (le-ltb (length out) mostDigits h) (ap not g)

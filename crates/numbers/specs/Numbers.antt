@@ -5,7 +5,7 @@ use mathlib.Core.List.{List, [], _∷_, _++_}
 use lib.ListN.{length, take}
 use lib.Dec.{leb, ltb}
 use Rattle.answers.specs.Leading.{each, leading}
-use Rattle.answers.specs.Writing.{Outcome, writing}
+use Rattle.answers.specs.Writing.{WriteOutcome, writing}
 use Rattle.numbers.specs.declared.NumberRead.{NumberRead}
 use Rattle.numbers.specs.declared.NumberRead.the-variants.{Number, Unreadable}
 
@@ -29,8 +29,8 @@ pushed w [] = w
 pushed w (c ∷ cs) = pushed (10 * w + (c - 48)) cs
 
 -- "Stored, a number is its digits with a 1 put in front, read as a decimal"
-unfoldable pub stored : List ℕ → ℕ
-stored cs = pushed 1 cs
+unfoldable pub storedForm : List ℕ → ℕ
+storedForm cs = pushed 1 cs
 
 -- w is a 1 with d digits behind it
 abbrev pub oneAnd : ℕ → ℕ → Bool
@@ -56,11 +56,11 @@ abbrev pub leadingDigits : List ℕ → ℕ
 leadingDigits s = leading isDigit s
 
 -- the number at the front of a string, with how far it reaches: 5 to 15 digits, and no digit behind them
-unfoldable pub numberAt : List ℕ → NumberRead
-numberAt s =
-    cond (leb fewestDigits (leadingDigits s) && leb (leadingDigits s) mostDigits) (Number (stored (take (leadingDigits s) s)) (leadingDigits s))
+unfoldable pub leadingNumber : List ℕ → NumberRead
+leadingNumber s =
+    cond (leb fewestDigits (leadingDigits s) && leb (leadingDigits s) mostDigits) (Number (storedForm (take (leadingDigits s) s)) (leadingDigits s))
     Unreadable
 
 -- a number's digits written over the front of a buffer that has room for the longest
-unfoldable pub writingDigits : ℕ → List ℕ → Outcome
+unfoldable pub writingDigits : ℕ → List ℕ → WriteOutcome
 writingDigits w out = writing (ltb (length out) mostDigits) (not (isNumber w)) (digitsOf w) out

@@ -4,8 +4,8 @@ ghost use mathlib.Core.Bool.{true};
 ghost use mathlib.Core.List.{_++_};
 ghost use Prim.Native.Nat.{_^_, _≤_, _<_};
 ghost use lib.ListN.{length, drop};
-ghost use Rattle.answers.specs.Writing.{made};
-ghost use Rattle.numbers.specs.Numbers.{mostDigits, isDigit, areDigits, stored, isNumber, digitsUpTo, digitsOf, leadingDigits, numberAt, writingDigits};
+ghost use Rattle.answers.specs.Writing.{madeWrite};
+ghost use Rattle.numbers.specs.Numbers.{mostDigits, isDigit, areDigits, storedForm, isNumber, digitsUpTo, digitsOf, leadingDigits, leadingNumber, writingDigits};
 ghost use Rattle.numbers.specs.Least.{leastNumbers, leastFor, isFrom};
 use answers::Written;
 
@@ -159,7 +159,7 @@ fn leading_digits(part: &[u8]) -> usize
 fn stored_of(digits: &[u8]) -> u64
     requires { ⌜ areDigits (now digits) ≡ true ⌝ }
     requires { ⌜ length (now digits) ≤ mostDigits ⌝ }
-    ensures { λ r. ⌜ r ≡ stored (now (digits .entry)) ⌝ }
+    ensures { λ r. ⌜ r ≡ storedForm (now (digits .entry)) ⌝ }
 {
     let mut word: u64 = 1;
     let mut i = 0;
@@ -172,7 +172,7 @@ fn stored_of(digits: &[u8]) -> u64
 
 // The number at the front of a part.
 pub fn read_number(part: &[u8]) -> NumberRead
-    ensures { λ r. ⌜ r ≡ numberAt (now (part .entry)) ⌝ }
+    ensures { λ r. ⌜ r ≡ leadingNumber (now (part .entry)) ⌝ }
 {
     let n = leading_digits(part);
     if n < FEWEST_DIGITS {
@@ -215,7 +215,7 @@ fn write_last(word: u64, n: usize, out: &mut [u8])
 
 // Writes a number's digits over the front of a part that has room for the longest.
 pub fn write_digits(word: u64, out: &mut [u8]) -> Written
-    ensures { λ r. ⌜ made r (now (out .exit)) ≡ writingDigits word (now (out .entry)) ⌝ }
+    ensures { λ r. ⌜ madeWrite r (now (out .exit)) ≡ writingDigits word (now (out .entry)) ⌝ }
 {
     if out.len() < MOST_DIGITS {
         return Written::TooShort;

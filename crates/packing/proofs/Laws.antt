@@ -14,7 +14,7 @@ use lib.Dec.{ltb, eqb}
 use borrow.Author.Tests.{lt-ltb, eq-eqb, ne-eqb, ltb-true}
 use Rattle.answers.specs.Leading.{each}
 use Rattle.answers.proofs.Tests.{and-left, and-right, no-path, same-or-not}
-use Rattle.packing.specs.Packing.{number, digits, octetsFor, charsIn, taken, takes, return-if, padded, packed, characters, readable, filled, kept-if, kept, unpacked}
+use Rattle.packing.specs.Packing.{valueOf, digits, octetsFor, charsIn, taken, takes, return-if, padded, packed, characters, readable, filled, kept-if, kept, unpacked}
 use Rattle.packing.proofs.Digits.{Below, pow-mul, number-head, number-drop, length-digits, getD-digits, take-digits}
 
 -- ---- counts and lengths
@@ -31,11 +31,11 @@ chars-count m = omega arith
 
 pub length-packed : (cs : List ℕ) → length (packed cs) ≡ octetsFor (length cs)
 unfolding packed
-length-packed cs = length-digits 256 (octetsFor (length cs)) (number 128 (padded cs))
+length-packed cs = length-digits 256 (octetsFor (length cs)) (valueOf 128 (padded cs))
 
 pub length-characters : (os : List ℕ) → length (characters os) ≡ charsIn (length os)
 unfolding characters
-length-characters os = length-digits 128 (charsIn (length os)) (number 256 os)
+length-characters os = length-digits 128 (charsIn (length os)) (valueOf 256 os)
 
 -- at most one character is dropped
 pub kept-le : (os : List ℕ) → kept os ≤ charsIn (length os)
@@ -46,12 +46,12 @@ kept-le os = go (filled os)
     go true = omega arith
     go false = omega arith
 
-pub unpacked-is : (os : List ℕ) → unpacked os ≡ digits 128 (kept os) (number 256 os)
+pub unpacked-is : (os : List ℕ) → unpacked os ≡ digits 128 (kept os) (valueOf 256 os)
 unfolding unpacked characters
-unpacked-is os = take-digits 128 (charsIn (length os)) (number 256 os) (kept os) (kept-le os)
+unpacked-is os = take-digits 128 (charsIn (length os)) (valueOf 256 os) (kept os) (kept-le os)
 
 pub length-unpacked : (os : List ℕ) → length (unpacked os) ≡ kept os
-length-unpacked os = ap length (unpacked-is os) ∙ length-digits 128 (kept os) (number 256 os)
+length-unpacked os = ap length (unpacked-is os) ∙ length-digits 128 (kept os) (valueOf 256 os)
 
 pub length-unpacked-le : (os : List ℕ) → length (unpacked os) ≤ charsIn (length os)
 length-unpacked-le os = rw length-unpacked (kept-le os)
@@ -103,8 +103,8 @@ unfolding padded
 padded-at cs i h = sym (List·getD-append cs (return-if (eqb (length cs % 8) 7)) 0 i h)
 
 -- behind the last character stands a carriage return where one bit of an octet is used,
-pub above-return : (cs : List ℕ) (j : ℕ) → 7 * length cs ≡ 8 * j + 1 → number 128 (drop (length cs) (padded cs)) ≡ 13
-unfolding padded number
+pub above-return : (cs : List ℕ) (j : ℕ) → 7 * length cs ≡ 8 * j + 1 → valueOf 128 (drop (length cs) (padded cs)) ≡ 13
+unfolding padded valueOf
 above-return cs j e =
     let more : j < length cs = omega arith in
     let whole : length cs ≡ 8 * (length cs - (j + 1)) + 7 = omega arith in
@@ -112,8 +112,8 @@ above-return cs j e =
     rw (drop-append-seam cs (return-if (eqb (length cs % 8) 7)), eq-eqb (length cs % 8) 7 seven)
 
 -- and nothing where another number is
-pub above-none : (cs : List ℕ) (j bits : ℕ) → 7 * length cs ≡ 8 * j + bits → bits < 8 → (bits ≡ 1 → ⊥) → number 128 (drop (length cs) (padded cs)) ≡ 0
-unfolding padded number
+pub above-none : (cs : List ℕ) (j bits : ℕ) → 7 * length cs ≡ 8 * j + bits → bits < 8 → (bits ≡ 1 → ⊥) → valueOf 128 (drop (length cs) (padded cs)) ≡ 0
+unfolding padded valueOf
 above-none cs j bits e h f =
     rw (drop-append-seam cs (return-if (eqb (length cs % 8) 7)), ne-eqb (length cs % 8) 7 (λ s. f (one (length cs / 8) (omega arith))))
   where
@@ -125,8 +125,8 @@ above-none cs j bits e h f =
 -- what is above a place in the last octet
 above-last :
     (os : List ℕ) → Below 256 os → (t s : ℕ) → 7 * t ≡ 8 * (length os - 1) + s
-    → number 256 os / 128 ^ t ≡ getD os (length os - 1) 0 / 2 ^ s
-unfolding number
+    → valueOf 256 os / 128 ^ t ≡ getD os (length os - 1) 0 / 2 ^ s
+unfolding valueOf
 above-last os b t s e =
     rw (← pow-mul 2 7 t, e, pow-add 2 (8 * (length os - 1)) s, pow-mul 2 8 (length os - 1), ← div-div-eq-div-mul)
     (ap (λ (n : ℕ). n / 2 ^ s)
@@ -135,7 +135,7 @@ above-last os b t s e =
 
 -- the unused bits are its highest
 pub readable-is : (os : List ℕ) → Below 256 os → (x : ℕ) → x ≡ getD os (length os - 1) 0 → readable os ≡ eqb (x / 2 ^ (8 - length os % 7)) 0
-unfolding readable number
+unfolding readable valueOf
 readable-is [] b x e = rw (e, zero-div)
 readable-is (o ∷ os) b x e = rw (chars-count, e) (ap (λ (n : ℕ). eqb n 0) (above-last (o ∷ os) b _ (8 - length (o ∷ os) % 7) (omega arith)))
 
@@ -149,7 +149,7 @@ last-character (o ∷ os) b z =
     let k = m + m / 7 in
     let small : x / 2 < 128 = omega (arith, b (m - 1)) in
     rw chars-count
-    (getD-digits 128 k (number 256 (o ∷ os)) (k - 1) (omega arith) ∙ ap (λ (n : ℕ). n % 128) (above-last (o ∷ os) b (k - 1) 1 (omega arith)) ∙ mod-eq-of-lt small)
+    (getD-digits 128 k (valueOf 256 (o ∷ os)) (k - 1) (omega arith) ∙ ap (λ (n : ℕ). n % 128) (above-last (o ∷ os) b (k - 1) 1 (omega arith)) ∙ mod-eq-of-lt small)
 
 pub filled-is : (os : List ℕ) → Below 256 os → (x : ℕ) → x ≡ getD os (length os - 1) 0 → filled os ≡ (eqb (length os % 7) 0 && eqb (x / 2) 13)
 unfolding filled
@@ -160,7 +160,7 @@ filled-is os b x e = go (same-or-not (length os % 7) 0)
     go (inr f) = simp (ne-eqb (length os % 7) 0 f)
 
 pub filled-some : (os : List ℕ) → filled os ≡ true → 0 < length os
-unfolding filled characters charsIn digits number
+unfolding filled characters charsIn digits valueOf
 filled-some [] e = no-path e
 filled-some (o ∷ os) e = zero-lt-suc (length os)
 

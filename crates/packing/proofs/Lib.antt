@@ -1,9 +1,8 @@
 -- `Digits`: numbers and their digits. `Moving`: digits moved to another base through held bits. `Laws`: counts, lengths, the carriage return, the last octet.
--- `Outcomes`: what a caller knows by the answer. `RoundTrip`, `Choice`, `Examples`: the theorems about packing.
+-- `Outcomes`: what a caller knows by the answer. `RoundTrip`, `Choice`: the theorems about packing.
 pub mod Digits
 pub mod Moving
 pub mod Laws
 pub mod Outcomes
 pub mod RoundTrip
 pub mod Choice
-pub mod Examples

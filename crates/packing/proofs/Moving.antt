@@ -9,15 +9,15 @@ use lib.ListN.{length, drop, getD, set, length-set}
 use lib.Seq.{drop-cons, set-at, append-snoc}
 use lib.Arith.{digits-lt}
 use lib.Pow.{pow-add, pow-pos, shl-exact, shr-lt}
-use Rattle.packing.specs.Packing.{number, digits}
+use Rattle.packing.specs.Packing.{valueOf, digits}
 use Rattle.packing.proofs.Digits.{number-head, length-digits, digits-snoc}
 
 -- `new` was `old`: of ds, digits to the base 2 ^ a, the first i are read, j digits to the base 2 ^ b are written, and the bits between are held
 pub record Moved (a b : ℕ) (ds old new : List ℕ) (i j held bits : ℕ) : Type 0 where
   pub place : a * i ≡ b * j + bits
   pub small : held < 2 ^ bits
-  pub rest : number (2 ^ a) ds / (2 ^ b) ^ j ≡ held + 2 ^ bits * number (2 ^ a) (drop i ds)
-  pub done : new ≡ digits (2 ^ b) j (number (2 ^ a) ds) ++ drop j old
+  pub rest : valueOf (2 ^ a) ds / (2 ^ b) ^ j ≡ held + 2 ^ bits * valueOf (2 ^ a) (drop i ds)
+  pub done : new ≡ digits (2 ^ b) j (valueOf (2 ^ a) ds) ++ drop j old
   pub room : length new ≡ length old
 
 pub nothing-moved : (a b : ℕ) (ds old : List ℕ) → Moved a b ds old old 0 0 0 0
@@ -54,7 +54,7 @@ module _ {a b : ℕ} {ds old new : List ℕ} {i j held bits : ℕ} (m : Moved a 
         place = rw (add-one, mul-suc) (omega (arith, m .place));
         small = shr-lt (bits - b) b (rw split (m .small));
         rest = rw (add-one, pow-suc, ← div-div-eq-div-mul, low) (add-mul-div-left held above (pow-pos b));
-        done = one-more (2 ^ b) (number (2 ^ a) ds) j (held % 2 ^ b) old new l (m .done) (rw low (sym (add-mul-mod-self-left held (2 ^ b) above)));
+        done = one-more (2 ^ b) (valueOf (2 ^ a) ds) j (held % 2 ^ b) old new l (m .done) (rw low (sym (add-mul-mod-self-left held (2 ^ b) above)));
         room = simp length-set (m .room);
       }
     where
@@ -62,7 +62,7 @@ module _ {a b : ℕ} {ds old new : List ℕ} {i j held bits : ℕ} (m : Moved a 
       split = omega arith
 
       above : ℕ
-      above = 2 ^ (bits - b) * number (2 ^ a) (drop i ds)
+      above = 2 ^ (bits - b) * valueOf (2 ^ a) (drop i ds)
 
-      low : number (2 ^ a) ds / (2 ^ b) ^ j ≡ held + 2 ^ b * above
+      low : valueOf (2 ^ a) ds / (2 ^ b) ^ j ≡ held + 2 ^ b * above
       low = m .rest ∙ rw (← mul-assoc, mul-comm (2 ^ b) (2 ^ (bits - b)), ← pow-add, split)

@@ -6,7 +6,7 @@ ghost use mathlib.Core.Bool.{true};
 ghost use mathlib.Core.List.{_++_};
 ghost use Prim.Native.Nat.{_-_, _≤_};
 ghost use lib.ListN.{length, getD, drop};
-ghost use Rattle.answers.specs.Writing.{made};
+ghost use Rattle.answers.specs.Writing.{madeWrite};
 ghost use Rattle.packing.specs.Packing.{octetsFor, takes, packed, readable, kept, unpacked};
 ghost use Rattle.packing.specs.Outcomes.{packing, unpacking};
 
@@ -112,7 +112,7 @@ fn write_chars(octets: &[u8], out: &mut [u8], n: usize)
 
 // Packs the characters into out. All of them are tested first, since a refusal leaves out as it was.
 pub fn pack(chars: &[u8], out: &mut [u8]) -> Written
-    ensures { λ r. ⌜ made r (now (out .exit)) ≡ packing (now (chars .entry)) (now (out .entry)) ⌝ }
+    ensures { λ r. ⌜ madeWrite r (now (out .exit)) ≡ packing (now (chars .entry)) (now (out .entry)) ⌝ }
 {
     let n = chars.len();
     let count = n - n / 8;
@@ -128,7 +128,7 @@ pub fn pack(chars: &[u8], out: &mut [u8]) -> Written
 
 // Unpacks the octets into out.
 pub fn unpack(octets: &[u8], out: &mut [u8]) -> Written
-    ensures { λ r. ⌜ made r (now (out .exit)) ≡ unpacking (now (octets .entry)) (now (out .entry)) ⌝ }
+    ensures { λ r. ⌜ madeWrite r (now (out .exit)) ≡ unpacking (now (octets .entry)) (now (out .entry)) ⌝ }
 {
     let m = octets.len();
     let room = m + m / 7;

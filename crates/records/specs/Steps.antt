@@ -13,6 +13,8 @@ use Rattle.records.specs.declared.Step.{Step}
 use Rattle.records.specs.declared.Step.the-variants as step
 use Rattle.records.specs.declared.Holder.{Holder}
 use Rattle.records.specs.declared.Holder.the-variants as holder
+use Rattle.records.specs.declared.Sending.{Sending}
+use Rattle.records.specs.declared.Sending.the-variants as sending
 use Rattle.records.specs.declared.Resulted.{Resulted}
 use Rattle.records.specs.declared.Resulted.the-variants.{Refused, Delivered, Dropped, Again}
 
@@ -139,14 +141,14 @@ launched (Waiting k s) = InFlight (k + 1)
 launched (InFlight k) = InFlight k
 
 -- "6 (delay), 4 (phase not odd), 5 (not due). Then the phase grows by 1"
-unfoldable pub sent : ℕ → ℕ → Record → Step
+unfoldable pub sent : ℕ → ℕ → Record → Sending
 sent delay clock r =
     decide
-    ((not (delayAllowed delay), step.Stays 6)
-    ∷ (not (isWaiting (r .notice)), step.Stays 4)
-    ∷ (not (isDue delay clock (r .notice)), step.Stays 5)
+    ((not (delayAllowed delay), sending.Refused 6)
+    ∷ (not (isWaiting (r .notice)), sending.Refused 4)
+    ∷ (not (isDue delay clock (r .notice)), sending.Refused 5)
     ∷ [])
-    (step.Becomes (withNotice (launched (r .notice)) r))
+    (sending.Launched (withNotice (launched (r .notice)) r))
 
 -- "kind: 0 delivered, 1 … 4 …, 5 any other error"
 abbrev pub lastKind : ℕ

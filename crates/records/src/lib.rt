@@ -20,7 +20,7 @@ pub struct Record {
     pub supervisor: Msisdn,
 }
 
-// What a request or a sending makes of a record: it stays, by the paper's number of the outcome or refusal, or becomes the next record.
+// What a request makes of a record: it stays, by the paper's number of the outcome, or becomes the next record.
 pub enum Step {
     Stays(u8),
     Becomes(Record),
@@ -30,6 +30,12 @@ pub enum Step {
 pub enum Holder {
     Stays(u8),
     Held(Msisdn),
+}
+
+// What a sending makes of a record: a refusal by its number, or the record with its notice in flight.
+pub enum Sending {
+    Refused(u8),
+    Launched(Record),
 }
 
 // What a result makes of a record: a refusal by its number, or what it returns, with the next record.
@@ -211,21 +217,21 @@ impl Record {
         Holder::Held(holder)
     }
 
-    pub fn send(self, delay: u32, clock: u32) -> Step
+    pub fn send(self, delay: u32, clock: u32) -> Sending
         requires { ⌜ sendingsDone (self .notice) ≤ mostSendings ⌝ }
         ensures { λ r. ⌜ r ≡ sent delay clock self ⌝ }
     {
         if !delay_allowed(delay) {
-            return Step::Stays(6);
+            return Sending::Refused(6);
         }
         let notice = self.notice;
         let Notice::Waiting(sendings, _) = notice else {
-            return Step::Stays(4);
+            return Sending::Refused(4);
         };
         if !is_due(delay, clock, notice) {
-            return Step::Stays(5);
+            return Sending::Refused(5);
         }
-        Step::Becomes(self.with_notice(Notice::InFlight(sendings + 1)))
+        Sending::Launched(self.with_notice(Notice::InFlight(sendings + 1)))
     }
 
     pub fn result(self, kind: u32, clock: u32) -> Resulted

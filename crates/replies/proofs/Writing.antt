@@ -11,7 +11,7 @@ use lib.ListN.{length, take, drop}
 use lib.Seq.{length-take-le}
 use lib.Dec.{ltb}
 use Rattle.answers.proofs.Written.{the-type}
-use Rattle.answers.specs.Writing.{Stands, made, wrote}
+use Rattle.answers.specs.Writing.{Stands, madeWrite, wrote}
 use Rattle.answers.specs.declared.Written.{Written}
 use Rattle.answers.specs.declared.Written.the-variants.{Count}
 use Rattle.answers.proofs.Writing.{made-one, all-good}
@@ -28,7 +28,7 @@ use Rattle.replies.specs.Replies.{numeral, Text}
 -- ---- what the writers below did, which count and are in no other arm
 
 pub record Writes (text old new : List ℕ) (r : Written) : Type 0 where
-  pub said : made r new ≡ wrote text old
+  pub said : madeWrite r new ≡ wrote text old
 
 pub other-arm : {A : Type 0} {text old new : List ℕ} (r : Written) → Writes text old new r → OneOf (1 ∷ 2 ∷ []) (tagOf the-type r) → A
 other-arm {text = text} {old} {new} r w = counts-only r (length text) (made-one r (Count (length text)) new _ (w .said) refl .0)
@@ -37,12 +37,12 @@ pub count-arm : {text old new : List ℕ} {r : Written} {n : ℕ} → Writes tex
 count-arm {text} {old} {new} {r} w e = counted-stands text old (made-one r (Count (length text)) new (text ++ drop (length text) old) (w .said) refl) e
 
 pub text-writes :
-    (os old new : List ℕ) (r : Written) → readable os ≡ true → charsIn (length os) ≤ length old → made r new ≡ unpacking os old
+    (os old new : List ℕ) (r : Written) → readable os ≡ true → charsIn (length os) ≤ length old → madeWrite r new ≡ unpacking os old
     → Writes (unpacked os) old new r
 text-writes os old new r h l e = record { said = e ∙ unpacking-good os old l h }
 
 pub digits-writes :
-    (w : ℕ) (old new : List ℕ) (r : Written) → isNumber w ≡ true → mostDigits ≤ length old → made r new ≡ writingDigits w old
+    (w : ℕ) (old new : List ℕ) (r : Written) → isNumber w ≡ true → mostDigits ≤ length old → madeWrite r new ≡ writingDigits w old
     → Writes (digitsOf w) old new r
 unfolding writingDigits
 digits-writes w old new r h l e = record { said = e ∙ all-good mostDigits (isNumber w) (digitsOf w) old l h }

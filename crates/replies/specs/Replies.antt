@@ -8,7 +8,7 @@ use lib.Dec.{ltb}
 use Rattle.answers.specs.Ascii.{ascii}
 use Rattle.packing.specs.Packing.{readable, unpacked}
 use Rattle.numbers.specs.Numbers.{isNumber, digitsOf}
-use Rattle.rules.specs.Answers.{Answer, refusal, error, outcome, holder, sent, delivered, dropped, again, found, noneDue, twoDigits}
+use Rattle.rules.specs.Answers.{Answer, refusal, error, outcome, holderIs, sentTo, delivered, dropped, again, found, noneDue, twoDigits}
 
 -- the number n of `error n` (two digits) or `refused n` (one)
 abbrev pub numeral : ℕ → List ℕ
@@ -19,17 +19,17 @@ abbrev pub textIn : ℕ → List ℕ → List ℕ
 textIn count buffer = unpacked (take count buffer)
 
 -- what follows the letter: "the reply text"; "addressee, notice"; "`D delivered`, `D dropped` or `D again`"; "Otherwise `error n` or `refused n`"
-abbrev pub said : Answer → List ℕ → List ℕ
-said (refusal n) buffer = ascii "refused " ++ numeral n
-said (error n) buffer = ascii "error " ++ numeral n
-said (outcome n count) buffer = textIn count buffer
-said (holder msisdn count) buffer = textIn count buffer
-said (sent addressee count) buffer = digitsOf addressee ++ (ascii " " ++ textIn count buffer)
-said delivered buffer = ascii "delivered"
-said dropped buffer = ascii "dropped"
-said again buffer = ascii "again"
-said (found n) buffer = []
-said noneDue buffer = []
+abbrev pub behindLetter : Answer → List ℕ → List ℕ
+behindLetter (refusal n) buffer = ascii "refused " ++ numeral n
+behindLetter (error n) buffer = ascii "error " ++ numeral n
+behindLetter (outcome n count) buffer = textIn count buffer
+behindLetter (holderIs msisdn count) buffer = textIn count buffer
+behindLetter (sentTo addressee count) buffer = digitsOf addressee ++ (ascii " " ++ textIn count buffer)
+behindLetter delivered buffer = ascii "delivered"
+behindLetter dropped buffer = ascii "dropped"
+behindLetter again buffer = ascii "again"
+behindLetter (found n) buffer = []
+behindLetter noneDue buffer = []
 
 -- an addressee's 15 digits, the space and the 42 characters of the longest notice
 abbrev pub answerRoom : ℕ
@@ -53,8 +53,8 @@ abbrev pub Printable : Answer → List ℕ → Type 0
 Printable (refusal n) buffer = Unit {0}
 Printable (error n) buffer = Unit {0}
 Printable (outcome n count) buffer = Text mostReplyOctets count buffer
-Printable (holder msisdn count) buffer = Text mostReplyOctets count buffer
-Printable (sent addressee count) buffer = (isNumber addressee ≡ true) × Text mostNoticeOctets count buffer
+Printable (holderIs msisdn count) buffer = Text mostReplyOctets count buffer
+Printable (sentTo addressee count) buffer = (isNumber addressee ≡ true) × Text mostNoticeOctets count buffer
 Printable delivered buffer = Unit {0}
 Printable dropped buffer = Unit {0}
 Printable again buffer = Unit {0}

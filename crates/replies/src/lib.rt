@@ -14,7 +14,7 @@ ghost use Rattle.answers.specs.Writing.{Stands};
 ghost use Rattle.packing.specs.Packing.{charsIn, readable, unpacked};
 ghost use Rattle.numbers.specs.Numbers.{isNumber, digitsOf};
 ghost use Rattle.visits.specs.Said.{saidRequest, saidSending, saidResult};
-ghost use Rattle.replies.specs.Replies.{numeral, said, Printable, answerRoom};
+ghost use Rattle.replies.specs.Replies.{numeral, behindLetter, Printable, answerRoom};
 
 // Writes the number of an error or a refusal.
 fn put_numeral(n: u8, out: &mut [u8]) -> usize
@@ -67,7 +67,7 @@ fn put_addressee(addressee: Msisdn, out: &mut [u8]) -> usize
 pub fn put_request_answer(answer: RequestAnswer, reply: &[u8], out: &mut [u8]) -> usize
     requires { ⌜ Printable (saidRequest answer) (now reply) ⌝ }
     requires { ⌜ answerRoom ≤ length (now out) ⌝ }
-    ensures { λ r. ⌜ Stands (said (saidRequest answer) (now (reply .entry))) (now (out .entry)) r (now (out .exit)) ⌝ }
+    ensures { λ r. ⌜ Stands (behindLetter (saidRequest answer) (now (reply .entry))) (now (out .entry)) r (now (out .exit)) ⌝ }
 {
     match answer {
         RequestAnswer::Refused(n) => put_numbered(b"refused ", n, out),
@@ -81,7 +81,7 @@ pub fn put_request_answer(answer: RequestAnswer, reply: &[u8], out: &mut [u8]) -
 pub fn put_sending_answer(answer: SendingAnswer, notice: &[u8], out: &mut [u8]) -> usize
     requires { ⌜ Printable (saidSending answer) (now notice) ⌝ }
     requires { ⌜ answerRoom ≤ length (now out) ⌝ }
-    ensures { λ r. ⌜ Stands (said (saidSending answer) (now (notice .entry))) (now (out .entry)) r (now (out .exit)) ⌝ }
+    ensures { λ r. ⌜ Stands (behindLetter (saidSending answer) (now (notice .entry))) (now (out .entry)) r (now (out .exit)) ⌝ }
 {
     match answer {
         SendingAnswer::Refused(n) => put_numbered(b"refused ", n, out),
@@ -95,7 +95,7 @@ pub fn put_sending_answer(answer: SendingAnswer, notice: &[u8], out: &mut [u8]) 
 // Writes what follows a `D`.
 pub fn put_result_answer(answer: ResultAnswer, out: &mut [u8]) -> usize
     requires { ⌜ answerRoom ≤ length (now out) ⌝ }
-    ensures { λ r. ⌜ Stands (said (saidResult answer) []) (now (out .entry)) r (now (out .exit)) ⌝ }
+    ensures { λ r. ⌜ Stands (behindLetter (saidResult answer) []) (now (out .entry)) r (now (out .exit)) ⌝ }
 {
     match answer {
         ResultAnswer::Refused(n) => put_numbered(b"refused ", n, out),

@@ -2,11 +2,13 @@
 use mathlib.Core.Path.{_≡_, refl, sym, ap, _∙_}
 use mathlib.Core.Logic.{⊎-elim}
 use mathlib.Core.Bool.{Bool, true, false, cond, not, _&&_, _||_}
+use mathlib.Core.List.{[], _∷_}
 use Prim.Native.Nat.{ℕ, _+_, _*_, _%_, _^_, _≤_, _<_}
 use native.Mathlib.Omega.{arith}
 use lib.Dec.{eqb, ltb, leb}
 use borrow.Author.Tests.{eq-eqb, le-leb, leb-true, leb-false, not-false}
 use Rattle.answers.proofs.Tests.{no-path, or-cases, or-right}
+use Rattle.answers.proofs.Decide.{decide-by, decide-each}
 use Rattle.numbers.specs.Numbers.{isNumber}
 use Rattle.numbers.specs.declared.FunctionalNumber.{FunctionalNumber}
 use Rattle.numbers.specs.declared.Msisdn.{Msisdn}
@@ -15,6 +17,8 @@ use Rattle.records.specs.declared.Notice.the-variants.{Absent, Waiting, InFligh
 use Rattle.records.specs.declared.Record.{Record}
 use Rattle.records.specs.declared.Step.{Step}
 use Rattle.records.specs.declared.Step.the-variants.{Stays, Becomes}
+use Rattle.records.specs.declared.Sending.{Sending}
+use Rattle.records.specs.declared.Sending.the-variants as sending
 use Rattle.records.specs.declared.Resulted.{Resulted}
 use Rattle.records.specs.declared.Resulted.the-variants.{Refused, Delivered, Dropped, Again}
 use Rattle.records.specs.Steps.{nobody, isNobody, same, heldBy, mostSendings, isAbsent, isWaiting, isInFlight, sendingsDone, withNotice, cleared, forcedOff, registered, erased, forced, delayAllowed, isDue, launched, sent, lastKind, resulted}
@@ -61,23 +65,15 @@ abbrev pub SoundStep : Step → Type 0
 SoundStep (Stays n) = Unit {0}
 SoundStep (Becomes r) = recordSound r ≡ true
 
+abbrev pub SoundSending : Sending → Type 0
+SoundSending (sending.Refused n) = Unit {0}
+SoundSending (sending.Launched r) = recordSound r ≡ true
+
 abbrev pub SoundResult : Resulted → Type 0
 SoundResult (Refused n) = Unit {0}
 SoundResult (Delivered r) = recordSound r ≡ true
 SoundResult (Dropped r) = recordSound r ≡ true
 SoundResult (Again r) = recordSound r ≡ true
-
--- a step that two or three checks come before
-two-checks : (a b : Bool) (i j : ℕ) (next : Record) → recordSound next ≡ true → SoundStep (cond a (Stays i) (cond b (Stays j) (Becomes next)))
-two-checks true b i j next h = tt
-two-checks false true i j next h = tt
-two-checks false false i j next h = h
-
-three-checks : (a b c : Bool) (i j k : ℕ) (next : Record) → (a ≡ false → b ≡ false → recordSound next ≡ true) → SoundStep (cond a (Stays i) (cond b (Stays j) (cond c (Stays k) (Becomes next))))
-three-checks true b c i j k next h = tt
-three-checks false true c i j k next h = tt
-three-checks false false true i j k next h = tt
-three-checks false false false i j k next h = h refl refl
 
 module _ (r : Record) (s : recordSound r ≡ true) where
   held-sound : (m : Msisdn) → holderSound (m .0) ≡ true → recordSound (heldBy m r) ≡ true
@@ -86,12 +82,15 @@ module _ (r : Record) (s : recordSound r ≡ true) where
   pub registered-sound : (number : FunctionalNumber) (requester : Msisdn) → isNumber (requester .0) ≡ true → SoundStep (registered number requester r)
   unfolding registered
   registered-sound number requester n =
-      two-checks (eqb (number .0) (requester .0)) (not (isNobody (r .holder)) && not (same (r .holder) requester)) 67 61 (heldBy requester r)
-      (held-sound requester (or-right (eqb (requester .0) 0) (isNumber (requester .0)) n))
+      decide-each SoundStep
+      ((eqb (number .0) (requester .0), Stays 67) ∷ (not (isNobody (r .holder)) && not (same (r .holder) requester), Stays 61) ∷ [])
+      (Becomes (heldBy requester r)) (tt, (tt, tt)) (held-sound requester (or-right (eqb (requester .0) 0) (isNumber (requester .0)) n))
 
   pub erased-sound : (requester : Msisdn) → SoundStep (erased requester r)
   unfolding erased
-  erased-sound requester = two-checks (isNobody (r .holder)) (not (same (r .holder) requester)) 62 63 (heldBy nobody r) (held-sound nobody refl)
+  erased-sound requester =
+      decide-each SoundStep ((isNobody (r .holder), Stays 62) ∷ (not (same (r .holder) requester), Stays 63) ∷ []) (Becomes (heldBy nobody r)) (tt, (tt, tt))
+      (held-sound nobody refl)
 
   off-sound : (supervisor : Msisdn) → isNumber (r .holder .0) ≡ true → isNumber (supervisor .0) ≡ true → same (r .holder) supervisor ≡ false → recordSound (forcedOff supervisor r) ≡ true
   unfolding recordSound noticeBy
@@ -100,9 +99,13 @@ module _ (r : Record) (s : recordSound r ≡ true) where
   pub forced-sound : (supervisor named : Msisdn) → isNumber (supervisor .0) ≡ true → SoundStep (forced supervisor named r)
   unfolding forced
   forced-sound supervisor named n =
-      three-checks (isNobody (r .holder)) (not (same (r .holder) named)) (not (same (r .holder) supervisor) && not (isAbsent (r .notice))) 62 63 68
-      (cond (same (r .holder) supervisor) (heldBy nobody r) (forcedOff supervisor r))
-      (λ a b. own (same (r .holder) supervisor) refl (holder-number r s a))
+      decide-by SoundStep
+      ((isNobody (r .holder), Stays 62)
+      ∷ (not (same (r .holder) named), Stays 63)
+      ∷ (not (same (r .holder) supervisor) && not (isAbsent (r .notice)), Stays 68)
+      ∷ [])
+      (Becomes (cond (same (r .holder) supervisor) (heldBy nobody r) (forcedOff supervisor r))) (tt, (tt, (tt, tt)))
+      (λ passed. own (same (r .holder) supervisor) refl (holder-number r s (passed .0)))
     where
       own : (b : Bool) → same (r .holder) supervisor ≡ b → isNumber (r .holder .0) ≡ true → recordSound (cond b (heldBy nobody r) (forcedOff supervisor r)) ≡ true
       own true e h = held-sound nobody refl
@@ -125,11 +128,16 @@ module _ (r : Record) (s : recordSound r ≡ true) where
       renewed (Waiting k second) (InFlight (k + 1)) e refl (omega arith) (omega arith) (omega arith) refl (le-leb 1 (k + 1) (omega arith))
   launched-sound (InFlight k) e w = no-path w
 
-  pub sent-sound : (delay clock : ℕ) → SoundStep (sent delay clock r)
+  pub sent-sound : (delay clock : ℕ) → SoundSending (sent delay clock r)
   unfolding sent
   sent-sound delay clock =
-      three-checks (not (delayAllowed delay)) (not (isWaiting (r .notice))) (not (isDue delay clock (r .notice))) 6 4 5 (withNotice (launched (r .notice)) r)
-      (λ a b. launched-sound (r .notice) refl (not-false _ b))
+      decide-by SoundSending
+      ((not (delayAllowed delay), sending.Refused 6)
+      ∷ (not (isWaiting (r .notice)), sending.Refused 4)
+      ∷ (not (isDue delay clock (r .notice)), sending.Refused 5)
+      ∷ [])
+      (sending.Launched (withNotice (launched (r .notice)) r)) (tt, (tt, (tt, tt)))
+      (λ passed. launched-sound (r .notice) refl (not-false _ (passed .1 .0)))
 
   cleared-sound : recordSound (cleared r) ≡ true
   unfolding recordSound noticeBy

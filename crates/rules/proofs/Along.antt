@@ -21,20 +21,20 @@ use Rattle.records.specs.declared.Record.{Record}
 use Rattle.records.specs.declared.Step.{Step}
 use Rattle.records.specs.declared.Step.the-variants as step
 use Rattle.records.specs.declared.Holder.the-variants as holds
+use Rattle.records.specs.declared.Sending.the-variants as launches
 use Rattle.records.specs.declared.Resulted.the-variants.{Refused, Delivered, Dropped, Again}
 use Rattle.records.specs.declared.Notice.the-variants.{Waiting}
 use Rattle.records.specs.Steps as steps
 use Rattle.records.specs.Steps.{nobody, isNobody, same, heldBy, forcedOff, isAbsent, isWaiting, isInFlight, sendingsDone, launched, withNotice, cleared, mostSendings, lastKind}
 use Rattle.tables.specs.Tables.{tableSound, listSound, recordOf, flagsOf}
-use Rattle.rules.specs.Answers.{Answer, refusal, delivered, dropped, again, Outcome, made, refusing, bufferRoom}
+use Rattle.rules.specs.Answers.{Answer, refusal, delivered, dropped, again, Outcome, made, refusing, bufferRoom, isOutcome}
 use Rattle.rules.specs.Requests as requests
 use Rattle.rules.specs.Notices as notices
 use Rattle.rules.specs.Requests.{hasFollowMe, isSupervisor, isForced, afterErasure}
 use Rattle.rules.specs.Run.{end, log}
-use Rattle.rules.specs.Calls.{Call, request, sending, result, Reply, replied, call, reading, nameOf, names}
-use Rattle.rules.specs.Visits.{Visited, visited, says, stepped, told, decides, decided, sentStep, resultStep, visitRequest, visit, saying, missedRequest, missed}
+use Rattle.rules.specs.Calls.{Call, request, sending, result, Reply, replied, call, clockReading, nameOf, names}
+use Rattle.rules.specs.Visits.{Visited, visited, visitSaying, stepped, holderAnswered, decides, decided, sentStep, resultStep, visitRequest, visit, replySaying, missedRequest, missed}
 use Rattle.rules.specs.Pending.{never}
-use Rattle.rules.specs.Demand.{isOutcome}
 use Rattle.rules.proofs.Visits.{rightChecks, recordChecks, sentChecks}
 use Rattle.rules.proofs.Sound.{call-own, call-absent, call-other}
 use Rattle.rules.proofs.Local.{named-some}
@@ -47,18 +47,18 @@ pub data Asked (list : List ℕ) (r : Record) (requester : Msisdn) (scheme : ℕ
   negative : {buffer : List ℕ} {a : Answer} → isOutcome 1 a ≡ false → isOutcome 2 a ≡ false → Asked list r requester scheme string reply (visited a buffer r)
   registration : {f : Request} → requestOf string ≡ some f → f .operation ≡ Register
       → (not (isNobody (r .holder)) && not (same (r .holder) requester)) ≡ false
-      → Asked list r requester scheme string reply (says 1 reply (heldBy requester r))
+      → Asked list r requester scheme string reply (visitSaying 1 reply (heldBy requester r))
   erasure : {f : Request} → requestOf string ≡ some f → f .operation ≡ Erase → f .erasing ≡ Empty → same (r .holder) requester ≡ true
-      → Asked list r requester scheme string reply (says 2 reply (heldBy nobody r))
+      → Asked list r requester scheme string reply (visitSaying 2 reply (heldBy nobody r))
   -- a forced erasure by the holder herself
   own : {f : Request} {named : Msisdn} → requestOf string ≡ some f → f .operation ≡ Erase → f .erasing ≡ Forced named
       → same (r .holder) named ≡ true → same (r .holder) requester ≡ true
-      → Asked list r requester scheme string reply (says 2 reply (heldBy nobody r))
+      → Asked list r requester scheme string reply (visitSaying 2 reply (heldBy nobody r))
   -- a forced erasure by another
   forced : {f : Request} {named : Msisdn} → requestOf string ≡ some f → f .operation ≡ Erase → f .erasing ≡ Forced named
       → same (r .holder) named ≡ true → isAbsent (r .notice) ≡ true
       → hasFollowMe (flagsOf list (requester .0)) ≡ true → isSupervisor (flagsOf list (requester .0)) ≡ true
-      → Asked list r requester scheme string reply (says 2 reply (forcedOff requester r))
+      → Asked list r requester scheme string reply (visitSaying 2 reply (forcedOff requester r))
 
 -- what a result returns where it clears the notice
 pub data Clears : Answer → Type 0 where
@@ -71,12 +71,12 @@ pub data Does (list : List ℕ) (r : Record) : Call → Visited → Type 0 where
       → Does list r (request requester scheme string reply) v
   unsent : {now : ℕ} {number : FunctionalNumber} {buffer : List ℕ} {n : ℕ} → Does list r (sending now number buffer) (visited (refusal n) buffer r)
   sends : {now : ℕ} {number : FunctionalNumber} {buffer : List ℕ} → isWaiting (r .notice) ≡ true
-      → Does list r (sending now number buffer) (sentStep number buffer r (step.Becomes (withNotice (launched (r .notice)) r)))
+      → Does list r (sending now number buffer) (sentStep number buffer r (launches.Launched (withNotice (launched (r .notice)) r)))
   untaken : {now kind n : ℕ} {number : FunctionalNumber} → Does list r (result now number kind) (visited (refusal n) [] r)
   clears : {now kind : ℕ} {number : FunctionalNumber} {a : Answer} → Clears a
       → Does list r (result now number kind) (visited a [] (cleared r))
   goes-on : {now kind : ℕ} {number : FunctionalNumber} → leb mostSendings (sendingsDone (r .notice)) ≡ false
-      → Does list r (result now number kind) (visited again [] (withNotice (Waiting (sendingsDone (r .notice)) (reading now)) r))
+      → Does list r (result now number kind) (visited again [] (withNotice (Waiting (sendingsDone (r .notice)) (clockReading now)) r))
 
 module _ (list : List ℕ) (r : Record) (requester : Msisdn) (scheme : ℕ) (string reply : List ℕ) where
   abbrev flags : ℕ
@@ -107,18 +107,18 @@ module _ (list : List ℕ) (r : Record) (requester : Msisdn) (scheme : ℕ) (str
         (λ a. by-holder (same (r .holder) requester) refl (not-false _ (a .1 .0)) (a .1 .1 .0))
       where
         by-holder : (b : Bool) → same (r .holder) requester ≡ b → same (r .holder) named ≡ true → (not b && not (isAbsent (r .notice))) ≡ false
-            → Requested (says 2 reply (cond b (heldBy nobody r) (forcedOff requester r)))
+            → Requested (visitSaying 2 reply (cond b (heldBy nobody r) (forcedOff requester r)))
         by-holder true m h a = own reads p q h m
         by-holder false m h a = forced reads p q h (not-false _ a) right (not-false _ w)
     by-operation Interrogate e p q w =
-        decide-by (λ h. Requested (told reply r h)) (map (answering holds.Stays) (recordChecks Interrogate e (f .number) requester r)) (holds.Held (r .holder))
+        decide-by (λ h. Requested (holderAnswered reply r h)) (map (answering holds.Stays) (recordChecks Interrogate e (f .number) requester r)) (holds.Held (r .holder))
         (negative refl refl, tt) (λ a. negative refl refl)
 
   by-reading : (o : Option Request) → requestOf string ≡ o → Requested (visitRequest flags requester reply o r)
   unfolding decided
   by-reading none reads = negative refl refl
   by-reading (some f) reads =
-      decide-by Requested (map (answering (λ n. says n reply r)) (rightChecks flags (f .erasing))) (decided f requester reply r)
+      decide-by Requested (map (answering (λ n. visitSaying n reply r)) (rightChecks flags (f .erasing))) (decided f requester reply r)
       (negative refl refl, (negative refl refl, tt)) (λ a. by-operation f reads (not-false _ (a .0)) (f .operation) (f .erasing) refl refl (a .1 .0))
 
 -- a visit does one of these
@@ -127,9 +127,9 @@ unfolding steps.sent steps.resulted
 does list delay (request requester scheme string reply) r = asks (by-reading list r requester scheme string reply (requestOf string) refl)
 does list delay (sending now number buffer) r =
     decide-by (Does list r (sending now number buffer)) ((ltb (length buffer) bufferRoom, visited (refusal 1) buffer r) ∷ [])
-    (sentStep number buffer r (steps.sent delay (reading now) r)) (unsent, tt)
-    (λ p. decide-by (λ s. Does list r (sending now number buffer) (sentStep number buffer r s)) (map (answering step.Stays) (sentChecks delay (reading now) r))
-    (step.Becomes (withNotice (launched (r .notice)) r)) (unsent, (unsent, (unsent, tt))) (λ a. sends (not-false _ (a .1 .0))))
+    (sentStep number buffer r (steps.sent delay (clockReading now) r)) (unsent, tt)
+    (λ p. decide-by (λ s. Does list r (sending now number buffer) (sentStep number buffer r s)) (map (answering launches.Refused) (sentChecks delay (clockReading now) r))
+    (launches.Launched (withNotice (launched (r .notice)) r)) (unsent, (unsent, (unsent, tt))) (λ a. sends (not-false _ (a .1 .0))))
 does list delay (result now number kind) r =
     decide-by (λ s. Does list r (result now number kind) (resultStep r s))
     ((ltb lastKind kind, Refused 3)
@@ -138,7 +138,7 @@ does list delay (result now number kind) r =
     ∷ (ltb kind lastKind, Dropped (cleared r))
     ∷ (leb mostSendings (sendingsDone (r .notice)), Dropped (cleared r))
     ∷ [])
-    (Again (withNotice (Waiting (sendingsDone (r .notice)) (reading now)) r))
+    (Again (withNotice (Waiting (sendingsDone (r .notice)) (clockReading now)) r))
     (untaken, (untaken, (clears delivers, (clears drops, (clears drops, tt))))) (λ a. goes-on (a .1 .1 .1 .1 .0))
 
 -- ---- a list of calls, seen from the number k
@@ -163,23 +163,23 @@ module _ (t : List ℕ) (unsound : tableSound t ≡ false) where
   abbrev RefusedAt : Outcome → Type 0
   RefusedAt o = (n : ℕ) × (buffer : List ℕ) × (replied o ≡ (record { answer = refusal n; buffer = buffer }, t))
 
-  request-refused : (list reply : List ℕ) (requester : Msisdn) (scheme : ℕ) (string : List ℕ) → RefusedAt (requests.request t list reply requester scheme string)
-  unfolding requests.request requests.requestChecks
+  request-refused : (list reply : List ℕ) (requester : Msisdn) (scheme : ℕ) (string : List ℕ) → RefusedAt (requests.requesting t list reply requester scheme string)
+  unfolding requests.requesting requests.requestChecks
   request-refused list reply requester scheme string =
       rw unsound (decide-each RefusedAt (refusing t reply ((ltb (length reply) bufferRoom, refusal 1) ∷ (not (listSound list), refusal 8) ∷ []))
       (made (refusal 2) t reply) ((1, reply, refl), ((8, reply, refl), tt)) (2, reply, refl))
 
-  sending-refused : (buffer : List ℕ) (number : FunctionalNumber) (delay clock : ℕ) → RefusedAt (notices.sending t buffer number delay clock)
-  unfolding notices.sending
+  sending-refused : (buffer : List ℕ) (number : FunctionalNumber) (delay clock : ℕ) → RefusedAt (notices.sendingNotice t buffer number delay clock)
+  unfolding notices.sendingNotice
   sending-refused buffer number delay clock =
       rw unsound (decide-each RefusedAt (refusing t buffer ((ltb (length buffer) bufferRoom, refusal 1) ∷ []))
       (made (refusal 2) t buffer) ((1, buffer, refl), tt) (2, buffer, refl))
 
   unsound-refused : (list : List ℕ) (delay : ℕ) (c : Call)
       → (n : ℕ) × (buffer : List ℕ) × (call list delay c t ≡ (record { answer = refusal n; buffer = buffer }, t))
-  unfolding notices.result
+  unfolding notices.takingResult
   unsound-refused list delay (request requester scheme string reply) = request-refused list reply requester scheme string
-  unsound-refused list delay (sending now number buffer) = sending-refused buffer number delay (reading now)
+  unsound-refused list delay (sending now number buffer) = sending-refused buffer number delay (clockReading now)
   unsound-refused list delay (result now number kind) = rw unsound (2, [], refl)
 
 module _ (list : List ℕ) (delay k : ℕ) where
@@ -219,7 +219,7 @@ missed-negative list (request requester scheme string reply) = by-reading (reque
     by-reading : (o : Option Request) → Negative (missedRequest (flagsOf list (requester .0)) reply o)
     by-reading none = refl
     by-reading (some f) =
-        decide-each Negative (map (answering (λ n. saying n reply)) (rightChecks (flagsOf list (requester .0)) (f .erasing))) (saying 41 reply)
+        decide-each Negative (map (answering (λ n. replySaying n reply)) (rightChecks (flagsOf list (requester .0)) (f .erasing))) (replySaying 41 reply)
         (refl, (refl, tt)) refl
 missed-negative list (sending now number buffer) =
     decide-each Negative ((ltb (length buffer) bufferRoom, record { answer = refusal 1; buffer = buffer }) ∷ []) (record { answer = refusal 7; buffer = buffer })

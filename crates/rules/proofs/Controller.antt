@@ -23,11 +23,11 @@ use Rattle.tables.specs.declared.Found.{Found}
 use Rattle.tables.specs.declared.Found.the-variants.{At, Nothing}
 use Rattle.tables.specs.Tables.{tableSound, rowOf, recordOf, flagsOf}
 use Rattle.tables.proofs.Stored.{record-found, record-missing}
-use Rattle.rules.specs.Answers.{bufferRoom}
+use Rattle.rules.specs.Answers.{bufferRoom, isOutcome}
 use Rattle.rules.specs.Requests.{hasFollowMe, holderIn, codingScheme, mostStringOctets, afterErasure}
 use Rattle.rules.specs.Calls.{Call, request, call, nameOf, names}
-use Rattle.rules.specs.Visits.{Visited, says, saying, decided, visit}
-use Rattle.rules.specs.Demand.{isOutcome, holderOf}
+use Rattle.rules.specs.Visits.{Visited, visitSaying, replySaying, decided, visit}
+use Rattle.rules.specs.Demand.{holderOf}
 use Rattle.rules.specs.Users.{bothFlags, WellFormed}
 use Rattle.rules.proofs.Visits.{found-sound, call-visits}
 use Rattle.rules.proofs.Sound.{call-keeps, call-own}
@@ -41,7 +41,7 @@ form-names list requester scheme string reply f form =
     rw (
       le-ltb (length reply) bufferRoom (form .room),
       form .sound,
-      form .stored,
+      form .requesterNumber,
       eq-eqb scheme codingScheme (form .coded),
       ne-eqb (length string) 0 (λ e. omega arith),
       le-ltb mostStringOctets (length string) (form .most),
@@ -85,11 +85,11 @@ module _ (list : List ℕ) (delay : ℕ) (table : List ℕ) (s : Msisdn) (scheme
   abbrev waits : Bool
   waits = not (same (r .holder) s) && not (isAbsent (r .notice))
 
-  visit-frees : waits ≡ false → visit list delay asked r ≡ says 2 reply (afterErasure s (Forced (r .holder)) r)
+  visit-frees : waits ≡ false → visit list delay asked r ≡ visitSaying 2 reply (afterErasure s (Forced (r .holder)) r)
   unfolding decided steps.forced
   visit-frees e = rw (form .reads, flags, erases, forces, held, one-same (r .holder) (r .holder) refl, e) refl
 
-  visit-waits : waits ≡ true → visit list delay asked r ≡ says 68 reply r
+  visit-waits : waits ≡ true → visit list delay asked r ≡ visitSaying 68 reply r
   unfolding decided steps.forced
   visit-waits e = rw (form .reads, flags, erases, forces, held, one-same (r .holder) (r .holder) refl, e) refl
 
@@ -99,14 +99,14 @@ module _ (list : List ℕ) (delay : ℕ) (table : List ℕ) (s : Msisdn) (scheme
 
   -- at phase 0, or where s is the holder: 02 in that call, and nobody holds the number
   pub frees-at-once : (isAbsent (r .notice) ≡ true) ⊎ (s ≡ r .holder)
-      → ((call list delay asked table) .0 ≡ saying 2 reply) × (holderOf ((call list delay asked table) .1) number ≡ 0)
+      → ((call list delay asked table) .0 ≡ replySaying 2 reply) × (holderOf ((call list delay asked table) .1) number ≡ 0)
   frees-at-once may =
       let goes : waits ≡ false = ⊎-elim (λ a. and-no (not (same (r .holder) s)) _ (ap not a)) (λ e. rw (one-same (r .holder) s (sym e)) refl) may in
       let d = visit-gets list delay asked table number r _ sound (form-names list s scheme string reply f form) known (visit-frees goes) in
       (d .0, d .1 ∙ erased-nobody (same (r .holder) s))
 
   -- otherwise 68, and the table is as it was
-  pub waits-for-the-notice : isAbsent (r .notice) ≡ false → (s ≡ r .holder → ⊥) → call list delay asked table ≡ (saying 68 reply, table)
+  pub waits-for-the-notice : isAbsent (r .notice) ≡ false → (s ≡ r .holder → ⊥) → call list delay asked table ≡ (replySaying 68 reply, table)
   waits-for-the-notice pending other =
       let stops : waits ≡ true = rw (not-same (r .holder) s (λ e. other (sym e)), pending) refl in
       visit-leaves list delay asked table number r _ sound (form-names list s scheme string reply f form) known (visit-waits stops) refl
@@ -132,7 +132,7 @@ module _ (list : List ℕ) (delay : ℕ) (m : Msisdn) (scheme : ℕ) (string rep
   abbrev asks-for : Call
   asks-for = request m scheme string reply
 
-  visit-registers : (r : Record) → r .holder ≡ nobody → visit list delay asks-for r ≡ says 1 reply (heldBy m r)
+  visit-registers : (r : Record) → r .holder ≡ nobody → visit list delay asks-for r ≡ visitSaying 1 reply (heldBy m r)
   unfolding decided steps.registered
   visit-registers r free = rw (form .reads, flag, registers, plain, ne-eqb (f .number .0) (m .0) other, free) refl
 
@@ -140,7 +140,7 @@ module _ (list : List ℕ) (delay : ℕ) (m : Msisdn) (scheme : ℕ) (string rep
   pub next-registers : (c : Call) (table : List ℕ) → tableSound table ≡ true → names list c (f .number .0) ≡ true
       → isOutcome 2 ((call list delay c table) .0 .answer) ≡ true
       → let after = (call list delay c table) .1 in
-      ((call list delay asks-for after) .0 ≡ saying 1 reply) × (holderOf ((call list delay asks-for after) .1) (f .number .0) ≡ m .0)
+      ((call list delay asks-for after) .0 ≡ replySaying 1 reply) × (holderOf ((call list delay asks-for after) .1) (f .number .0) ≡ m .0)
   next-registers c table sound named answered =
       let (r, v, d, known, u) = answered-02 (along list delay (f .number .0) (c ∷ []) table) named answered in
       visit-gets list delay asks-for ((call list delay c table) .1) (f .number .0) (v .next) _ (call-keeps list delay c table sound .sound)

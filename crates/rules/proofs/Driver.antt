@@ -13,13 +13,14 @@ use Rattle.numbers.specs.declared.Msisdn.{Msisdn}
 use Rattle.records.specs.declared.Record.{Record}
 use Rattle.records.specs.Steps.{nobody, isNobody, same, isAbsent}
 use Rattle.tables.specs.Tables.{listSound, recordOf, flagsOf}
+use Rattle.rules.specs.Answers.{isOutcome}
 use Rattle.rules.specs.Run.{end, log}
 use Rattle.rules.specs.Requests.{refusalChecks, hasFollowMe, isSupervisor, holderIn, noNotice}
 use Rattle.rules.specs.Calls.{Call, Reply, request, call, nameOf, names}
 use Rattle.rules.specs.Visits.{Visited}
 use Rattle.rules.specs.Pending.{never}
-use Rattle.rules.specs.Users.{isRequest, bothFlags, mayEndHold, endsHold, HoldEnded, registers, HoldBegun}
-use Rattle.rules.specs.Demand.{isOutcome, requesterOf, holderOf}
+use Rattle.rules.specs.Users.{isRequest, bothFlags, mayEndHold, endsHold, HoldEnded, HoldBegun}
+use Rattle.rules.specs.Demand.{registers, requesterOf, holderOf}
 use Rattle.tables.proofs.Stored.{flags-small}
 use Rattle.rules.proofs.Visits.{naming}
 use Rattle.rules.proofs.Local.{named-some}

@@ -1,25 +1,26 @@
 -- Document 01, "Examples": P1 to P15, of the rules, computed from octets and words, as one list under one statement. Assumes nothing.
 use mathlib.Core.Path.{_≡_, refl}
 use mathlib.Core.Bool.{Bool, true}
-use mathlib.Core.List.{List, [], _∷_, _++_}
+use mathlib.Core.List.{List, [], _∷_, _++_, map}
 use Prim.Native.Nat.{ℕ}
 use lib.ListN.{replicate}
 use Rattle.answers.specs.Leading.{leading}
 use Rattle.answers.specs.Ascii.{ascii}
-use Rattle.packing.specs.Packing.{number, digits, octetsFor, charsIn, padded, packed, characters, readable, filled, kept, unpacked}
-use Rattle.numbers.specs.Numbers.{isDigit, pushed, stored, isNumber, digitsUpTo, digitsOf, numberAt}
-use Rattle.strings.specs.Text.{isAdditional, textOf, noticeOf}
+use Rattle.answers.specs.Writing.{over}
+use Rattle.packing.specs.Packing.{valueOf, digits, octetsFor, charsIn, padded, packed, characters, readable, filled, kept, unpacked}
+use Rattle.numbers.specs.Numbers.{isDigit, pushed, storedForm, isNumber, digitsUpTo, digitsOf, leadingNumber}
+use Rattle.strings.specs.Text.{isAdditional, textOf, noticeFields}
 use Rattle.strings.specs.Reader.{begins, operationAt, serviceAt, numberFieldAt, forcedAt, erasingAt, additionalAt, fieldsOf}
 use Rattle.strings.specs.Outcomes.{requestOf}
 use Rattle.records.specs.Steps.{elapsed, delayOf, delayAllowed}
 use Rattle.rows.specs.Rows as rows
 use Rattle.tables.specs.Keys.{placeOf}
 use Rattle.tables.specs.Tables.{tableSound, rowOf, recordOf, listSound, flagsOf}
-use Rattle.rules.specs.Answers.{Answer, refusal, error, outcome, sent, dropped, again}
+use Rattle.rules.specs.Answers.{Answer, refusal, error, outcome, sentTo, dropped, again}
 use Rattle.rules.specs.Requests as requests
 use Rattle.rules.specs.Notices as notices
 use Rattle.rules.specs.Run.{end, log}
-use Rattle.rules.specs.Calls.{Call, request, sending, result, Reply, call}
+use Rattle.rules.specs.Calls.{Call, request, sending, result, bufferOf, Reply, call}
 
 -- A = 4915100001 (flags 1), B = 4915100002 (flags 3), C = 4915100003 (flags 0), F = 0492123401, as stored
 abbrev pub A : ℕ
@@ -54,6 +55,13 @@ room = replicate 80 0
 abbrev pub asks : ℕ → List ℕ → Call
 asks msisdn text = request (record { 0 = msisdn }) 0x0F (packed text) room
 
+-- a sending of F's notice, and a result of kind 5, at a clock reading
+abbrev pub sends : ℕ → Call
+sends now = sending now (record { 0 = F }) room
+
+abbrev pub fails : ℕ → Call
+fails now = result now (record { 0 = F }) 5
+
 -- the request strings of the examples
 abbrev pub registersF : List ℕ
 registersF = ascii "**214*0492123401***#"
@@ -76,63 +84,78 @@ interrogatesF = ascii "*#214*0492123401***#"
 abbrev pub halfForced : List ℕ
 halfForced = ascii "**214*0492123401*88**#"
 
--- characters and their octets; octets and what they read as; a table, calls over it, the last call's answer and the table then
+-- by its label P1 to P15: characters and their octets; octets and what they read as; a table, calls over it, each with what it gets, and the table then
 pub data Example : Type 0 where
-  packs reads : List ℕ → List ℕ → Example
-  answers : List ℕ → List Call → Answer → List ℕ → Example
+  packs reads : ℕ → List ℕ → List ℕ → Example
+  answers : ℕ → List ℕ → List (Call × Reply) → List ℕ → Example
+
+-- what a call gets: its answer, and the octets at the front of its buffer, all others as they were
+abbrev pub gets : Call → Answer → List ℕ → Call × Reply
+gets c a octets = (c, record { answer = a; buffer = over octets (bufferOf c) })
+
+abbrev pub says : Call → ℕ → List ℕ → Call × Reply
+says c n octets = gets c (outcome n 2) octets
 
 abbrev pub go : Call → List ℕ → Reply × List ℕ
 go = call subscribers 0
 
-abbrev pub lastAnswer : Answer → List (Call × Reply) → Answer
-lastAnswer a [] = a
-lastAnswer a (p ∷ ps) = lastAnswer (p .1 .answer) ps
+abbrev pub calls : List (Call × Reply) → List Call
+calls got = map (λ p. p .0) got
 
+-- every answer, every octet of every buffer, and the table
 abbrev pub Holds : Example → Type 0
-Holds (packs cs os) = packed cs ≡ os
-Holds (reads os cs) = _≡_ {A = Bool × List ℕ} (readable os, unpacked os) (true, cs)
-Holds (answers table cs a after) = _≡_ {A = Answer × List ℕ} (lastAnswer (refusal 0) (log go cs table), end go cs table) (a, after)
+Holds (packs p cs os) = packed cs ≡ os
+Holds (reads p os cs) = _≡_ {A = Bool × List ℕ} (readable os, unpacked os) (true, cs)
+Holds (answers p table got after) = _≡_ {A = List (Call × Reply) × List ℕ} (log go (calls got) table, end go (calls got) table) (got, after)
 
 infixr 5 _and_
 pub data All : List Example → Type 0 where
   done : All []
   _and_ : {e : Example} {es : List Example} → Holds e → All es → All (e ∷ es)
 
+-- the octets of `01`, `02` and so on
+abbrev pub octets01 : List ℕ
+octets01 = 0xB0 ∷ 0x18 ∷ []
+
+abbrev pub octets02 : List ℕ
+octets02 = 0x30 ∷ 0x19 ∷ []
+
+abbrev pub octets63 : List ℕ
+octets63 = 0xB6 ∷ 0x19 ∷ []
+
+-- the octets of `##214*0492123401*88*4915100002*#`
+abbrev pub noticeOctets : List ℕ
+noticeOctets =
+    0xA3 ∷ 0x91 ∷ 0x2C ∷ 0x46 ∷ 0x53 ∷ 0xC1 ∷ 0x68 ∷ 0x39 ∷ 0x59 ∷ 0x4C ∷ 0x36 ∷ 0xA3 ∷ 0xC1 ∷ 0x62
+    ∷ 0x2A ∷ 0x1C ∷ 0x4E ∷ 0x45 ∷ 0xCB ∷ 0xC5 ∷ 0x6A ∷ 0x31 ∷ 0x18 ∷ 0x0C ∷ 0x06 ∷ 0x93 ∷ 0xA9 ∷ 0x46 ∷ []
+
 abbrev pub examples : List Example
 examples =
-    packs (ascii "*#") (0xAA ∷ 0x11 ∷ [])
-    ∷ packs (ascii "1234567") (0x31 ∷ 0xD9 ∷ 0x8C ∷ 0x56 ∷ 0xB3 ∷ 0xDD ∷ 0x1A ∷ [])
-    ∷ packs (ascii "12345678") (0x31 ∷ 0xD9 ∷ 0x8C ∷ 0x56 ∷ 0xB3 ∷ 0xDD ∷ 0x70 ∷ [])
-    ∷ reads (0x31 ∷ 0xD9 ∷ 0x8C ∷ 0x56 ∷ 0xB3 ∷ 0xDD ∷ 0x00 ∷ []) (ascii "1234567" ++ (0 ∷ []))
-    -- P5
-    ∷ answers free (asks A registersF ∷ []) (outcome 1 2) (held A)
-    -- P6
-    ∷ answers (held A) (asks B registersF ∷ []) (outcome 61 2) (held A)
-    ∷ answers (held A) (asks A registersF ∷ []) (outcome 1 2) (held A)
-    -- P7
-    ∷ answers (held A) (asks B erasesF ∷ []) (outcome 63 2) (held A)
-    -- P8
-    ∷ answers (held A) (asks B forcesB ∷ []) (outcome 63 2) (held A)
-    ∷ answers (held A) (asks B forcesA ∷ []) (outcome 2 2) (noticed 0 1 0)
-    -- P9
-    ∷ answers (held A) (asks A forcesA ∷ []) (outcome 22 2) (held A)
-    -- P10
-    ∷ answers (held A) (asks C interrogatesF ∷ []) (outcome 42 2) (held A)
-    -- P11
-    ∷ answers free (asks A registersWithoutZero ∷ []) (outcome 41 2) free
-    -- P12
-    ∷ answers free (asks A halfForced ∷ []) (error 36) free
-    -- P13
-    ∷ answers (noticed 0 3 4294967290) (sending 53 (record { 0 = F }) room ∷ []) (refusal 5) (noticed 0 3 4294967290)
-    ∷ answers (noticed 0 3 4294967290) (sending 54 (record { 0 = F }) room ∷ []) (sent A 28) (noticed 0 4 0)
-    -- P14
-    ∷ answers (noticed 0 8 0) (result 7 (record { 0 = F }) 5 ∷ []) again (noticed 0 9 7)
-    ∷ answers (noticed 0 10 0) (result 7 (record { 0 = F }) 5 ∷ []) dropped free
-    -- P15
-    ∷ answers free (asks A registersF ∷ asks B forcesA ∷ asks A registersF ∷ asks B forcesA ∷ []) (outcome 68 2) (noticed A 1 0)
+    packs 1 (ascii "*#") (0xAA ∷ 0x11 ∷ [])
+    ∷ packs 2 (ascii "1234567") (0x31 ∷ 0xD9 ∷ 0x8C ∷ 0x56 ∷ 0xB3 ∷ 0xDD ∷ 0x1A ∷ [])
+    ∷ packs 3 (ascii "12345678") (0x31 ∷ 0xD9 ∷ 0x8C ∷ 0x56 ∷ 0xB3 ∷ 0xDD ∷ 0x70 ∷ [])
+    ∷ reads 4 (0x31 ∷ 0xD9 ∷ 0x8C ∷ 0x56 ∷ 0xB3 ∷ 0xDD ∷ 0x00 ∷ []) (ascii "1234567" ++ (0 ∷ []))
+    ∷ answers 5 free (says (asks A registersF) 1 octets01 ∷ []) (held A)
+    ∷ answers 6 (held A) (says (asks B registersF) 61 (0xB6 ∷ 0x18 ∷ []) ∷ says (asks A registersF) 1 octets01 ∷ []) (held A)
+    ∷ answers 7 (held A) (says (asks B erasesF) 63 octets63 ∷ []) (held A)
+    ∷ answers 8 (held A) (says (asks B forcesB) 63 octets63 ∷ says (asks B forcesA) 2 octets02 ∷ []) (noticed 0 1 0)
+    ∷ answers 9 (held A) (says (asks A forcesA) 22 (0x32 ∷ 0x19 ∷ []) ∷ []) (held A)
+    ∷ answers 10 (held A) (says (asks C interrogatesF) 42 (0x34 ∷ 0x19 ∷ []) ∷ []) (held A)
+    ∷ answers 11 free (says (asks A registersWithoutZero) 41 (0xB4 ∷ 0x18 ∷ []) ∷ []) free
+    ∷ answers 12 free (gets (asks A halfForced) (error 36) [] ∷ []) free
+    ∷ answers 13 (noticed 0 3 4294967290) (gets (sends 53) (refusal 5) [] ∷ gets (sends 54) (sentTo A 28) noticeOctets ∷ []) (noticed 0 4 0)
+    ∷ answers 14 (noticed 0 8 0) (gets (fails 7) again [] ∷ []) (noticed 0 9 7)
+    ∷ answers 14 (noticed 0 10 0) (gets (fails 7) dropped [] ∷ []) free
+    ∷ answers 15 free
+    (says (asks A registersF) 1 octets01
+    ∷ says (asks B forcesA) 2 octets02
+    ∷ says (asks A registersF) 1 octets01
+    ∷ says (asks B forcesA) 68 (0x36 ∷ 0x1C ∷ [])
+    ∷ [])
+    (noticed A 1 0)
     ∷ []
 
 pub p1-to-p15 : All examples
-unfolding number digits octetsFor charsIn padded packed characters readable filled kept unpacked isDigit pushed stored isNumber digitsUpTo digitsOf leading numberAt isAdditional textOf noticeOf begins operationAt serviceAt numberFieldAt forcedAt erasingAt additionalAt fieldsOf requestOf elapsed delayOf delayAllowed rows.noticeBy rows.rowSound rows.noticeOf rows.recordAt rows.stored placeOf tableSound rowOf recordOf listSound flagsOf requests.requestChecks requests.request notices.sending notices.result
+unfolding valueOf digits octetsFor charsIn padded packed characters readable filled kept unpacked isDigit pushed storedForm isNumber digitsUpTo digitsOf leading leadingNumber isAdditional textOf noticeFields begins operationAt serviceAt numberFieldAt forcedAt erasingAt additionalAt fieldsOf requestOf elapsed delayOf delayAllowed rows.noticeBy rows.rowSound rows.noticeOf rows.recordAt rows.stored placeOf tableSound rowOf recordOf listSound flagsOf requests.requestChecks requests.requesting notices.sendingNotice notices.takingResult
 p1-to-p15 =
-    refl and refl and refl and refl and refl and refl and refl and refl and refl and refl and refl and refl and refl and refl and refl and refl and refl and refl and refl and done
+    refl and refl and refl and refl and refl and refl and refl and refl and refl and refl and refl and refl and refl and refl and refl and refl and done

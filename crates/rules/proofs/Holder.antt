@@ -20,15 +20,16 @@ use Rattle.records.specs.declared.Record.{Record}
 use Rattle.records.specs.declared.Step.{Step}
 use Rattle.records.specs.declared.Step.the-variants as step
 use Rattle.records.specs.declared.Holder.the-variants as holds
+use Rattle.records.specs.declared.Sending.the-variants as launches
 use Rattle.records.specs.declared.Resulted.the-variants.{Refused, Delivered, Dropped, Again}
 use Rattle.records.specs.Steps as steps
 use Rattle.tables.specs.Tables.{tableSound, recordOf, flagsOf}
-use Rattle.rules.specs.Answers.{Answer, refusal, bufferRoom}
+use Rattle.rules.specs.Answers.{Answer, refusal, bufferRoom, isOutcome}
 use Rattle.rules.specs.Requests.{holderIn, afterErasure}
 use Rattle.rules.specs.Run.{only, last, end, log}
-use Rattle.rules.specs.Calls.{Call, request, sending, result, Reply, reading, call, nameOf, names}
-use Rattle.rules.specs.Visits.{Visited, visited, says, stepped, told, decides, decided, sentStep, resultStep, visitRequest, visit, saying, missedRequest, missed}
-use Rattle.rules.specs.Demand.{isOutcome, requesterOf, decidesHolder, holderAfter, holderOf}
+use Rattle.rules.specs.Calls.{Call, request, sending, result, Reply, clockReading, call, nameOf, names}
+use Rattle.rules.specs.Visits.{Visited, visited, visitSaying, stepped, holderAnswered, decides, decided, sentStep, resultStep, visitRequest, visit, replySaying, missedRequest, missed}
+use Rattle.rules.specs.Demand.{requesterOf, decidesHolder, holderAfter, holderOf}
 use Rattle.rules.proofs.Visits.{rightChecks, recordChecks, sentChecks}
 use Rattle.rules.proofs.Sound.{call-keeps, call-own, call-absent, call-other}
 use Rattle.rules.proofs.Local.{named-some}
@@ -63,22 +64,22 @@ module _ (r : Record) (reply : List ℕ) (requester : Msisdn) where
       decide-each (Stepped 2) (map (answering step.Stays) (recordChecks Erase (Forced m) number requester r))
       (step.Becomes (afterErasure requester (Forced m) r)) (refl, (refl, (refl, tt))) (freed (steps.same (r .holder) requester))
   decides-says Interrogate e number =
-      decide-each (λ h. Says (requester .0) r (told reply r h)) (map (answering holds.Stays) (recordChecks Interrogate e number requester r))
+      decide-each (λ h. Says (requester .0) r (holderAnswered reply r h)) (map (answering holds.Stays) (recordChecks Interrogate e number requester r))
       (holds.Held (r .holder)) (refl, tt) refl
 
   request-says : (flags : ℕ) (read : Option Request) → Says (requester .0) r (visitRequest flags requester reply read r)
   unfolding decided
   request-says flags none = refl
   request-says flags (some f) =
-      decide-each (Says (requester .0) r) (map (answering (λ n. says n reply r)) (rightChecks flags (f .erasing))) (decided f requester reply r)
+      decide-each (Says (requester .0) r) (map (answering (λ n. visitSaying n reply r)) (rightChecks flags (f .erasing))) (decided f requester reply r)
       (refl, (refl, tt)) (decides-says (f .operation) (f .erasing) (f .number))
 
 module _ (r : Record) where
   sent-says : (number : FunctionalNumber) (buffer : List ℕ) (delay clock : ℕ) → Says 0 r (sentStep number buffer r (steps.sent delay clock r))
   unfolding steps.sent
   sent-says number buffer delay clock =
-      decide-each (λ s. Says 0 r (sentStep number buffer r s)) (map (answering step.Stays) (sentChecks delay clock r))
-      (step.Becomes (steps.withNotice (steps.launched (r .notice)) r)) (refl, (refl, (refl, tt))) refl
+      decide-each (λ s. Says 0 r (sentStep number buffer r s)) (map (answering launches.Refused) (sentChecks delay clock r))
+      (launches.Launched (steps.withNotice (steps.launched (r .notice)) r)) (refl, (refl, (refl, tt))) refl
 
   result-says : (kind clock : ℕ) → Says 0 r (resultStep r (steps.resulted kind clock r))
   unfolding steps.resulted
@@ -95,9 +96,9 @@ module _ (r : Record) where
 visit-says : (list : List ℕ) (delay : ℕ) (c : Call) (r : Record) → Says (requesterOf c) r (visit list delay c r)
 visit-says list delay (request requester scheme string reply) r = request-says r reply requester (flagsOf list (requester .0)) (requestOf string)
 visit-says list delay (sending now number buffer) r =
-    decide-each (Says 0 r) ((ltb (length buffer) bufferRoom, visited (refusal 1) buffer r) ∷ []) (sentStep number buffer r (steps.sent delay (reading now) r))
-    (refl, tt) (sent-says r number buffer delay (reading now))
-visit-says list delay (result now number kind) r = result-says r kind (reading now)
+    decide-each (Says 0 r) ((ltb (length buffer) bufferRoom, visited (refusal 1) buffer r) ∷ []) (sentStep number buffer r (steps.sent delay (clockReading now) r))
+    (refl, tt) (sent-says r number buffer delay (clockReading now))
+visit-says list delay (result now number kind) r = result-says r kind (clockReading now)
 
 -- ---- a call
 
@@ -108,8 +109,8 @@ missed-says list (request requester scheme string reply) q = go (requestOf strin
     go : (read : Option Request) → said (missedRequest (flagsOf list (requester .0)) reply read .answer) q 0 ≡ 0
     go none = refl
     go (some f) =
-        decide-each (λ (r : Reply). said (r .answer) q 0 ≡ 0) (map (answering (λ n. saying n reply)) (rightChecks (flagsOf list (requester .0)) (f .erasing)))
-        (saying 41 reply) (refl, (refl, tt)) refl
+        decide-each (λ (r : Reply). said (r .answer) q 0 ≡ 0) (map (answering (λ n. replySaying n reply)) (rightChecks (flagsOf list (requester .0)) (f .erasing)))
+        (replySaying 41 reply) (refl, (refl, tt)) refl
 missed-says list (sending now number buffer) q =
     decide-each (λ (r : Reply). said (r .answer) q 0 ≡ 0) ((ltb (length buffer) bufferRoom, record { answer = refusal 1; buffer = buffer }) ∷ [])
     (record { answer = refusal 7; buffer = buffer }) (refl, tt) refl

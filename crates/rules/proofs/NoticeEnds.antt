@@ -21,12 +21,12 @@ use Rattle.tables.specs.declared.Found.{Found}
 use Rattle.tables.specs.declared.Found.the-variants.{At, Nothing}
 use Rattle.tables.specs.Tables.{tableSound, rowOf}
 use Rattle.tables.proofs.Stored.{record-found, record-missing}
-use Rattle.rules.specs.Answers.{refusal, bufferRoom}
+use Rattle.rules.specs.Answers.{refusal, bufferRoom, isSent}
 use Rattle.rules.specs.Run.{only, end, log}
 use Rattle.rules.specs.Notices.{noticeIn}
 use Rattle.rules.specs.Calls.{Call, Reply, request, sending, result, call, names}
 use Rattle.rules.specs.Visits.{Visited}
-use Rattle.rules.specs.Pending.{noticeFor, never, holdsAt, isSent, isSendingOf, isResultOf, sendingDone, resultTaken, ResultBetween, noticeCleared}
+use Rattle.rules.specs.Pending.{noticeFor, never, holdsAt, isSendingOf, isResultOf, sendingDone, resultTaken, ResultBetween, noticeCleared}
 use Rattle.rules.proofs.Visits.{found-sound}
 use Rattle.rules.proofs.Sound.{end-keeps}
 use Rattle.rules.proofs.Along.{Asked, negative, registration, erasure, own, forced, Does, asks, unsent, sends, untaken, clears, goes-on, delivers, drops, Passed, unnamed, missing, refused, Along, ends, passes, visits, along, never-first}

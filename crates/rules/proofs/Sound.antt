@@ -24,20 +24,22 @@ use Rattle.records.specs.declared.Step.{Step}
 use Rattle.records.specs.declared.Step.the-variants as step
 use Rattle.records.specs.declared.Holder.{Holder}
 use Rattle.records.specs.declared.Holder.the-variants as holds
+use Rattle.records.specs.declared.Sending.{Sending}
+use Rattle.records.specs.declared.Sending.the-variants as launches
 use Rattle.records.specs.declared.Resulted.{Resulted}
 use Rattle.records.specs.declared.Resulted.the-variants.{Refused, Delivered, Dropped, Again}
 use Rattle.records.specs.Steps as steps
 use Rattle.rows.specs.Rows.{numberAt, recordAt, stored, recordSound}
 use Rattle.rows.proofs.Rows.{record-sound, stored-length, stored-number}
-use Rattle.rows.proofs.Kept.{SoundStep, SoundResult, registered-sound, erased-sound, forced-sound, sent-sound, resulted-sound}
+use Rattle.rows.proofs.Kept.{SoundStep, SoundSending, SoundResult, registered-sound, erased-sound, forced-sound, sent-sound, resulted-sound}
 use Rattle.tables.specs.declared.Found.{Found}
 use Rattle.tables.specs.declared.Found.the-variants.{At, Nothing}
 use Rattle.tables.specs.Tables.{tableSound, rowOf, recordFound, recordOf, rowsIn, flagsOf}
 use Rattle.tables.proofs.Stored.{row-found, own-record, other-record, table-stored}
 use Rattle.rules.specs.Answers.{refusal, bufferRoom}
 use Rattle.rules.specs.Run.{end}
-use Rattle.rules.specs.Calls.{Call, request, sending, result, Reply, reading, call, nameOf, isNamed, names}
-use Rattle.rules.specs.Visits.{Visited, visited, says, stepped, told, decides, decided, sentStep, resultStep, visitRequest, visit, missed}
+use Rattle.rules.specs.Calls.{Call, request, sending, result, Reply, clockReading, call, nameOf, isNamed, names}
+use Rattle.rules.specs.Visits.{Visited, visited, visitSaying, stepped, holderAnswered, decides, decided, sentStep, resultStep, visitRequest, visit, missed}
 use Rattle.rules.proofs.Visits.{found-sound, rightChecks, requester-number, call-visits, call-misses, call-stops}
 
 -- ---- a visit leaves a sound record
@@ -50,13 +52,13 @@ module _ (r : Record) (sound : recordSound r ≡ true) where
   stepped-sound n reply (step.Stays m) h = sound
   stepped-sound n reply (step.Becomes next) h = h
 
-  told-sound : (reply : List ℕ) (h : Holder) → SoundVisit (told reply r h)
+  told-sound : (reply : List ℕ) (h : Holder) → SoundVisit (holderAnswered reply r h)
   told-sound reply (holds.Stays m) = sound
   told-sound reply (holds.Held msisdn) = sound
 
-  sent-step-sound : (number : FunctionalNumber) (buffer : List ℕ) (s : Step) → SoundStep s → SoundVisit (sentStep number buffer r s)
-  sent-step-sound number buffer (step.Stays m) h = sound
-  sent-step-sound number buffer (step.Becomes next) h = h
+  sent-step-sound : (number : FunctionalNumber) (buffer : List ℕ) (s : Sending) → SoundSending s → SoundVisit (sentStep number buffer r s)
+  sent-step-sound number buffer (launches.Refused m) h = sound
+  sent-step-sound number buffer (launches.Launched next) h = h
 
   result-step-sound : (s : Resulted) → SoundResult s → SoundVisit (resultStep r s)
   result-step-sound (Refused m) h = sound
@@ -76,7 +78,7 @@ module _ (r : Record) (sound : recordSound r ≡ true) where
   unfolding decided
   request-sound flags requester reply none n = sound
   request-sound flags requester reply (some f) n =
-      decide-each SoundVisit (map (answering (λ n. says n reply r)) (rightChecks flags (f .erasing))) (decided f requester reply r) (sound, (sound, tt))
+      decide-each SoundVisit (map (answering (λ n. visitSaying n reply r)) (rightChecks flags (f .erasing))) (decided f requester reply r) (sound, (sound, tt))
       (decides-sound (f .operation) (f .erasing) (f .number) requester reply n)
 
   -- a call that names a number leaves that number's record sound
@@ -85,10 +87,10 @@ module _ (r : Record) (sound : recordSound r ≡ true) where
       request-sound (flagsOf list (requester .0)) requester reply (requestOf string) (requester-number list reply requester scheme string k e)
   visit-sound list delay (sending now number buffer) k e =
       decide-each SoundVisit ((ltb (length buffer) bufferRoom, visited (refusal 1) buffer r) ∷ [])
-      (sentStep number buffer r (steps.sent delay (reading now) r)) (sound, tt)
-      (sent-step-sound number buffer (steps.sent delay (reading now) r) (sent-sound r sound delay (reading now)))
+      (sentStep number buffer r (steps.sent delay (clockReading now) r)) (sound, tt)
+      (sent-step-sound number buffer (steps.sent delay (clockReading now) r) (sent-sound r sound delay (clockReading now)))
   visit-sound list delay (result now number kind) k e =
-      result-step-sound (steps.resulted kind (reading now) r) (resulted-sound r sound kind (reading now) (omega arith))
+      result-step-sound (steps.resulted kind (clockReading now) r) (resulted-sound r sound kind (clockReading now) (omega arith))
 
 -- ---- a call leaves a sound table
 

@@ -16,12 +16,12 @@ use Rattle.strings.specs.Outcomes.{requestOf}
 use Rattle.records.specs.declared.Record.{Record}
 use Rattle.records.specs.Steps.{same, isAbsent}
 use Rattle.tables.specs.Tables.{recordOf}
+use Rattle.rules.specs.Answers.{isOutcome}
 use Rattle.rules.specs.Run.{log}
 use Rattle.rules.specs.Calls.{Call, Reply, request, sending, result, call, names}
 use Rattle.rules.specs.Visits.{Visited}
 use Rattle.rules.specs.Pending.{never, holdsOf, sendingDone, noticeCleared}
 use Rattle.rules.specs.Users.{telling}
-use Rattle.rules.specs.Demand.{isOutcome}
 use Rattle.rules.proofs.Along.{Asked, negative, registration, erasure, own, forced, Does, asks, unsent, sends, untaken, clears, goes-on, Along, ends, passes, visits, along, answered-02, same-one, not-same, never-first}
 use Rattle.rules.proofs.NoticeEnds.{passed-unsent, still-pending}
 

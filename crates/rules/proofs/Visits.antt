@@ -28,6 +28,7 @@ use Rattle.records.specs.declared.Notice.the-variants.{Waiting}
 use Rattle.records.specs.declared.Record.{Record}
 use Rattle.records.specs.declared.Step.the-variants as step
 use Rattle.records.specs.declared.Holder.the-variants as holds
+use Rattle.records.specs.declared.Sending.the-variants as launches
 use Rattle.records.specs.declared.Resulted.the-variants.{Refused, Delivered, Dropped, Again}
 use Rattle.records.specs.Steps as steps
 use Rattle.rows.specs.Rows.{rowSound, recordAt, stored}
@@ -40,8 +41,8 @@ use Rattle.tables.proofs.Stored.{row-found}
 use Rattle.rules.specs.Answers.{Answer, refusal, error, delivered, dropped, again, Outcome, made, bufferRoom, refusing}
 use Rattle.rules.specs.Requests as requests
 use Rattle.rules.specs.Notices as notices
-use Rattle.rules.specs.Calls.{Call, request, sending, result, replied, reading, call, numberRead, nameOf}
-use Rattle.rules.specs.Visits.{visited, storing, leaving, says, stepped, told, decides, decided, sentStep, resultStep, visitSending, visitResult, visitRequest, visit, saying, missedSending, missedResult, missedRequest, missed, stopped}
+use Rattle.rules.specs.Calls.{Call, request, sending, result, replied, clockReading, call, numberRead, nameOf}
+use Rattle.rules.specs.Visits.{visited, storing, leaving, visitSaying, stepped, holderAnswered, decides, decided, sentStep, resultStep, visitSending, visitResult, visitRequest, visit, replySaying, missedSending, missedResult, missedRequest, missed, stopped}
 
 -- ---- the row of a number in a sound table
 
@@ -95,10 +96,10 @@ module _ (t : List ℕ) (i : ℕ) (same : stored t i (recordAt t i) ≡ t) (list
   outcome n = requests.saying n t reply
 
   -- storing the record that row i has changes nothing
-  stays : (n : ℕ) → outcome n ≡ storing t i (says n reply it)
+  stays : (n : ℕ) → outcome n ≡ storing t i (visitSaying n reply it)
   stays n = rw same
 
-  finds : (e : Erasing) → requests.carriedOut Interrogate e requester t i reply ≡ storing t i (told reply it (holds.Held (it .holder)))
+  finds : (e : Erasing) → requests.carriedOut Interrogate e requester t i reply ≡ storing t i (holderAnswered reply it (holds.Held (it .holder)))
   finds e = rw same
 
   -- the checks before a step
@@ -118,7 +119,7 @@ module _ (t : List ℕ) (i : ℕ) (same : stored t i (recordAt t i) ≡ t) (list
   by-record Erase (Forced m) number = stepping 2 (recordChecks Erase (Forced m) number requester it) (requests.afterErasure requester (Forced m) it)
   by-record Interrogate e number =
       ap (λ done. decide (map (requests.negative t reply) (recordChecks Interrogate e number requester it)) done) (finds e)
-      ∙ decide-of outcome (λ h. storing t i (told reply it h)) holds.Stays stays (recordChecks Interrogate e number requester it) (holds.Held (it .holder))
+      ∙ decide-of outcome (λ h. storing t i (holderAnswered reply it h)) holds.Stays stays (recordChecks Interrogate e number requester it) (holds.Held (it .holder))
 
   -- the checks that bear on an operation
   in-order :
@@ -139,7 +140,7 @@ module _ (t : List ℕ) (i : ℕ) (same : stored t i (recordAt t i) ≡ t) (list
   visits f h =
       in-order (f .operation) (f .erasing) (f .number) (f .additional) h
       ∙ ap (λ done. decide (map (requests.negative t reply) (rightChecks flags (f .erasing))) done) (by-record (f .operation) (f .erasing) (f .number))
-      ∙ decide-of outcome (storing t i) (λ n. says n reply it) stays (rightChecks flags (f .erasing)) (decided f requester reply it)
+      ∙ decide-of outcome (storing t i) (λ n. visitSaying n reply it) stays (rightChecks flags (f .erasing)) (decided f requester reply it)
 
 module _ (list reply : List ℕ) (requester : Msisdn) (scheme : ℕ) (string : List ℕ) where
   abbrev refusals : List (Bool × Answer)
@@ -180,26 +181,26 @@ module _ (list reply : List ℕ) (requester : Msisdn) (scheme : ℕ) (string : L
     abbrev behind : Outcome
     behind = outcomes t list reply requester (requestOf string) (rowOf t (requests.numberIn (requestOf string) .0))
 
-    in-two : requests.request t list reply requester scheme string ≡ decide (refusing t reply refusals) behind
-    unfolding requests.request requests.requestChecks recordOf
+    in-two : requests.requesting t list reply requester scheme string ≡ decide (refusing t reply refusals) behind
+    unfolding requests.requesting requests.requestChecks recordOf
     in-two = rw sound
 
     any-refuses : anyHolds (refusing t reply refusals) ≡ anyHolds refusals
     any-refuses = any-answering (λ a. made a t reply) refusals
 
     -- one is refused before it names a number
-    pub request-stops : anyHolds refusals ≡ true → requests.request t list reply requester scheme string ≡ made (decide refusals (error 36)) t reply
+    pub request-stops : anyHolds refusals ≡ true → requests.requesting t list reply requester scheme string ≡ made (decide refusals (error 36)) t reply
     request-stops h =
         in-two
         ∙ one-holds (refusing t reply refusals) behind (made (error 36) t reply) (any-refuses ∙ h)
         ∙ decide-of (λ a. made a t reply) (λ a. made a t reply) (λ a. a) (λ a. refl) refusals (error 36)
 
-    goes-on : anyHolds refusals ≡ false → requests.request t list reply requester scheme string ≡ behind
+    goes-on : anyHolds refusals ≡ false → requests.requesting t list reply requester scheme string ≡ behind
     goes-on h = in-two ∙ none-holds (refusing t reply refusals) behind (any-refuses ∙ h)
 
     module _ (f : Request) (passed : anyHolds refusals ≡ false) (reads : requestOf string ≡ some f) where
       at-place : (place : Found) → rowOf t (f .number .0) ≡ place
-          → requests.request t list reply requester scheme string ≡ outcomes t list reply requester (some f) place
+          → requests.requesting t list reply requester scheme string ≡ outcomes t list reply requester (some f) place
       at-place place e =
           goes-on passed
           ∙ ap (λ q. outcomes t list reply requester q (rowOf t (requests.numberIn q .0))) reads
@@ -207,7 +208,7 @@ module _ (list reply : List ℕ) (requester : Msisdn) (scheme : ℕ) (string : L
 
       -- the number is in row i: that row's record decides
       pub request-visits : (i : ℕ) → rowOf t (f .number .0) ≡ At i
-          → requests.request t list reply requester scheme string
+          → requests.requesting t list reply requester scheme string
           ≡ storing t i (visitRequest (flagsOf list (requester .0)) requester reply (some f) (recordAt t i))
       request-visits i e =
           at-place (At i) e
@@ -215,11 +216,11 @@ module _ (list reply : List ℕ) (requester : Msisdn) (scheme : ℕ) (string : L
 
       -- the number is not in the table
       pub request-misses : rowOf t (f .number .0) ≡ Nothing
-          → requests.request t list reply requester scheme string ≡ leaving t (missedRequest (flagsOf list (requester .0)) reply (some f))
+          → requests.requesting t list reply requester scheme string ≡ leaving t (missedRequest (flagsOf list (requester .0)) reply (some f))
       request-misses e =
           at-place Nothing e
-          ∙ decide-of (λ n. requests.saying n t reply) (leaving t) (λ n. saying n reply) (λ n. refl)
-          (rightChecks (flagsOf list (requester .0)) (f .erasing)) (saying 41 reply)
+          ∙ decide-of (λ n. requests.saying n t reply) (leaving t) (λ n. replySaying n reply) (λ n. refl)
+          (rightChecks (flagsOf list (requester .0)) (f .erasing)) (replySaying 41 reply)
 
 -- ---- sendings
 
@@ -234,8 +235,8 @@ module _ (t buffer : List ℕ) (number : FunctionalNumber) (delay clock : ℕ) (
       decide (refusing t buffer (notices.sendingChecks soundTable buffer (number .0) (recordFound t place) delay clock))
       (notices.sentAt number place t buffer)
 
-  sending-at : (place : Found) → rowOf t (number .0) ≡ place → notices.sending t buffer number delay clock ≡ sendings true place
-  unfolding notices.sending recordOf
+  sending-at : (place : Found) → rowOf t (number .0) ≡ place → notices.sendingNotice t buffer number delay clock ≡ sendings true place
+  unfolding notices.sendingNotice recordOf
   sending-at place e = ap (λ b. sendings b (rowOf t (number .0))) sound ∙ ap (sendings true) e
 
   by-sending : (i : ℕ) → stored t i (recordAt t i) ≡ t → isNumber (number .0) ≡ true
@@ -243,8 +244,8 @@ module _ (t buffer : List ℕ) (number : FunctionalNumber) (delay clock : ℕ) (
   unfolding steps.sent
   by-sending i same isOne = rw isOne
       (chosen (storing t i) (ltb (length buffer) bufferRoom) (refuses (refusal 1))
-      (decide-of (λ n. made (refusal n) t buffer) (λ s. storing t i (sentStep number buffer it s)) step.Stays (λ n. refuses (refusal n))
-      (sentChecks delay clock it) (step.Becomes (steps.withNotice (steps.launched (it .notice)) it))))
+      (decide-of (λ n. made (refusal n) t buffer) (λ s. storing t i (sentStep number buffer it s)) launches.Refused (λ n. refuses (refusal n))
+      (sentChecks delay clock it) (launches.Launched (steps.withNotice (steps.launched (it .notice)) it))))
     where
       it : Record
       it = recordAt t i
@@ -254,12 +255,12 @@ module _ (t buffer : List ℕ) (number : FunctionalNumber) (delay clock : ℕ) (
 
   -- the number is in row i: that row's record decides
   pub sending-visits : (i : ℕ) → rowOf t (number .0) ≡ At i
-      → notices.sending t buffer number delay clock ≡ storing t i (visitSending delay clock number buffer (recordAt t i))
+      → notices.sendingNotice t buffer number delay clock ≡ storing t i (visitSending delay clock number buffer (recordAt t i))
   sending-visits i e =
       sending-at (At i) e ∙ by-sending i (stored-back t (number .0) i sound e) (found-number t (number .0) i sound e)
 
   -- the number is not in the table
-  pub sending-misses : rowOf t (number .0) ≡ Nothing → notices.sending t buffer number delay clock ≡ leaving t (missedSending buffer)
+  pub sending-misses : rowOf t (number .0) ≡ Nothing → notices.sendingNotice t buffer number delay clock ≡ leaving t (missedSending buffer)
   sending-misses e =
       sending-at Nothing e ∙ rw (or-right (not (isNumber (number .0))) true refl) (chosen (leaving t) (ltb (length buffer) bufferRoom) refl refl)
 
@@ -274,8 +275,8 @@ module _ (t : List ℕ) (number : FunctionalNumber) (kind clock : ℕ) (sound : 
   results soundTable place =
       decide (refusing t [] (notices.resultChecks soundTable (number .0) (recordFound t place) kind)) (notices.resultAt kind clock place t)
 
-  result-at : (place : Found) → rowOf t (number .0) ≡ place → notices.result t number kind clock ≡ results true place
-  unfolding notices.result recordOf
+  result-at : (place : Found) → rowOf t (number .0) ≡ place → notices.takingResult t number kind clock ≡ results true place
+  unfolding notices.takingResult recordOf
   result-at place e = ap (λ b. results b (rowOf t (number .0))) sound ∙ ap (results true) e
 
   -- what is returned and left where no check holds; kind 0 clears, since it is below 5
@@ -303,12 +304,12 @@ module _ (t : List ℕ) (number : FunctionalNumber) (kind clock : ℕ) (sound : 
       it = recordAt t i
 
   -- the number is in row i: that row's record decides
-  pub result-visits : (i : ℕ) → rowOf t (number .0) ≡ At i → notices.result t number kind clock ≡ storing t i (visitResult kind clock (recordAt t i))
+  pub result-visits : (i : ℕ) → rowOf t (number .0) ≡ At i → notices.takingResult t number kind clock ≡ storing t i (visitResult kind clock (recordAt t i))
   result-visits i e =
       result-at (At i) e ∙ by-result i (stored-back t (number .0) i sound e) (found-number t (number .0) i sound e)
 
   -- the number is not in the table
-  pub result-misses : rowOf t (number .0) ≡ Nothing → notices.result t number kind clock ≡ leaving t missedResult
+  pub result-misses : rowOf t (number .0) ≡ Nothing → notices.takingResult t number kind clock ≡ leaving t missedResult
   result-misses e = result-at Nothing e ∙ rw (or-right (not (isNumber (number .0))) true refl)
 
 -- ---- calls
@@ -320,16 +321,16 @@ module _ (list : List ℕ) (delay : ℕ) (t : List ℕ) (sound : tableSound t �
   call-visits (request requester scheme string reply) k i n e =
       let x = naming list reply requester scheme string k n in
       ap replied (request-visits list reply requester scheme string t sound (x .fields) (x .passed) (x .reads) i (rw (x .names) e) ∙ rw (x .reads))
-  call-visits (sending now number buffer) k i n e = ap replied (sending-visits t buffer number delay (reading now) sound i (cc))
-  call-visits (result now number kind) k i n e = ap replied (result-visits t number kind (reading now) sound i (cc))
+  call-visits (sending now number buffer) k i n e = ap replied (sending-visits t buffer number delay (clockReading now) sound i (cc))
+  call-visits (result now number kind) k i n e = ap replied (result-visits t number kind (clockReading now) sound i (cc))
 
   -- it is not in the table
   pub call-misses : (c : Call) (k : ℕ) → nameOf list c ≡ some k → rowOf t k ≡ Nothing → call list delay c t ≡ (missed list c, t)
   call-misses (request requester scheme string reply) k n e =
       let x = naming list reply requester scheme string k n in
       ap replied (request-misses list reply requester scheme string t sound (x .fields) (x .passed) (x .reads) (rw (x .names) e) ∙ rw (x .reads))
-  call-misses (sending now number buffer) k n e = ap replied (sending-misses t buffer number delay (reading now) sound (cc))
-  call-misses (result now number kind) k n e = ap replied (result-misses t number kind (reading now) sound (cc))
+  call-misses (sending now number buffer) k n e = ap replied (sending-misses t buffer number delay (clockReading now) sound (cc))
+  call-misses (result now number kind) k n e = ap replied (result-misses t number kind (clockReading now) sound (cc))
 
   -- the call names none
   pub call-stops : (c : Call) → nameOf list c ≡ none → call list delay c t ≡ (stopped list c, t)

@@ -1,30 +1,119 @@
 -- Answers in document 01's words and numbers, the texts that they write, and what a call comes to: the answer, the table afterwards and the buffer afterwards. Assumes nothing.
 use Prim.Native.Nat.{ℕ, _+_, _/_, _%_}
-use mathlib.Core.Bool.{Bool}
+use mathlib.Core.Bool.{Bool, not, _&&_, _||_}
 use mathlib.Core.List.{List, [], _∷_, _++_, map}
-use lib.ListN.{length, drop}
+use lib.ListN.{length}
+use lib.Dec.{eqb}
+use Rattle.answers.specs.Writing.{over}
 use Rattle.packing.specs.Packing.{packed}
 use Rattle.numbers.specs.Numbers.{digitsOf}
 
 -- "Refusals, errors and outcomes are numbered apart"
 pub data Answer : Type 0 where
-  -- refusals 1 to 8
+  -- refusals 1 to 9
   refusal : ℕ → Answer
   -- errors 35, 36 and 71
   error : ℕ → Answer
   -- an outcome by its number, with its octet count
   outcome : ℕ → ℕ → Answer
   -- outcome 03: the holder's MSISDN, with the octet count
-  holder : ℕ → ℕ → Answer
+  holderIs : ℕ → ℕ → Answer
   -- a notice sent: its addressee, with the octet count
-  sent : ℕ → ℕ → Answer
+  sentTo : ℕ → ℕ → Answer
   -- what a result returns
   delivered dropped again : Answer
   -- what finding returns: the lowest due number, or none
   found : ℕ → Answer
   noneDue : Answer
 
--- what a call comes to
+-- ---- the paper's class, number and values of every answer
+
+-- the classes; the answers that have no number in the paper have a class of their own
+abbrev pub refusalClass : ℕ
+refusalClass = 1
+
+abbrev pub errorClass : ℕ
+errorClass = 2
+
+abbrev pub outcomeClass : ℕ
+outcomeClass = 3
+
+abbrev pub sentClass : ℕ
+sentClass = 4
+
+abbrev pub resultClass : ℕ
+resultClass = 5
+
+abbrev pub foundClass : ℕ
+foundClass = 6
+
+abbrev pub noneDueClass : ℕ
+noneDueClass = 7
+
+-- what a result returns
+abbrev pub deliveredNumber : ℕ
+deliveredNumber = 0
+
+abbrev pub droppedNumber : ℕ
+droppedNumber = 1
+
+abbrev pub againNumber : ℕ
+againNumber = 2
+
+-- "Interrogation answers 03"
+abbrev pub interrogationNumber : ℕ
+interrogationNumber = 3
+
+-- the octet count, and the MSISDN of the holder or the addressee or the number found; 0 where an answer has none
+pub record Numbers : Type 0 where
+  pub class : ℕ
+  pub number : ℕ
+  pub count : ℕ
+  pub value : ℕ
+
+abbrev pub four : ℕ → ℕ → ℕ → ℕ → Numbers
+four class number count value = record { class = class; number = number; count = count; value = value }
+
+abbrev pub numbersOf : Answer → Numbers
+numbersOf (refusal n) = four refusalClass n 0 0
+numbersOf (error n) = four errorClass n 0 0
+numbersOf (outcome n octets) = four outcomeClass n octets 0
+numbersOf (holderIs msisdn octets) = four outcomeClass interrogationNumber octets msisdn
+numbersOf (sentTo addressee octets) = four sentClass 0 octets addressee
+numbersOf delivered = four resultClass deliveredNumber 0 0
+numbersOf dropped = four resultClass droppedNumber 0 0
+numbersOf again = four resultClass againNumber 0 0
+numbersOf (found number) = four foundClass 0 0 number
+numbersOf noneDue = four noneDueClass 0 0 0
+
+-- the answer is of a class
+abbrev pub isOf : ℕ → Answer → Bool
+isOf class a = eqb (numbersOf a .class) class
+
+abbrev pub isRefusal : Answer → Bool
+isRefusal a = isOf refusalClass a
+
+abbrev pub isError : Answer → Bool
+isError a = isOf errorClass a
+
+-- it is outcome n; outcomes 01 and 02 are not refusals 1 and 2
+abbrev pub isOutcome : ℕ → Answer → Bool
+isOutcome n a = isOf outcomeClass a && eqb (numbersOf a .number) n
+
+-- a negative outcome: none of 01, 02 and 03
+abbrev pub isNegative : Answer → Bool
+isNegative a = isOf outcomeClass a && not (isOutcome 1 a || isOutcome 2 a || isOutcome interrogationNumber a)
+
+-- the addressee and the octet count: the sending succeeded
+abbrev pub isSent : Answer → Bool
+isSent a = isOf sentClass a
+
+-- delivered or dropped: the result cleared the notice
+abbrev pub isClearing : Answer → Bool
+isClearing a = isOf resultClass a && not (eqb (numbersOf a .number) againNumber)
+
+-- ---- what a call comes to
+
 pub record Outcome : Type 0 where
   pub answer : Answer
   pub table : List ℕ
@@ -43,11 +132,11 @@ twoDigits n = (48 + n / 10) ∷ (48 + n % 10) ∷ []
 
 -- "Interrogation answers 03, and the MSISDN is written into the reply text after the code and the space"
 abbrev pub holderText : ℕ → List ℕ
-holderText msisdn = twoDigits 3 ++ (32 ∷ digitsOf msisdn)
+holderText msisdn = twoDigits interrogationNumber ++ (32 ∷ digitsOf msisdn)
 
 -- "Outcomes are packed from the start of the reply buffer and returned with their octet count; octets beyond stay"
-abbrev pub over : List ℕ → List ℕ → List ℕ
-over text buffer = packed text ++ drop (length (packed text)) buffer
+abbrev pub packedOver : List ℕ → List ℕ → List ℕ
+packedOver text buffer = over (packed text) buffer
 
 abbrev pub octetCount : List ℕ → ℕ
 octetCount text = length (packed text)

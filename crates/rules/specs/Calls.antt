@@ -27,7 +27,13 @@ pub data Call : Type 0 where
   -- now, functional number, kind
   result : ℕ → FunctionalNumber → ℕ → Call
 
--- what a caller gets: the answer, and the buffer afterwards (a result is lent none)
+-- the buffer that a call is lent; a result is lent none
+abbrev pub bufferOf : Call → List ℕ
+bufferOf (request requester scheme string reply) = reply
+bufferOf (sending now number buffer) = buffer
+bufferOf (result now number kind) = []
+
+-- what a caller gets: the answer, and the buffer afterwards
 pub record Reply : Type 0 where
   pub answer : Answer
   pub buffer : List ℕ
@@ -36,21 +42,21 @@ abbrev pub replied : Outcome → Reply × List ℕ
 replied o = (record { answer = o .answer; buffer = o .buffer }, o .table)
 
 -- "The second counter has 32 bits and wraps"
-abbrev pub reading : ℕ → ℕ
-reading now = now % 2 ^ 32
+abbrev pub clockReading : ℕ → ℕ
+clockReading now = now % 2 ^ 32
 
 -- one call over the table
 abbrev pub call : List ℕ → ℕ → Call → List ℕ → Reply × List ℕ
-call list delay (request requester scheme string reply) table = replied (requests.request table list reply requester scheme string)
-call list delay (sending now number buffer) table = replied (notices.sending table buffer number delay (reading now))
-call list delay (result now number kind) table = replied (notices.result table number kind (reading now))
+call list delay (request requester scheme string reply) table = replied (requests.requesting table list reply requester scheme string)
+call list delay (sending now number buffer) table = replied (notices.sendingNotice table buffer number delay (clockReading now))
+call list delay (result now number kind) table = replied (notices.takingResult table number kind (clockReading now))
 
 abbrev pub numberRead : Option Request → Option ℕ
 numberRead none = none
 numberRead (some f) = some (f .number .0)
 
 -- "A request names the number in its string if the string reads; one refused before that names none."
--- A sending or a result names the number that it is given
+-- The table is sound here, as it is before each call of demand 3's lists. A sending or a result names the number that it is given
 abbrev pub nameOf : List ℕ → Call → Option ℕ
 nameOf list (request requester scheme string reply) =
     cond (anyHolds (requests.refusalChecks true list reply requester scheme string)) none (numberRead (requestOf string))

@@ -1,31 +1,18 @@
--- Demand 3, of the rules, over the words that were lent: "one sound table, one sound subscriber list, one permitted delay, any list of requests, sendings and results, each with its own clock reading and buffer". Assumes nothing.
+-- Demands 1 and 3, of the rules, over the words and octets that were lent. Assumes nothing.
 use mathlib.Core.Path.{_≡_}
-use mathlib.Core.Bool.{Bool, false, cond, _&&_, _||_}
+use mathlib.Core.Bool.{Bool, true, false, cond, _&&_, _||_}
 use mathlib.Core.Option.{Option, none, some}
 use mathlib.Core.List.{List}
 use Prim.Native.Nat.{ℕ, _<_}
 use lib.ListN.{length, getElem?}
-use lib.Dec.{eqb}
+use Rattle.strings.specs.Outcomes.{requestOf}
 use Rattle.tables.specs.Tables.{recordOf}
-use Rattle.rules.specs.Answers.{Answer, refusal, error, outcome, holder, sent, delivered, dropped, again, found, noneDue}
-use Rattle.rules.specs.Requests.{holderIn}
+use Rattle.rules.specs.Answers.{numbersOf, outcomeClass, isOf, isRefusal, isError, isOutcome, isNegative, twoDigits, packedOver}
+use Rattle.rules.specs.Requests.{isRegistration, holderIn}
 use Rattle.rules.specs.Run.{only, last, end, log, Rearranged}
-use Rattle.rules.specs.Calls.{Call, request, sending, result, Reply, call, names, alone}
+use Rattle.rules.specs.Calls.{Call, request, sending, result, bufferOf, Reply, call, nameOf, names, alone}
 
 -- ---- who holds a number
-
--- the answer is outcome n; "01 and 02 are outcomes, not refusals 1 and 2"
-abbrev pub isOutcome : ℕ → Answer → Bool
-isOutcome n (refusal m) = false
-isOutcome n (error m) = false
-isOutcome n (outcome m count) = eqb m n
-isOutcome n (holder msisdn count) = false
-isOutcome n (sent msisdn count) = false
-isOutcome n delivered = false
-isOutcome n dropped = false
-isOutcome n again = false
-isOutcome n (found k) = false
-isOutcome n noneDue = false
 
 -- the requester of a call; nobody requests a sending or a result
 abbrev pub requesterOf : Call → ℕ
@@ -46,7 +33,34 @@ holderAfter (some p) start = cond (isOutcome 1 (p .1 .answer)) (requesterOf (p .
 abbrev pub holderOf : List ℕ → ℕ → ℕ
 holderOf table k = holderIn (recordOf table k) .0
 
--- ---- the demand
+-- the call is a request whose string reads as a registration
+abbrev pub registers : Call → Bool
+registers (request requester scheme string reply) = isRegistration (requestOf string)
+registers (sending now number buffer) = false
+registers (result now number kind) = false
+
+-- ---- demand 1
+
+module _ (list : List ℕ) (delay : ℕ) (c : Call) (table : List ℕ) where
+  abbrev got : Reply
+  got = call list delay c table .0
+
+  abbrev after : List ℕ
+  after = call list delay c table .1
+
+  -- of any request, sending or result, on any words and octets. A finding has an answer and nothing else: it is lent nothing that it may change
+  pub record Demand1 : Type 0 where
+    -- each refusal and each error "changes no table and no buffer"
+    pub refused : (isRefusal (got .answer) || isError (got .answer)) ≡ true → (after ≡ table) × (got .buffer ≡ bufferOf c)
+    -- "A negative outcome writes its two characters and changes no table"
+    pub negative :
+        isNegative (got .answer) ≡ true → (after ≡ table) × (got .buffer ≡ packedOver (twoDigits (numbersOf (got .answer) .number)) (bufferOf c))
+    -- "outcomes other than a changing 01 or 02 leave the table"
+    pub others : isOf outcomeClass (got .answer) ≡ true → (isOutcome 1 (got .answer) || isOutcome 2 (got .answer)) ≡ false → after ≡ table
+    -- 01 is "no change if already so": a holder who registers again changes nothing
+    pub registered-again : (k : ℕ) → nameOf list c ≡ some k → registers c ≡ true → holderOf table k ≡ requesterOf c → after ≡ table
+
+-- ---- demand 3: "For one sound table, list and permitted delay, any list of requests, sendings and results (each with its own clock and buffer)"
 
 -- the calls that name k, and what calls that name k got, in their order
 abbrev pub callsOf : List ℕ → ℕ → List Call → List Call

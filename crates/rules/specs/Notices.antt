@@ -8,7 +8,7 @@ use lib.Dec.{eqb, ltb, leb}
 use Rattle.answers.specs.Checks.{decide, isNone}
 use Rattle.numbers.specs.Numbers.{isNumber}
 use Rattle.numbers.specs.declared.FunctionalNumber.{FunctionalNumber}
-use Rattle.strings.specs.Text.{textOf, noticeOf}
+use Rattle.strings.specs.Text.{textOf, noticeFields}
 use Rattle.records.specs.declared.Notice.{Notice}
 use Rattle.records.specs.declared.Notice.the-variants.{Absent, Waiting}
 use Rattle.records.specs.declared.Record.{Record}
@@ -17,7 +17,7 @@ use Rattle.rows.specs.Rows.{numberAt, recordAt, stored}
 use Rattle.tables.specs.declared.Found.{Found}
 use Rattle.tables.specs.declared.Found.the-variants.{At, Nothing}
 use Rattle.tables.specs.Tables.{tableSound, rowOf, recordOf, rowsIn}
-use Rattle.rules.specs.Answers.{Answer, refusal, sent, delivered, dropped, again, found, noneDue, Outcome, made, bufferRoom, over, octetCount, refusing}
+use Rattle.rules.specs.Answers.{Answer, refusal, sentTo, delivered, dropped, again, found, noneDue, Outcome, made, bufferRoom, packedOver, octetCount, refusing}
 
 -- the notice in a record that is there
 abbrev pub noticeIn : Option Record → Notice
@@ -42,11 +42,11 @@ abbrev pub sentAt : FunctionalNumber → Found → List ℕ → List ℕ → Out
 sentAt number Nothing table buffer = made (refusal 7) table buffer
 sentAt number (At i) table buffer =
     let r = recordAt table i in
-    let text = textOf (noticeOf number (r .supervisor)) in
-    made (sent (r .addressee .0) (octetCount text)) (stored table i (withNotice (launched (r .notice)) r)) (over text buffer)
+    let text = textOf (noticeFields number (r .supervisor)) in
+    made (sentTo (r .addressee .0) (octetCount text)) (stored table i (withNotice (launched (r .notice)) r)) (packedOver text buffer)
 
-unfoldable pub sending : List ℕ → List ℕ → FunctionalNumber → ℕ → ℕ → Outcome
-sending table buffer number delay clock =
+unfoldable pub sendingNotice : List ℕ → List ℕ → FunctionalNumber → ℕ → ℕ → Outcome
+sendingNotice table buffer number delay clock =
     decide (refusing table buffer (sendingChecks (tableSound table) buffer (number .0) (recordOf table (number .0)) delay clock))
     (sentAt number (rowOf table (number .0)) table buffer)
 
@@ -80,8 +80,8 @@ resultAt kind clock (At i) table =
     made (returned kind (r .notice)) (stored table i (afterResult kind clock r)) []
 
 -- a result is lent no buffer
-unfoldable pub result : List ℕ → FunctionalNumber → ℕ → ℕ → Outcome
-result table number kind clock =
+unfoldable pub takingResult : List ℕ → FunctionalNumber → ℕ → ℕ → Outcome
+takingResult table number kind clock =
     decide (refusing table [] (resultChecks (tableSound table) (number .0) (recordOf table (number .0)) kind)) (resultAt kind clock (rowOf table (number .0)) table)
 
 -- ---- finding

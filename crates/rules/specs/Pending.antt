@@ -8,7 +8,7 @@ use lib.ListN.{getElem?}
 use lib.Dec.{eqb}
 use Rattle.records.specs.declared.Notice.{Notice}
 use Rattle.tables.specs.Tables.{recordOf}
-use Rattle.rules.specs.Answers.{Answer, refusal, error, outcome, holder, sent, delivered, dropped, again, found, noneDue}
+use Rattle.rules.specs.Answers.{isRefusal, isSent, isClearing}
 use Rattle.rules.specs.Notices.{noticeIn}
 use Rattle.rules.specs.Calls.{Call, request, sending, result, Reply}
 
@@ -32,46 +32,6 @@ module _ {X : Type 0} where
   -- such an entry stands at place i
   abbrev pub holdsAt : (X → Bool) → List X → ℕ → Bool
   holdsAt test xs i = holdsOf test (getElem? xs i)
-
--- ---- what a sending or a result was answered
-
-abbrev pub isRefusal : Answer → Bool
-isRefusal (refusal n) = true
-isRefusal (error n) = false
-isRefusal (outcome n octets) = false
-isRefusal (holder msisdn octets) = false
-isRefusal (sent addressee octets) = false
-isRefusal delivered = false
-isRefusal dropped = false
-isRefusal again = false
-isRefusal (found number) = false
-isRefusal noneDue = false
-
--- the addressee and the octet count: the sending succeeded
-abbrev pub isSent : Answer → Bool
-isSent (refusal n) = false
-isSent (error n) = false
-isSent (outcome n octets) = false
-isSent (holder msisdn octets) = false
-isSent (sent addressee octets) = true
-isSent delivered = false
-isSent dropped = false
-isSent again = false
-isSent (found number) = false
-isSent noneDue = false
-
--- delivered or dropped: the result cleared the notice
-abbrev pub isClearing : Answer → Bool
-isClearing (refusal n) = false
-isClearing (error n) = false
-isClearing (outcome n octets) = false
-isClearing (holder msisdn octets) = false
-isClearing (sent addressee octets) = false
-isClearing delivered = true
-isClearing dropped = true
-isClearing again = false
-isClearing (found number) = false
-isClearing noneDue = false
 
 -- ---- entries of a log: a call, and what it got
 

@@ -21,7 +21,7 @@ use Rattle.rows.specs.Rows.{stored, recordAt}
 use Rattle.tables.specs.declared.Found.{Found}
 use Rattle.tables.specs.declared.Found.the-variants.{At, Nothing}
 use Rattle.tables.specs.Tables.{tableSound, listSound, rowOf, recordOf, flagsOf}
-use Rattle.rules.specs.Answers.{Answer, refusal, error, outcome, holder, Outcome, made, bufferRoom, twoDigits, holderText, over, octetCount, refusing}
+use Rattle.rules.specs.Answers.{Answer, refusal, error, outcome, holderIs, Outcome, made, bufferRoom, twoDigits, holderText, packedOver, octetCount, refusing}
 
 -- ---- what the checks look at
 
@@ -33,15 +33,20 @@ abbrev pub isSupervisor : ℕ → Bool
 isSupervisor flags = eqb (flags / 2 % 2) 1
 
 -- what a string that reads asks for; one that does not asks for nothing
-abbrev pub registering : Operation → Bool
-registering Register = true
-registering Erase = false
-registering Interrogate = false
+abbrev pub isRegister : Operation → Bool
+isRegister Register = true
+isRegister Erase = false
+isRegister Interrogate = false
 
-abbrev pub interrogating : Operation → Bool
-interrogating Register = false
-interrogating Erase = false
-interrogating Interrogate = true
+abbrev pub isErase : Operation → Bool
+isErase Register = false
+isErase Erase = true
+isErase Interrogate = false
+
+abbrev pub isInterrogate : Operation → Bool
+isInterrogate Register = false
+isInterrogate Erase = false
+isInterrogate Interrogate = true
 
 abbrev pub isForced : Erasing → Bool
 isForced Empty = false
@@ -49,15 +54,15 @@ isForced (Forced named) = true
 
 abbrev pub isRegistration : Option Request → Bool
 isRegistration none = false
-isRegistration (some f) = registering (f .operation)
+isRegistration (some f) = isRegister (f .operation)
 
 abbrev pub isInterrogation : Option Request → Bool
 isInterrogation none = false
-isInterrogation (some f) = interrogating (f .operation)
+isInterrogation (some f) = isInterrogate (f .operation)
 
 abbrev pub isErasure : Option Request → Bool
 isErasure none = false
-isErasure (some f) = not (registering (f .operation)) && not (interrogating (f .operation))
+isErasure (some f) = isErase (f .operation)
 
 abbrev pub isForcedErasure : Option Request → Bool
 isForcedErasure none = false
@@ -90,7 +95,7 @@ noNotice (some r) = isAbsent (r .notice)
 
 -- an outcome's answer, with its text in the reply
 abbrev pub saying : ℕ → List ℕ → List ℕ → Outcome
-saying n table reply = made (outcome n (octetCount (twoDigits n))) table (over (twoDigits n) reply)
+saying n table reply = made (outcome n (octetCount (twoDigits n))) table (packedOver (twoDigits n) reply)
 
 -- the data coding scheme
 abbrev pub codingScheme : ℕ
@@ -100,7 +105,7 @@ codingScheme = 0x0F
 abbrev pub mostStringOctets : ℕ
 mostStringOctets = 160
 
--- the rows with a refusal or an error. "In row 35 the requester is tested before the coding scheme, the 0 octets after it"
+-- the rows with a refusal or an error, `soundTable` saying whether the table is sound: over a sound one they follow from the request alone. "In row 35 the requester is tested before the coding scheme, the 0 octets after it"
 abbrev pub refusalChecks : Bool → List ℕ → List ℕ → Msisdn → ℕ → List ℕ → List (Bool × Answer)
 refusalChecks soundTable list reply requester scheme string =
     (ltb (length reply) bufferRoom, refusal 1)
@@ -138,7 +143,7 @@ carriedOut Register erasing requester table i reply = saying 1 (stored table i (
 carriedOut Erase erasing requester table i reply = saying 2 (stored table i (afterErasure requester erasing (recordAt table i))) reply
 carriedOut Interrogate erasing requester table i reply =
     let msisdn = recordAt table i .holder .0 in
-    made (holder msisdn (octetCount (holderText msisdn))) table (over (holderText msisdn) reply)
+    made (holderIs msisdn (octetCount (holderText msisdn))) table (packedOver (holderText msisdn) reply)
 
 abbrev pub carriedOutAt : Option Request → Found → Msisdn → List ℕ → List ℕ → Outcome
 carriedOutAt none place requester table reply = made (error 36) table reply
@@ -158,7 +163,7 @@ requestChecks table list reply requester scheme string =
     ++ map (negative table reply)
     (outcomeChecks (flagsOf list (requester .0)) requester (requestOf string) (recordOf table (numberIn (requestOf string) .0)))
 
-unfoldable pub request : List ℕ → List ℕ → List ℕ → Msisdn → ℕ → List ℕ → Outcome
-request table list reply requester scheme string =
+unfoldable pub requesting : List ℕ → List ℕ → List ℕ → Msisdn → ℕ → List ℕ → Outcome
+requesting table list reply requester scheme string =
     decide (requestChecks table list reply requester scheme string)
     (carriedOutAt (requestOf string) (rowOf table (numberIn (requestOf string) .0)) requester table reply)

@@ -11,14 +11,14 @@ use Rattle.numbers.specs.declared.FunctionalNumber.{FunctionalNumber}
 use Rattle.numbers.specs.declared.Msisdn.{Msisdn}
 use Rattle.strings.specs.declared.Erasing.{Erasing}
 use Rattle.strings.specs.declared.Erasing.the-variants.{Empty, Forced}
-use Rattle.strings.specs.Text.{Request, textOf, noticeOf}
+use Rattle.strings.specs.Text.{Request, textOf, noticeFields}
 use Rattle.strings.specs.Outcomes.{requestOf}
 use Rattle.records.specs.Steps.{same}
 use Rattle.tables.specs.Tables.{recordOf, listSound, flagsOf}
-use Rattle.rules.specs.Answers.{sent, bufferRoom, over, octetCount}
-use Rattle.rules.specs.Requests.{isRegistration, isErasure, noNotice, codingScheme, mostStringOctets}
+use Rattle.rules.specs.Answers.{sentTo, isOutcome, bufferRoom, packedOver, octetCount}
+use Rattle.rules.specs.Requests.{isErasure, noNotice, codingScheme, mostStringOctets}
 use Rattle.rules.specs.Calls.{Call, request, sending, result, Reply, names}
-use Rattle.rules.specs.Demand.{isOutcome, requesterOf, holderOf}
+use Rattle.rules.specs.Demand.{registers, requesterOf, holderOf}
 
 -- ---- the driver
 
@@ -40,12 +40,6 @@ abbrev pub mayEndHold : List ℕ → Msisdn → Bool → Call → Bool
 mayEndHold list h phase0 (request requester scheme string reply) = erasesHoldIn h phase0 requester (flagsOf list (requester .0)) (requestOf string)
 mayEndHold list h phase0 (sending now number buffer) = false
 mayEndHold list h phase0 (result now number kind) = false
-
--- the call is a request whose string reads as a registration
-abbrev pub registers : Call → Bool
-registers (request requester scheme string reply) = isRegistration (requestOf string)
-registers (sending now number buffer) = false
-registers (result now number kind) = false
 
 abbrev pub isRequest : Call → Bool
 isRequest (request requester scheme string reply) = true
@@ -76,7 +70,7 @@ endsHold list h k entry = names list (entry .0) k && mayEndHold list h true (ent
 pub record WellFormed (list : List ℕ) (requester : Msisdn) (scheme : ℕ) (string reply : List ℕ) (f : Request) : Type 0 where
   pub room : bufferRoom ≤ length reply
   pub sound : listSound list ≡ true
-  pub stored : isNumber (requester .0) ≡ true
+  pub requesterNumber : isNumber (requester .0) ≡ true
   pub coded : scheme ≡ codingScheme
   pub least : 1 ≤ length string
   pub most : length string ≤ mostStringOctets
@@ -87,5 +81,5 @@ pub record WellFormed (list : List ℕ) (requester : Msisdn) (scheme : ℕ) (str
 -- what a sending of the number gets where it tells h of s: h and the octet count, and the buffer with the text of the number and s
 abbrev pub telling : FunctionalNumber → Msisdn → Msisdn → List ℕ → Reply
 telling number h s buffer =
-    let text = textOf (noticeOf number s) in
-    record { answer = sent (h .0) (octetCount text); buffer = over text buffer }
+    let text = textOf (noticeFields number s) in
+    record { answer = sentTo (h .0) (octetCount text); buffer = packedOver text buffer }

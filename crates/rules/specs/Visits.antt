@@ -12,21 +12,23 @@ use Rattle.strings.specs.declared.Operation.{Operation}
 use Rattle.strings.specs.declared.Operation.the-variants.{Register, Erase, Interrogate}
 use Rattle.strings.specs.declared.Erasing.{Erasing}
 use Rattle.strings.specs.declared.Erasing.the-variants.{Empty, Forced}
-use Rattle.strings.specs.Text.{Request, textOf, noticeOf}
+use Rattle.strings.specs.Text.{Request, textOf, noticeFields}
 use Rattle.strings.specs.Outcomes.{requestOf}
 use Rattle.records.specs.declared.Record.{Record}
 use Rattle.records.specs.declared.Step.{Step}
 use Rattle.records.specs.declared.Step.the-variants as step
 use Rattle.records.specs.declared.Holder.{Holder}
 use Rattle.records.specs.declared.Holder.the-variants as holds
+use Rattle.records.specs.declared.Sending.{Sending}
+use Rattle.records.specs.declared.Sending.the-variants as launches
 use Rattle.records.specs.declared.Resulted.{Resulted}
 use Rattle.records.specs.declared.Resulted.the-variants.{Refused, Delivered, Dropped, Again}
 use Rattle.records.specs.Steps as steps
 use Rattle.rows.specs.Rows.{stored}
 use Rattle.tables.specs.Tables.{flagsOf}
-use Rattle.rules.specs.Answers.{Answer, refusal, error, outcome, holder, sent, delivered, dropped, again, Outcome, made, bufferRoom, twoDigits, holderText, over, octetCount}
+use Rattle.rules.specs.Answers.{Answer, refusal, error, outcome, holderIs, sentTo, delivered, dropped, again, Outcome, made, bufferRoom, twoDigits, holderText, packedOver, octetCount}
 use Rattle.rules.specs.Requests.{hasFollowMe, isSupervisor, isForced, refusalChecks}
-use Rattle.rules.specs.Calls.{Call, request, sending, result, Reply, reading}
+use Rattle.rules.specs.Calls.{Call, request, sending, result, Reply, clockReading}
 
 -- what a call gets, and the record that it leaves
 pub record Visited : Type 0 where
@@ -47,17 +49,17 @@ leaving table r = made (r .answer) table (r .buffer)
 -- ---- requests
 
 -- an outcome with its text in the reply
-abbrev pub says : ℕ → List ℕ → Record → Visited
-says n reply r = visited (outcome n (octetCount (twoDigits n))) (over (twoDigits n) reply) r
+abbrev pub visitSaying : ℕ → List ℕ → Record → Visited
+visitSaying n reply r = visited (outcome n (octetCount (twoDigits n))) (packedOver (twoDigits n) reply) r
 
 -- a step of the record r: the outcome that leaves it, or the outcome n with the next record
 abbrev pub stepped : ℕ → List ℕ → Record → Step → Visited
-stepped n reply r (step.Stays m) = says m reply r
-stepped n reply r (step.Becomes next) = says n reply next
+stepped n reply r (step.Stays m) = visitSaying m reply r
+stepped n reply r (step.Becomes next) = visitSaying n reply next
 
-abbrev pub told : List ℕ → Record → Holder → Visited
-told reply r (holds.Stays m) = says m reply r
-told reply r (holds.Held msisdn) = visited (holder (msisdn .0) (octetCount (holderText (msisdn .0)))) (over (holderText (msisdn .0)) reply) r
+abbrev pub holderAnswered : List ℕ → Record → Holder → Visited
+holderAnswered reply r (holds.Stays m) = visitSaying m reply r
+holderAnswered reply r (holds.Held msisdn) = visited (holderIs (msisdn .0) (octetCount (holderText (msisdn .0)))) (packedOver (holderText (msisdn .0)) reply) r
 
 abbrev pub erases : Erasing → Msisdn → Record → Step
 erases Empty requester r = steps.erased requester r
@@ -67,7 +69,7 @@ erases (Forced msisdn) requester r = steps.forced requester msisdn r
 abbrev pub decides : Operation → Erasing → FunctionalNumber → Msisdn → List ℕ → Record → Visited
 decides Register erasing number requester reply r = stepped 1 reply r (steps.registered number requester r)
 decides Erase erasing number requester reply r = stepped 2 reply r (erases erasing requester r)
-decides Interrogate erasing number requester reply r = told reply r (steps.interrogated r)
+decides Interrogate erasing number requester reply r = holderAnswered reply r (steps.interrogated r)
 
 unfoldable pub decided : Request → Msisdn → List ℕ → Record → Visited
 decided f requester reply r = decides (f .operation) (f .erasing) (f .number) requester reply r
@@ -75,11 +77,11 @@ decided f requester reply r = decides (f .operation) (f .erasing) (f .number) re
 -- ---- sendings and results
 
 -- the record, sent: the addressee and the notice's octets
-abbrev pub sentStep : FunctionalNumber → List ℕ → Record → Step → Visited
-sentStep number buffer r (step.Stays m) = visited (refusal m) buffer r
-sentStep number buffer r (step.Becomes next) =
-    let text = textOf (noticeOf number (r .supervisor)) in
-    visited (sent (r .addressee .0) (octetCount text)) (over text buffer) next
+abbrev pub sentStep : FunctionalNumber → List ℕ → Record → Sending → Visited
+sentStep number buffer r (launches.Refused m) = visited (refusal m) buffer r
+sentStep number buffer r (launches.Launched next) =
+    let text = textOf (noticeFields number (r .supervisor)) in
+    visited (sentTo (r .addressee .0) (octetCount text)) (packedOver text buffer) next
 
 abbrev pub resultStep : Record → Resulted → Visited
 resultStep r (Refused m) = visited (refusal m) [] r
@@ -100,24 +102,24 @@ visitResult kind clock r = resultStep r (steps.resulted kind clock r)
 abbrev pub visitRequest : ℕ → Msisdn → List ℕ → Option Request → Record → Visited
 visitRequest flags requester reply none r = visited (error 36) reply r
 visitRequest flags requester reply (some f) r =
-    decide ((not (hasFollowMe flags), says 42 reply r) ∷ (isForced (f .erasing) && not (isSupervisor flags), says 22 reply r) ∷ [])
+    decide ((not (hasFollowMe flags), visitSaying 42 reply r) ∷ (isForced (f .erasing) && not (isSupervisor flags), visitSaying 22 reply r) ∷ [])
     (decided f requester reply r)
 
 -- what a call that names a number makes of that number's record
 abbrev pub visit : List ℕ → ℕ → Call → Record → Visited
 visit list delay (request requester scheme string reply) r = visitRequest (flagsOf list (requester .0)) requester reply (requestOf string) r
-visit list delay (sending now number buffer) r = visitSending delay (reading now) number buffer r
-visit list delay (result now number kind) r = visitResult kind (reading now) r
+visit list delay (sending now number buffer) r = visitSending delay (clockReading now) number buffer r
+visit list delay (result now number kind) r = visitResult kind (clockReading now) r
 
 -- ---- a number that is not in the table
 
-abbrev pub saying : ℕ → List ℕ → Reply
-saying n reply = record { answer = outcome n (octetCount (twoDigits n)); buffer = over (twoDigits n) reply }
+abbrev pub replySaying : ℕ → List ℕ → Reply
+replySaying n reply = record { answer = outcome n (octetCount (twoDigits n)); buffer = packedOver (twoDigits n) reply }
 
 abbrev pub missedRequest : ℕ → List ℕ → Option Request → Reply
 missedRequest flags reply none = record { answer = error 36; buffer = reply }
 missedRequest flags reply (some f) =
-    decide ((not (hasFollowMe flags), saying 42 reply) ∷ (isForced (f .erasing) && not (isSupervisor flags), saying 22 reply) ∷ []) (saying 41 reply)
+    decide ((not (hasFollowMe flags), replySaying 42 reply) ∷ (isForced (f .erasing) && not (isSupervisor flags), replySaying 22 reply) ∷ []) (replySaying 41 reply)
 
 abbrev pub missedSending : List ℕ → Reply
 missedSending buffer =

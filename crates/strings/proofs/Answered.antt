@@ -7,7 +7,7 @@ use Prim.Native.Nat.{ℕ, _+_, _-_, _≤_, _<_}
 use native.Mathlib.Omega.{arith}
 use lib.ListN.{length, drop, length-append, length-take, length-drop}
 use lib.Seq.{take-append-le, drop-append-le}
-use Rattle.answers.specs.Writing.{made, Stands}
+use Rattle.answers.specs.Writing.{madeWrite, Stands}
 use Rattle.answers.specs.declared.Written.the-variants.{Count, TooShort, Unfit}
 use Rattle.answers.proofs.Writing.{wrote-count, no-room, not-fit, all-good}
 use Rattle.packing.specs.Packing.{packed, readable, unpacked}
@@ -74,17 +74,17 @@ read os text more r e d t b =
 -- ---- the writer's answer
 
 module _ (f : Request) (out : List ℕ) where
-  pub short : length out < writerRoom → made TooShort out ≡ writingRequest f out
+  pub short : length out < writerRoom → madeWrite TooShort out ≡ writingRequest f out
   unfolding writingRequest
   short h = sym (no-room writerRoom (requestSound f) (packed (textOf f)) out h)
 
-  pub unsound : writerRoom ≤ length out → requestSound f ≡ false → made Unfit out ≡ writingRequest f out
+  pub unsound : writerRoom ≤ length out → requestSound f ≡ false → madeWrite Unfit out ≡ writingRequest f out
   unfolding writingRequest
   unsound h u = sym (not-fit writerRoom (requestSound f) (packed (textOf f)) out h u)
 
   pub written :
       {n : ℕ} {new : List ℕ} → writerRoom ≤ length out → requestSound f ≡ true → Stands (packed (textOf f)) out n new
-      → made (Count n) new ≡ writingRequest f out
+      → madeWrite (Count n) new ≡ writingRequest f out
   unfolding writingRequest
   written {n} {new} h s w =
       wrote-count (packed (textOf f)) out new n (sym (w .count)) (w .buffer) ∙ sym (all-good writerRoom (requestSound f) (packed (textOf f)) out h s)

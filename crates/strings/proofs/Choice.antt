@@ -6,7 +6,7 @@ use mathlib.Core.List.{List}
 use Prim.Native.Nat.{ℕ, _≤_}
 use native.Mathlib.Omega.{arith}
 use lib.ListN.{length, drop, replicate, length-append}
-use Rattle.answers.specs.Writing.{Outcome, made, Stands}
+use Rattle.answers.specs.Writing.{WriteOutcome, madeWrite, Stands}
 use Rattle.answers.specs.declared.Written.{Written}
 use Rattle.answers.proofs.Tests.{less-or-not}
 use Rattle.answers.proofs.Checks.{not-some}
@@ -19,7 +19,7 @@ use Rattle.strings.specs.declared.Fields.{Fields}
 use Rattle.strings.specs.declared.Reading.{Reading}
 use Rattle.strings.specs.declared.Reading.the-variants.{Read, Unreadable}
 use Rattle.strings.specs.declared.ReadRequest.{ReadRequest}
-use Rattle.strings.specs.Text.{Request, textOf, noticeOf, mostCharacters}
+use Rattle.strings.specs.Text.{Request, textOf, noticeFields, mostCharacters}
 use Rattle.strings.specs.Outcomes.{requestOf, requestIn, told, ReadOutcome, madeRead, tell, textBeside, reading, writingRequest}
 use Rattle.strings.proofs.ReadBack.{read-only}
 use Rattle.strings.proofs.Octets.{request-reads, too-long}
@@ -33,7 +33,7 @@ unfolding textBeside
 beside-whole os e =
     ⊎-elim (λ h. not-some (sym (too-long os h) ∙ e))
     (λ h.
-    let b = ap (λ (x : Outcome). length (x .buffer)) (unpacking-good os (replicate mostCharacters 0) h (request-reads os e .0)) in
+    let b = ap (λ (x : WriteOutcome). length (x .buffer)) (unpacking-good os (replicate mostCharacters 0) h (request-reads os e .0)) in
     omega (arith, length-append (unpacked os) (drop (length (unpacked os)) (replicate mostCharacters 0))))
     (less-or-not mostCharacters (charsIn (length os)))
 
@@ -76,13 +76,13 @@ read-request-one os a b p q =
 -- ---- the writers
 
 pub write-request-one :
-    (f : Request) (out : List ℕ) (a b : Written) (new other : List ℕ) → made a new ≡ writingRequest f out → made b other ≡ writingRequest f out
+    (f : Request) (out : List ℕ) (a b : Written) (new other : List ℕ) → madeWrite a new ≡ writingRequest f out → madeWrite b other ≡ writingRequest f out
     → (a ≡ b) × (new ≡ other)
 write-request-one f out a b new other p q = made-one a b new other p q
 
 pub write-notice-one :
     (number : FunctionalNumber) (supervisor : Msisdn) (out : List ℕ) (a b : ℕ) (new other : List ℕ)
-    → Stands (packed (textOf (noticeOf number supervisor))) out a new → Stands (packed (textOf (noticeOf number supervisor))) out b other
+    → Stands (packed (textOf (noticeFields number supervisor))) out a new → Stands (packed (textOf (noticeFields number supervisor))) out b other
     → (a ≡ b) × (new ≡ other)
 write-notice-one number supervisor out a b new other p q =
     let e : a ≡ b = p .count ∙ sym (q .count) in

@@ -11,7 +11,7 @@ use Rattle.answers.specs.Ascii.{ascii}
 use Rattle.answers.specs.Checks.{onlyIf}
 use Rattle.answers.proofs.Tests.{and-left, and-right, and-both}
 use Rattle.answers.proofs.Checks.{not-some, bind-some, onlyIf-some}
-use Rattle.numbers.specs.Numbers.{isDigit, isNumber, digitsOf, numberAt}
+use Rattle.numbers.specs.Numbers.{isDigit, isNumber, digitsOf, leadingNumber}
 use Rattle.numbers.specs.declared.NumberRead.{NumberRead}
 use Rattle.numbers.specs.declared.NumberRead.the-variants.{Number, Unreadable}
 use Rattle.numbers.proofs.Reading.{number-read-before, read-from}
@@ -88,9 +88,9 @@ number-exact = record { back = back; only = only }
     back w s e = rw (append-assoc (digitsOf w) star s, number-read-before w 42 s e (unfold isDigit in refl), drop-append-seam (digitsOf w) (42 ∷ s))
 
     only : (s : List ℕ) {f : Field ℕ} → numberFieldAt s ≡ some f → (isNumber (f .got) ≡ true) × (s ≡ starred (f .got) ++ f .rest)
-    only s {f} e = go (numberAt s) refl e
+    only s {f} e = go (leadingNumber s) refl e
       where
-        go : (r : NumberRead) → numberAt s ≡ r → starredNumber s r ≡ some f → (isNumber (f .got) ≡ true) × (s ≡ starred (f .got) ++ f .rest)
+        go : (r : NumberRead) → leadingNumber s ≡ r → starredNumber s r ≡ some f → (isNumber (f .got) ≡ true) × (s ≡ starred (f .got) ++ f .rest)
         go (Number w n) r d =
             let k = field-only w star (drop n s) d in
             let m = read-from s w n r in (

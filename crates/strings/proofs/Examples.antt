@@ -5,8 +5,8 @@ use Prim.Native.Nat.{ℕ, _/_}
 use lib.ListN.{length, getD, replicate}
 use Rattle.answers.specs.Leading.{leading}
 use Rattle.answers.specs.Ascii.{ascii}
-use Rattle.numbers.specs.Numbers.{isDigit, pushed, stored, digitsUpTo, digitsOf, numberAt}
-use Rattle.packing.specs.Packing.{number, digits, octetsFor, charsIn, padded, packed, characters, readable, filled, kept, unpacked}
+use Rattle.numbers.specs.Numbers.{isDigit, pushed, storedForm, digitsUpTo, digitsOf, leadingNumber}
+use Rattle.packing.specs.Packing.{valueOf, digits, octetsFor, charsIn, padded, packed, characters, readable, filled, kept, unpacked}
 use Rattle.strings.specs.declared.Operation.the-variants.{Register}
 use Rattle.strings.specs.declared.Erasing.the-variants.{Empty}
 use Rattle.strings.specs.Text.{Request, isAdditional, textOf}
@@ -16,7 +16,7 @@ use Rattle.strings.specs.Outcomes.Told.{fields, error}
 
 -- what is told of a text, once it is packed
 unfoldable pub toldOf : List ℕ → Told
-unfolding begins operationAt serviceAt numberFieldAt forcedAt erasingAt leading additionalAt fieldsOf requestOf reading isAdditional isDigit pushed stored numberAt number digits octetsFor charsIn padded packed characters readable filled kept unpacked
+unfolding begins operationAt serviceAt numberFieldAt forcedAt erasingAt leading additionalAt fieldsOf requestOf reading isAdditional isDigit pushed storedForm leadingNumber valueOf digits octetsFor charsIn padded packed characters readable filled kept unpacked
 toldOf text = reading (packed text) .answer
 
 -- the registration of a number, with an additional field
@@ -29,13 +29,8 @@ unfolding textOf digitsUpTo digitsOf
 textFor w = textOf (registering w [])
 
 unfoldable pub octetsOf : List ℕ → List ℕ
-unfolding number digits octetsFor padded packed
+unfolding valueOf digits octetsFor padded packed
 octetsOf text = packed text
-
--- "P12 `**214*0492123401*88**#`: 36"
-pub P12 : toldOf (ascii "**214*0492123401*88**#") ≡ error 36
-unfolding toldOf
-P12 = refl
 
 -- "with `##` only": a registration names no MSISDN
 pub not-by-force : toldOf (ascii "**214*0492123401*88*4915100001*#") ≡ error 36

@@ -8,7 +8,7 @@ use native.Mathlib.Omega.{arith}
 use lib.ListN.{drop, length-drop}
 use lib.Seq.{drop-drop}
 use Rattle.answers.specs.Ascii.{ascii}
-use Rattle.numbers.specs.Numbers.{numberAt}
+use Rattle.numbers.specs.Numbers.{leadingNumber}
 use Rattle.numbers.specs.declared.NumberRead.the-variants.{Number, Unreadable}
 use Rattle.strings.specs.declared.Operation.{Operation}
 use Rattle.strings.specs.declared.Erasing.the-variants.{Empty, Forced}
@@ -19,11 +19,11 @@ use Rattle.strings.proofs.Begins.{begins-within}
 
 -- ---- a number and its star
 
-pub number-none : (s : List ℕ) → numberAt s ≡ Unreadable → numberFieldAt s ≡ none
+pub number-none : (s : List ℕ) → leadingNumber s ≡ Unreadable → numberFieldAt s ≡ none
 unfolding numberFieldAt
 number-none s e = rw e
 
-module _ (s : List ℕ) (w n : ℕ) (read : numberAt s ≡ Number w n) where
+module _ (s : List ℕ) (w n : ℕ) (read : leadingNumber s ≡ Number w n) where
   pub number-open : begins star (drop n s) ≡ false → numberFieldAt s ≡ none
   unfolding numberFieldAt
   number-open e = rw (read, e)

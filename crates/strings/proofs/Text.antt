@@ -22,7 +22,7 @@ use Rattle.strings.specs.declared.Operation.{Operation}
 use Rattle.strings.specs.declared.Operation.the-variants.{Register, Erase, Interrogate}
 use Rattle.strings.specs.declared.Erasing.{Erasing}
 use Rattle.strings.specs.declared.Erasing.the-variants.{Empty, Forced}
-use Rattle.strings.specs.Text.{Request, isAdditional, areAdditional, mostAdditional, mayForce, erasingSound, requestSound, operationText, serviceText, star, hash, textOf, noticeOf, mostCharacters, mostOctets}
+use Rattle.strings.specs.Text.{Request, isAdditional, areAdditional, mostAdditional, mayForce, erasingSound, requestSound, operationText, serviceText, star, hash, textOf, noticeFields, mostCharacters, mostOctets}
 use Rattle.strings.specs.Reader.{leadingAdditional}
 use Rattle.strings.proofs.Exact.{starred, erasingText}
 
@@ -178,19 +178,19 @@ octets-short f h = omega (arith, text-short f h)
 -- `##214*` number `*88*` supervisor `*#`
 pub notice-text :
     (n : FunctionalNumber) (s : Msisdn)
-    → textOf (noticeOf n s) ≡ ascii "##214*" ++ (digitsOf (n .0) ++ (ascii "*88*" ++ (digitsOf (s .0) ++ ascii "*#")))
-unfolding textOf noticeOf
+    → textOf (noticeFields n s) ≡ ascii "##214*" ++ (digitsOf (n .0) ++ (ascii "*88*" ++ (digitsOf (s .0) ++ ascii "*#")))
+unfolding textOf noticeFields
 notice-text n s = refl
 
 module _ (n : FunctionalNumber) (s : Msisdn) (number : isNumber (n .0) ≡ true) (supervisor : isNumber (s .0) ≡ true) where
-  pub notice-sound : requestSound (noticeOf n s) ≡ true
-  unfolding requestSound noticeOf each
+  pub notice-sound : requestSound (noticeFields n s) ≡ true
+  unfolding requestSound noticeFields each
   notice-sound = rw (number, supervisor)
 
   -- at most 42 characters, 37 octets: a notice fits the 80 octets of its buffer
-  pub notice-short : length (textOf (noticeOf n s)) ≤ 42
+  pub notice-short : length (textOf (noticeFields n s)) ≤ 42
   notice-short = rw (notice-text n s) (simp length-append (omega (arith, digits-most (n .0) number, digits-most (s .0) supervisor)))
 
-  pub notice-octets : length (packed (textOf (noticeOf n s))) ≤ 37
+  pub notice-octets : length (packed (textOf (noticeFields n s))) ≤ 37
   unfolding octetsFor
-  notice-octets = rw (length-packed (textOf (noticeOf n s))) (omega (arith, notice-short))
+  notice-octets = rw (length-packed (textOf (noticeFields n s))) (omega (arith, notice-short))

@@ -5,7 +5,7 @@ use mathlib.Core.Option.{Option, none, some}
 use mathlib.Core.List.{List}
 use lib.ListN.{length, take, drop, replicate}
 use lib.Dec.{ltb}
-use Rattle.answers.specs.Writing.{Outcome, writing}
+use Rattle.answers.specs.Writing.{WriteOutcome, writing}
 use Rattle.packing.specs.Packing.{packed, readable, unpacked}
 use Rattle.packing.specs.Outcomes.{unpacking}
 use Rattle.strings.specs.declared.Fields.{Fields}
@@ -63,5 +63,5 @@ reading os = record { answer = tell (unpacked os) (requestOf os); text = textBes
 abbrev pub writerRoom : ℕ
 writerRoom = 160
 
-unfoldable pub writingRequest : Request → List ℕ → Outcome
+unfoldable pub writingRequest : Request → List ℕ → WriteOutcome
 writingRequest f out = writing (ltb (length out) writerRoom) (not (requestSound f)) (packed (textOf f)) out

@@ -8,7 +8,7 @@ use lib.Dec.{leb, eqb}
 use Rattle.answers.specs.Ascii.{ascii}
 use Rattle.answers.specs.Leading.{leading}
 use Rattle.answers.specs.Checks.{_>>=_, onlyIf}
-use Rattle.numbers.specs.Numbers.{numberAt}
+use Rattle.numbers.specs.Numbers.{leadingNumber}
 use Rattle.numbers.specs.declared.NumberRead.{NumberRead}
 use Rattle.numbers.specs.declared.NumberRead.the-variants.{Number, Unreadable}
 use Rattle.strings.specs.declared.Operation.{Operation}
@@ -57,7 +57,7 @@ starredNumber s (Number w n) = fieldAt w star (drop n s)
 starredNumber s Unreadable = none
 
 unfoldable pub numberFieldAt : List ℕ → Option (Field ℕ)
-numberFieldAt s = starredNumber s (numberAt s)
+numberFieldAt s = starredNumber s (leadingNumber s)
 
 -- `88`, a star, the MSISDN to erase and its star: behind `##` only
 unfoldable pub forcedAt : Operation → List ℕ → Option (Field Erasing)

@@ -98,8 +98,8 @@ textOf f = joined
     ∷ [])
 
 -- "Notices": `##214*` number `*88*` supervisor `*#`, the text of a forced erasure with the supervisor in the MSISDN's place
-unfoldable pub noticeOf : FunctionalNumber → Msisdn → Request
-noticeOf number supervisor = record { operation = Erase; number = number; erasing = Forced supervisor; additional = [] }
+unfoldable pub noticeFields : FunctionalNumber → Msisdn → Request
+noticeFields number supervisor = record { operation = Erase; number = number; erasing = Forced supervisor; additional = [] }
 
 -- "at most 72 characters, 63 octets"
 abbrev pub mostCharacters : ℕ

@@ -16,64 +16,24 @@ use Rattle.structs.specs.declared.Operating.{Operating}
 use Rattle.structs.specs.declared.Operating.the-variants.{Known, Unknown}
 use Rattle.structs.specs.declared.RequestRead.{RequestRead}
 
--- the classes: "Refusals, errors and outcomes are numbered apart"
-abbrev pub written : ℕ
-written = 0
+-- the classes of answers that are no call's: a writer's count, and fields that were read
+abbrev pub writtenClass : ℕ
+writtenClass = 0
 
-abbrev pub refusal : ℕ
-refusal = 1
-
-abbrev pub error : ℕ
-error = 2
-
-abbrev pub outcome : ℕ
-outcome = 3
-
-abbrev pub sent : ℕ
-sent = 4
-
-abbrev pub result : ℕ
-result = 5
-
-abbrev pub found : ℕ
-found = 6
-
-abbrev pub noneDue : ℕ
-noneDue = 7
-
-abbrev pub read : ℕ
-read = 8
-
--- what a result returns
-abbrev pub delivered : ℕ
-delivered = 0
-
-abbrev pub dropped : ℕ
-dropped = 1
-
-abbrev pub again : ℕ
-again = 2
+abbrev pub readClass : ℕ
+readClass = 8
 
 abbrev pub four : ℕ → ℕ → ℕ → ℕ → Answer
 four class number count value = record { class = class; number = number; count = count; value = value }
 
 -- what a packer, an unpacker or a request's writer answers
 abbrev pub ofSaid : writing.Said → Answer
-ofSaid (writing.count n) = four written 0 n 0
-ofSaid (writing.refusal n) = four refusal n 0 0
+ofSaid (writing.count n) = four writtenClass 0 n 0
+ofSaid (writing.refusal n) = four rules.refusalClass n 0 0
 
--- what a call of the node answers: its number, its octet count, and the MSISDN, the addressee or the number found
+-- what a call of the node answers: the paper's class, number and values
 abbrev pub ofAnswer : rules.Answer → Answer
-ofAnswer (rules.refusal n) = four refusal n 0 0
-ofAnswer (rules.error n) = four error n 0 0
-ofAnswer (rules.outcome n octets) = four outcome n octets 0
-ofAnswer (rules.holder msisdn octets) = four outcome 3 octets msisdn
-ofAnswer (rules.sent addressee octets) = four sent 0 octets addressee
-ofAnswer rules.delivered = four result delivered 0 0
-ofAnswer rules.dropped = four result dropped 0 0
-ofAnswer rules.again = four result again 0 0
-ofAnswer (rules.found number) = four found 0 0 number
-ofAnswer rules.noneDue = four noneDue 0 0 0
+ofAnswer a = let n = rules.numbersOf a in four (n .class) (n .number) (n .count) (n .value)
 
 -- an operation by its number
 abbrev pub ofOperation : Operation → ℕ
@@ -89,7 +49,7 @@ ofErasing (Forced msisdn) = msisdn .0
 -- the fields of a request, the additional field by its place and its length
 abbrev pub ofFields : Operation → FunctionalNumber → Erasing → ℕ → ℕ → RequestRead
 ofFields operation number erasing start count = record {
-  class = read;
+  class = readClass;
   number = 0;
   operation = ofOperation operation;
   «functional_number» = number .0;
@@ -101,7 +61,7 @@ ofFields operation number erasing start count = record {
 -- what a request's reader answers: the fields, or an error
 abbrev pub ofTold : reading.Told → RequestRead
 ofTold (reading.fields f start) = ofFields (f .operation) (f .number) (f .erasing) start (length (f .additional))
-ofTold (reading.error n) = record { class = error; number = n; operation = 0; «functional_number» = 0; msisdn = 0; start = 0; length = 0 }
+ofTold (reading.error n) = record { class = rules.errorClass; number = n; operation = 0; «functional_number» = 0; msisdn = 0; start = 0; length = 0 }
 
 -- an operation by its number; no other number is one
 abbrev pub operationOf : ℕ → Operating

@@ -16,7 +16,7 @@ abbrev pub every : (ℕ → Bool) → ℕ → Bool
 every test zero = true
 every test (suc n) = every test n && test n
 
--- "strictly ascending by the first word": above the one before it, the first above 0
+-- "strictly ascending by the first word": above the one before it. The first is above 0, as every number in stored form is
 abbrev pub ascends : (ℕ → ℕ) → ℕ → Bool
 ascends k zero = ltb 0 (k zero)
 ascends k (suc i) = ltb (k i) (k (suc i))

@@ -8,7 +8,7 @@ use Rattle.numbers.specs.Numbers.{isNumber}
 use Rattle.numbers.specs.declared.FunctionalNumber.{FunctionalNumber}
 use Rattle.numbers.specs.declared.Msisdn.{Msisdn}
 use Rattle.strings.specs.declared.Operation.the-variants.{Register, Erase, Interrogate}
-use Rattle.strings.specs.Text.{Request, textOf, noticeOf}
+use Rattle.strings.specs.Text.{Request, textOf, noticeFields}
 use Rattle.answers.specs.Checks.{decide}
 use Rattle.answers.specs.Writing.{Stands}
 use Rattle.packing.specs.Packing.{packed}
@@ -17,6 +17,8 @@ use Rattle.records.specs.declared.Notice.the-variants.{Absent, Waiting, InFligh
 use Rattle.records.specs.declared.Record.{Record}
 use Rattle.records.specs.declared.Step.{Step}
 use Rattle.records.specs.declared.Step.the-variants.{Stays, Becomes}
+use Rattle.records.specs.declared.Sending.{Sending}
+use Rattle.records.specs.declared.Sending.the-variants as launches
 use Rattle.records.specs.declared.Holder.{Holder}
 use Rattle.records.specs.declared.Holder.the-variants as holder
 use Rattle.records.specs.declared.Resulted.{Resulted}
@@ -25,17 +27,17 @@ use Rattle.rows.specs.Rows.{rowSound, recordSound, recordAt, stored}
 use Rattle.records.specs.Steps.{isAbsent, isWaiting, isDue, isNobody, withNotice, launched, delayAllowed, registered, interrogated, sent}
 use Rattle.rows.proofs.Rows.{words-stored}
 use Rattle.rows.proofs.Kept.{holder-number, pending-words}
-use Rattle.rules.specs.Answers.{Answer, outcome, refusal, sent as sends, delivered, dropped, again, made, over, octetCount, twoDigits}
-use Rattle.rules.specs.Visits.{Visited, visited, storing, stepped, told, erases, decided, sentStep, resultStep}
+use Rattle.rules.specs.Answers.{Answer, outcome, refusal, sentTo, delivered, dropped, again, made, packedOver, octetCount, twoDigits}
+use Rattle.rules.specs.Visits.{Visited, visited, storing, stepped, holderAnswered, erases, decided, sentStep, resultStep}
 
 module _ (t : List ℕ) (i k : ℕ) (b after : List ℕ) (said : Answer) (step : Step) where
   pub stays-placed :
-      (n : ℕ) → rowSound t i ≡ true → step ≡ Stays n → said ≡ outcome n (octetCount (twoDigits n)) → after ≡ over (twoDigits n) b
+      (n : ℕ) → rowSound t i ≡ true → step ≡ Stays n → said ≡ outcome n (octetCount (twoDigits n)) → after ≡ packedOver (twoDigits n) b
       → made said t after ≡ storing t i (stepped k b (recordAt t i) step)
   stays-placed n sound e s f = rw (e, s, f, words-stored t i sound)
 
   pub becomes-placed :
-      (next : Record) (new : List ℕ) → step ≡ Becomes next → new ≡ stored t i next → said ≡ outcome k (octetCount (twoDigits k)) → after ≡ over (twoDigits k) b
+      (next : Record) (new : List ℕ) → step ≡ Becomes next → new ≡ stored t i next → said ≡ outcome k (octetCount (twoDigits k)) → after ≡ packedOver (twoDigits k) b
       → made said new after ≡ storing t i (stepped k b (recordAt t i) step)
   becomes-placed next new e g s f = rw (e, g, s, f)
 
@@ -51,13 +53,13 @@ holder-found r m sound e = go (isNobody (r .holder)) refl e
 -- what an interrogation of a row's record answers leaves the table
 pub told-placed :
     (t : List ℕ) (i : ℕ) (b after : List ℕ) (said : Answer) (r : Record) → rowSound t i ≡ true → r ≡ recordAt t i
-    → visited said after r ≡ told b r (interrogated r) → made said t after ≡ storing t i (told b (recordAt t i) (interrogated (recordAt t i)))
+    → visited said after r ≡ holderAnswered b r (interrogated r) → made said t after ≡ storing t i (holderAnswered b (recordAt t i) (interrogated (recordAt t i)))
 told-placed t i b after said r sound e f = rw (← e) (go (interrogated r) f)
   where
     same : stored t i r ≡ t
     same = rw e (words-stored t i sound)
 
-    go : (h : Holder) → visited said after r ≡ told b r h → made said t after ≡ storing t i (told b r h)
+    go : (h : Holder) → visited said after r ≡ holderAnswered b r h → made said t after ≡ storing t i (holderAnswered b r h)
     go (holder.Stays n) g = rw (same) (ap (λ (v : Visited). made (v .reply .answer) t (v .reply .buffer)) g)
     go (holder.Held m) g = rw (same) (ap (λ (v : Visited). made (v .reply .answer) t (v .reply .buffer)) g)
 
@@ -70,7 +72,7 @@ module _ (f : Request) (requester : Msisdn) (b : List ℕ) (r : Record) where
   unfolding decided
   decided-erase e = rw e
 
-  pub decided-interrogate : f .operation ≡ Interrogate → decided f requester b r ≡ told b r (interrogated r)
+  pub decided-interrogate : f .operation ≡ Interrogate → decided f requester b r ≡ holderAnswered b r (interrogated r)
   unfolding decided
   decided-interrogate e = rw e
 
@@ -90,12 +92,12 @@ module _ (t : List ℕ) (i : ℕ) (step : Resulted) where
     result-again e = rw (e, stores)
 
 -- a notice that is sent has a supervisor
-pub sent-supervisor : (delay clock : ℕ) (r next : Record) → recordSound r ≡ true → sent delay clock r ≡ Becomes next → isNumber (r .supervisor .0) ≡ true
+pub sent-supervisor : (delay clock : ℕ) (r next : Record) → recordSound r ≡ true → sent delay clock r ≡ launches.Launched next → isNumber (r .supervisor .0) ≡ true
 unfolding sent
 sent-supervisor delay clock r next sound e = pending-words r sound (go (delayAllowed delay) (r .notice) e) .supervised
   where
     go : (a : Bool) (n : Notice)
-        → decide ((not a, Stays 6) ∷ (not (isWaiting n), Stays 4) ∷ (not (isDue delay clock n), Stays 5) ∷ []) (Becomes (withNotice (launched n) r)) ≡ Becomes next
+        → decide ((not a, launches.Refused 6) ∷ (not (isWaiting n), launches.Refused 4) ∷ (not (isDue delay clock n), launches.Refused 5) ∷ []) (launches.Launched (withNotice (launched n) r)) ≡ launches.Launched next
         → isAbsent n ≡ false
     go false n f = absurd (let z : _≡_ {A = ℕ} 0 1 = cc in omega arith)
     go true Absent f = absurd (let z : _≡_ {A = ℕ} 0 1 = cc in omega arith)
@@ -103,12 +105,12 @@ sent-supervisor delay clock r next sound e = pending-words r sound (go (delayAll
     go true (InFlight k) f = refl
 
 -- a sending's step, returned and stored
-module _ (t : List ℕ) (i : ℕ) (b : List ℕ) (number : FunctionalNumber) (step : Step) where
-  pub sending-refused : (n : ℕ) → rowSound t i ≡ true → step ≡ Stays n → made (refusal n) t b ≡ storing t i (sentStep number b (recordAt t i) step)
+module _ (t : List ℕ) (i : ℕ) (b : List ℕ) (number : FunctionalNumber) (step : Sending) where
+  pub sending-refused : (n : ℕ) → rowSound t i ≡ true → step ≡ launches.Refused n → made (refusal n) t b ≡ storing t i (sentStep number b (recordAt t i) step)
   sending-refused n sound e = rw (e, words-stored t i sound)
 
   pub sending-placed :
-      (next r : Record) (new after : List ℕ) (octets : ℕ) → step ≡ Becomes next → r ≡ recordAt t i → new ≡ stored t i next
-      → Stands (packed (textOf (noticeOf number (r .supervisor)))) b octets after
-      → made (sends (r .addressee .0) octets) new after ≡ storing t i (sentStep number b (recordAt t i) step)
+      (next r : Record) (new after : List ℕ) (octets : ℕ) → step ≡ launches.Launched next → r ≡ recordAt t i → new ≡ stored t i next
+      → Stands (packed (textOf (noticeFields number (r .supervisor)))) b octets after
+      → made (sentTo (r .addressee .0) octets) new after ≡ storing t i (sentStep number b (recordAt t i) step)
   sending-placed next r new after octets e same stores w = rw (e, ← same, stores, w .buffer, w .count)

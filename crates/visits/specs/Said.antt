@@ -1,5 +1,5 @@
 -- The paper's class, number and values for each case of the four calls' answers. Assumes nothing.
-use Rattle.rules.specs.Answers.{Answer, refusal, error, outcome, holder, sent, delivered, dropped, again, found, noneDue}
+use Rattle.rules.specs.Answers.{Answer, refusal, error, outcome, holderIs, sentTo, delivered, dropped, again, found, noneDue}
 use Rattle.visits.specs.declared.RequestAnswer.{RequestAnswer}
 use Rattle.visits.specs.declared.RequestAnswer.the-variants as request
 use Rattle.visits.specs.declared.SendingAnswer.{SendingAnswer}
@@ -13,11 +13,11 @@ abbrev pub saidRequest : RequestAnswer → Answer
 saidRequest (request.Refused n) = refusal n
 saidRequest (request.Error n) = error n
 saidRequest (request.Outcome n octets) = outcome n octets
-saidRequest (request.Held msisdn octets) = holder (msisdn .0) octets
+saidRequest (request.Held msisdn octets) = holderIs (msisdn .0) octets
 
 abbrev pub saidSending : SendingAnswer → Answer
 saidSending (sending.Refused n) = refusal n
-saidSending (sending.Sent addressee octets) = sent (addressee .0) octets
+saidSending (sending.Sent addressee octets) = sentTo (addressee .0) octets
 
 abbrev pub saidResult : ResultAnswer → Answer
 saidResult (result.Refused n) = refusal n

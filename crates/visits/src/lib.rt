@@ -5,6 +5,7 @@ use numbers::Msisdn;
 use records::Holder;
 use records::Record;
 use records::Resulted;
+use records::Sending;
 use records::Step;
 use strings::Erasing;
 use strings::Fields;
@@ -19,9 +20,9 @@ ghost use Rattle.numbers.specs.Numbers.{isNumber};
 ghost use Rattle.records.specs.Steps.{interrogated, sent, isDue};
 ghost use Rattle.rows.specs.Rows.{recordAt, rowSound, recordSound};
 ghost use Rattle.tables.specs.Tables.{tableSound, rowsIn};
-ghost use Rattle.rules.specs.Answers.{made, outcome, holder, bufferRoom, over, octetCount, twoDigits, holderText};
+ghost use Rattle.rules.specs.Answers.{made, outcome, holderIs, bufferRoom, packedOver, octetCount, twoDigits, holderText};
 ghost use Rattle.rules.specs.Notices as notices;
-ghost use Rattle.rules.specs.Visits.{visited, storing, stepped, told, erases, decided, sentStep, visitResult};
+ghost use Rattle.rules.specs.Visits.{visited, storing, stepped, holderAnswered, erases, decided, sentStep, visitResult};
 ghost use Rattle.visits.specs.Deciding.{deciding};
 ghost use Rattle.visits.specs.Said.{saidRequest, saidSending, saidResult, saidFinding};
 
@@ -57,7 +58,7 @@ pub enum FindingAnswer {
 // Packs a text that the packer takes into a buffer that has room for it.
 fn put(text: &[u8], out: &mut [u8]) -> usize
     requires { ⌜ (takes (now text) ≡ true) × (octetsFor (length (now text)) ≤ length (now out)) ⌝ }
-    ensures { λ r. ⌜ (r ≡ octetCount (now (text .entry))) × (now (out .exit) ≡ over (now (text .entry)) (now (out .entry))) ⌝ }
+    ensures { λ r. ⌜ (r ≡ octetCount (now (text .entry))) × (now (out .exit) ≡ packedOver (now (text .entry)) (now (out .entry))) ⌝ }
 {
     let written = packing::pack(text, out);
     match written {
@@ -70,7 +71,7 @@ fn put(text: &[u8], out: &mut [u8]) -> usize
 // An outcome: its two characters in the reply.
 pub fn say(n: u8, reply: &mut [u8]) -> RequestAnswer
     requires { ⌜ bufferRoom ≤ length (now reply) ⌝ }
-    ensures { λ r. ⌜ (saidRequest r ≡ outcome n (octetCount (twoDigits n))) × (now (reply .exit) ≡ over (twoDigits n) (now (reply .entry))) ⌝ }
+    ensures { λ r. ⌜ (saidRequest r ≡ outcome n (octetCount (twoDigits n))) × (now (reply .exit) ≡ packedOver (twoDigits n) (now (reply .entry))) ⌝ }
 {
     let text = [48 + n / 10, 48 + n % 10];
     let octets = put(&text, reply);
@@ -80,7 +81,7 @@ pub fn say(n: u8, reply: &mut [u8]) -> RequestAnswer
 // Outcome 03: the holder's digits after the code and the space.
 fn tell(msisdn: Msisdn, reply: &mut [u8]) -> RequestAnswer
     requires { ⌜ (isNumber (msisdn .0) ≡ true) × (bufferRoom ≤ length (now reply)) ⌝ }
-    ensures { λ r. ⌜ (saidRequest r ≡ holder (msisdn .0) (octetCount (holderText (msisdn .0)))) × (now (reply .exit) ≡ over (holderText (msisdn .0)) (now (reply .entry))) ⌝ }
+    ensures { λ r. ⌜ (saidRequest r ≡ holderIs (msisdn .0) (octetCount (holderText (msisdn .0)))) × (now (reply .exit) ≡ packedOver (holderText (msisdn .0)) (now (reply .entry))) ⌝ }
 {
     let mut text = [32u8; 18];
     text[0] = 48;
@@ -120,7 +121,7 @@ fn erasure(held: Record, erasing: Erasing, requester: Msisdn) -> Step
 // What an interrogation of a sound record found.
 fn answer_holder(held: Record, reply: &mut [u8]) -> RequestAnswer
     requires { ⌜ (recordSound held ≡ true) × (bufferRoom ≤ length (now reply)) ⌝ }
-    ensures { λ r. ⌜ visited (saidRequest r) (now (reply .exit)) held ≡ told (now (reply .entry)) held (interrogated held) ⌝ }
+    ensures { λ r. ⌜ visited (saidRequest r) (now (reply .exit)) held ≡ holderAnswered (now (reply .entry)) held (interrogated held) ⌝ }
 {
     let found = held.interrogate();
     match found {
@@ -173,8 +174,8 @@ pub fn send_at(
     let held = rows::load(table, row);
     let step = held.send(delay, clock);
     match step {
-        Step::Stays(n) => SendingAnswer::Refused(n),
-        Step::Becomes(launched) => {
+        Sending::Refused(n) => SendingAnswer::Refused(n),
+        Sending::Launched(launched) => {
             rows::store(table, row, launched);
             let addressee = held.addressee;
             let supervisor = held.supervisor;

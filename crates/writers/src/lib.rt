@@ -11,11 +11,11 @@ ghost use mathlib.Core.Bool.{true};
 ghost use mathlib.Core.List.{_++_};
 ghost use Prim.Native.Nat.{_+_, _<_, _≤_};
 ghost use lib.ListN.{length};
-ghost use Rattle.answers.specs.Writing.{made, Stands};
+ghost use Rattle.answers.specs.Writing.{madeWrite, Stands};
 ghost use Rattle.packing.specs.Packing.{packed};
 ghost use Rattle.numbers.specs.Numbers.{mostDigits, isNumber, digitsOf};
 ghost use Rattle.strings.specs.declared.Operation.the-variants.{Erase};
-ghost use Rattle.strings.specs.Text.{erasingSound, requestFrom, requestSound, operationText, serviceText, star, hash, supervisorText, msisdnText, textOf, noticeOf, mostCharacters, mostOctets};
+ghost use Rattle.strings.specs.Text.{erasingSound, requestFrom, requestSound, operationText, serviceText, star, hash, supervisorText, msisdnText, textOf, noticeFields, mostCharacters, mostOctets};
 ghost use Rattle.strings.specs.Outcomes.{writingRequest};
 
 // The buffer of a request's writer has at least so many octets.
@@ -152,7 +152,7 @@ pub fn write_request(
     additional: &[u8],
     out: &mut [u8],
 ) -> Written
-    ensures { λ r. ⌜ made r (now (out .exit)) ≡ writingRequest (requestFrom operation number erasing (now (additional .entry))) (now (out .entry)) ⌝ }
+    ensures { λ r. ⌜ madeWrite r (now (out .exit)) ≡ writingRequest (requestFrom operation number erasing (now (additional .entry))) (now (out .entry)) ⌝ }
 {
     if out.len() < WRITER_ROOM {
         return Written::TooShort;
@@ -167,7 +167,7 @@ pub fn write_request(
 pub fn write_notice(number: FunctionalNumber, supervisor: Msisdn, out: &mut [u8]) -> usize
     requires { ⌜ (isNumber (number .0) ≡ true) × (isNumber (supervisor .0) ≡ true) ⌝ }
     requires { ⌜ mostOctets ≤ length (now out) ⌝ }
-    ensures { λ r. ⌜ Stands (packed (textOf (noticeOf number supervisor))) (now (out .entry)) r (now (out .exit)) ⌝ }
+    ensures { λ r. ⌜ Stands (packed (textOf (noticeFields number supervisor))) (now (out .entry)) r (now (out .exit)) ⌝ }
 {
     write_packed(
         Operation::Erase,

@@ -1,7 +1,7 @@
 -- `ffn_read_request` meets its contract: the numbers of what the reader ensures, and the characters that the unpacker leaves. Assumes nothing.
 use mathlib.Core.Path.{ap}
 use borrow.Author.Needs.{needs}
-use Rattle.answers.specs.Writing.{Outcome}
+use Rattle.answers.specs.Writing.{WriteOutcome}
 use Rattle.ffn_c.proofs.Reader.{reads-error, reads-fields}
 use Rattle.ffn_c.proofs.ffn_read_request.Statement.{statement}
 use Rattle.ffn_c.proofs.ffn_read_request.Tie as tie
@@ -34,7 +34,7 @@ returns-2 c =
     let u = c .before .before .before in
     let k = u .before .before .before in
     let q = k .before .before in
-    rw (c .of-fields .ensures, ap (λ (x : Outcome). x .buffer) (u .unpack .ensures))
+    rw (c .of-fields .ensures, ap (λ (x : WriteOutcome). x .buffer) (u .unpack .ensures))
     (reads-fields _ _ (q .read-request .result) (q .read-request .ensures) _ (k .reading .given .1))
 
 pub ffn-read-request-spec : {M : Type 1} → statement M

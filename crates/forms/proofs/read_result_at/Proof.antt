@@ -3,7 +3,7 @@ use Prim.Native.Nat.{zero-le}
 use mathlib.Core.Path.{sym}
 use native.Mathlib.Omega.{arith}
 use lib.Seq.{length-take-le}
-use Rattle.forms.specs.Lines.{resultAt}
+use Rattle.forms.specs.Lines.{resultFields}
 use Rattle.answers.proofs.Parts.{rest-of}
 use Rattle.forms.proofs.Places.{Split, split, unsplit}
 use Rattle.forms.proofs.Reading.{is-value, is-none, value-fits}
@@ -19,7 +19,7 @@ place-of-requires : tie.Need-place-of-requires
 place-of-requires c κs = search needs
 
 returns : tie.Need-returns
-unfolding resultAt
+unfolding resultFields
 returns c = λ line. record { form = rw (unsplit _ _ (c .before .place-of .ensures) (c .if1 .taken)); within = zero-le }
 
 add-next : tie.Need-add-next
@@ -38,7 +38,7 @@ enum-told : tie.Need-enum-told
 enum-told c = search needs
 
 returns-2 : tie.Need-returns-2
-unfolding resultAt
+unfolding resultFields
 returns-2 c = λ line.
     let a = c .before .before in
     let p = parts (a .before .before) in
@@ -63,7 +63,7 @@ enum-told-2 : tie.Need-enum-told-2
 enum-told-2 c = search needs
 
 returns-3 : tie.Need-returns-3
-unfolding resultAt
+unfolding resultFields
 returns-3 c = λ line.
     let b = c .before .before in
     let k = b .before .before in
@@ -75,7 +75,7 @@ cast-t17 : tie.Need-cast-t17
 cast-t17 c = omega (arith, value-fits _ _ _ (is-value _ _ (c .before .before .before .value-below .ensures) (c .before .last .given .1)))
 
 returns-4 : tie.Need-returns-4
-unfolding resultAt
+unfolding resultFields
 returns-4 c = λ line.
     let b = c .before .before .before in
     let k = b .before .before in

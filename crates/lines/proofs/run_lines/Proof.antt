@@ -9,7 +9,7 @@ use Rattle.bytes.specs.Bytes.{indexOf}
 use Rattle.packing.specs.Packing.{octetsFor}
 use Rattle.forms.specs.Lines.{lineFeed}
 use Rattle.lines.specs.Program.{lineEffect}
-use Rattle.lines.specs.Memory.{held, Did}
+use Rattle.lines.specs.Memory.{programIn, Did}
 use Rattle.lines.proofs.Running.{Run, run-start, so-far, printed-most, run-step, run-end}
 use borrow.Author.Needs.{needs}
 use Rattle.lines.proofs.run_lines.Statement.{statement}
@@ -40,7 +40,7 @@ head c = c .before .before .before .before .before .before .before .before .befo
 
 did :
     (c : tie.After-do-line Inv-loop μ-loop)
-    → Did (lineEffect (take (c .before .before .before .before .before .before .place-of .result) (drop (head c .loop .at) (start (head c) .args .input .now))) (held (head c .loop .state) (head c .loop .table) (head c .loop .list)))
+    → Did (lineEffect (take (c .before .before .before .before .before .before .place-of .result) (drop (head c .loop .at) (start (head c) .args .input .now))) (programIn (head c .loop .state) (head c .loop .table) (head c .loop .list)))
     (head c .loop .state) (head c .loop .table) (head c .loop .list) (take (length (head c .loop .out) - head c .loop .n) (drop (head c .loop .n) (head c .loop .out)))
     (c .do-line .result) (c .do-line .last .1 .1 .0) (c .do-line .last .1 .1 .1 .0) (c .do-line .last .1 .1 .1 .1 .1 .0)
 did c = rw (rest-of (head c .loop .at) (start (head c) .args .input .now)) at (c .do-line .ensures)

@@ -1,6 +1,6 @@
 -- `lines::send` meets its contract. Assumes nothing.
 use native.Mathlib.Omega.{arith}
-use Rattle.lines.specs.Program.{buffer}
+use Rattle.lines.specs.Program.{lentBuffer}
 use Rattle.lines.proofs.Printing.{sending-sends}
 use Rattle.lines.proofs.Calls.{printable-by, answered-by}
 use borrow.Author.Needs.{needs}
@@ -20,7 +20,7 @@ put-sending-answer-requires : tie.Need-put-sending-answer-requires
 put-sending-answer-requires c κs =
     let s = c .before .before .before .before .before in
     let a = s .before .before .before .before .before .args in
-    (printable-by _ _ _ _ (s .sending .ensures) (sending-sends (a .table .now) buffer (a .number) 0 (a .clock) .0), omega arith)
+    (printable-by _ _ _ _ (s .sending .ensures) (sending-sends (a .table .now) lentBuffer (a .number) 0 (a .clock) .0), omega arith)
 
 same-length : tie.Need-same-length
 same-length c = search needs
@@ -33,7 +33,7 @@ returns c =
     let p = c .before .before in
     let s = p .before .before .before .before .before .before in
     let a = s .before .before .before .before .before .args in
-    answered-by _ _ _ _ (s .sending .ensures) (sending-sends (a .table .now) buffer (a .number) 0 (a .clock) .0) (p .put-sending-answer .ensures)
+    answered-by _ _ _ _ (s .sending .ensures) (sending-sends (a .table .now) lentBuffer (a .number) 0 (a .clock) .0) (p .put-sending-answer .ensures)
 
 pub send-spec : {M : Type 1} → statement M
 send-spec =

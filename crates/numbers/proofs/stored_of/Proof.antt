@@ -5,24 +5,24 @@ use Prim.Native.Nat.{_+_, _-_, _*_, _^_, _≤_, _<_, zero-le}
 use native.Mathlib.Omega.{arith}
 use borrow.Author.Needs.{needs}
 use lib.ListN.{length, drop, getD, drop-of-length-le}
-use Rattle.numbers.specs.Numbers.{mostDigits, areDigits, pushed, stored}
+use Rattle.numbers.specs.Numbers.{mostDigits, areDigits, pushed, storedForm}
 use Rattle.numbers.proofs.Reading.{Turn, turn, stored-fits}
 use Rattle.numbers.proofs.stored_of.Statement.{statement}
 use Rattle.numbers.proofs.stored_of.Tie as tie
 
 abbrev Inv-loop : tie.InvT-loop
-Inv-loop digits word₀ i₀ word i = (i ≤ length digits) × (areDigits (drop i digits) ≡ true) × (pushed word (drop i digits) ≡ stored digits)
+Inv-loop digits word₀ i₀ word i = (i ≤ length digits) × (areDigits (drop i digits) ≡ true) × (pushed word (drop i digits) ≡ storedForm digits)
 
 abbrev μ-loop : tie.MeasureT-loop
 μ-loop digits word₀ i₀ word i = length digits - i
 
 loop-holds : tie.Need-loop-holds Inv-loop μ-loop
-unfolding stored
+unfolding storedForm
 loop-holds c = (zero-le, c .pre .0, refl)
 
 turned :
     (c : tie.In-loop Inv-loop μ-loop)
-    → Turn (c .before .before .args .digits .now) (c .before .loop .i) (c .before .loop .word) (stored (c .before .before .args .digits .now))
+    → Turn (c .before .before .args .digits .now) (c .before .loop .i) (c .before .loop .word) (storedForm (c .before .before .args .digits .now))
 turned c =
     let h = c .before in
     turn (h .before .args .digits .now) (h .loop .i) (h .loop .word) _ (c .loop-test .taken) (h .loop .inv .1) (h .loop .inv .2)

@@ -8,7 +8,7 @@ use mathlib.Core.List.{List, _++_}
 use lib.ListN.{length, drop, getD, set, length-set}
 use lib.Pow.{pow-mono}
 use borrow.Author.Needs.{needs}
-use Rattle.packing.specs.Packing.{number, octetsFor, takes, padded, packed}
+use Rattle.packing.specs.Packing.{valueOf, octetsFor, takes, padded, packed}
 use Rattle.packing.proofs.Moving.{Moved, nothing-moved, one-more, take-in, put-out}
 use Rattle.packing.proofs.Laws.{takes-below, padded-at, above-return, above-none}
 use Rattle.packing.proofs.write_octets.Statement.{statement}
@@ -51,13 +51,13 @@ module _ {cs old new : List ℕ} {i j held bits : ℕ} (s : State cs old new i j
 
     module _ (room : octetsFor (length cs) ≤ length old) (some : 0 < bits) (d : ℕ) where
       last-octet :
-          (above : ℕ) → number 128 (drop (length cs) (padded cs)) ≡ above → d ≡ held + 2 ^ bits * above → d < 256
+          (above : ℕ) → valueOf 128 (drop (length cs) (padded cs)) ≡ above → d ≡ held + 2 ^ bits * above → d < 256
           → set new j d ≡ packed cs ++ drop (octetsFor (length cs)) old
       unfolding packed octetsFor
       last-octet above e f small =
           let count : (7 * length cs + 7) / 8 ≡ j + 1 = omega (arith, at-end .place) in
           rw count
-          (one-more 256 (number 128 (padded cs)) j d old new (octet-room room some) (at-end .done)
+          (one-more 256 (valueOf 128 (padded cs)) j d old new (octet-room room some) (at-end .done)
           (sym (rw (at-end .rest, e, ← f) (mod-eq-of-lt small))))
 
       with-return : bits ≡ 1 → d ≡ held + 13 * 2 → set new j d ≡ packed cs ++ drop (octetsFor (length cs)) old

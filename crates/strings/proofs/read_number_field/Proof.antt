@@ -4,7 +4,7 @@ use native.Mathlib.Omega.{arith}
 use borrow.Author.Needs.{needs}
 use borrow.Author.Tests.{not-true, not-false}
 use Rattle.answers.proofs.Parts.{rest-of}
-use Rattle.numbers.specs.Numbers.{numberAt}
+use Rattle.numbers.specs.Numbers.{leadingNumber}
 use Rattle.numbers.specs.declared.NumberRead.the-variants.{Number}
 use Rattle.numbers.proofs.Reading.{read-from}
 use Rattle.strings.proofs.Steps.{number-none, number-open, number-found}
@@ -24,7 +24,7 @@ returns : tie.Need-returns
 returns c = number-none _ (sym (c .before .before .read-number .ensures) ∙ c .enum-told .given .1)
 
 -- the number that was read
-read : (c : tie.After-word) → numberAt (c .before .before .before .before .args .part .now) ≡ Number (c .word .given .0 .0) (c .word .given .0 .1 .0)
+read : (c : tie.After-word) → leadingNumber (c .before .before .before .before .args .part .now) ≡ Number (c .word .given .0 .0) (c .word .given .0 .1 .0)
 read c = sym (c .before .before .read-number .ensures) ∙ c .word .given .1
 
 sub-begins-with : tie.Need-sub-begins-with

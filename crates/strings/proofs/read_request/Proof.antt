@@ -9,7 +9,7 @@ use lib.ListN.{length, drop, replicate}
 use lib.Seq.{length-take-le}
 use types.Run.{miss}
 use borrow.Author.Needs.{needs}
-use Rattle.answers.specs.Writing.{Outcome}
+use Rattle.answers.specs.Writing.{WriteOutcome}
 use Rattle.answers.specs.declared.Written.the-variants.{Count}
 use Rattle.answers.proofs.Tests.{less-or-not}
 use Rattle.answers.proofs.Writing.{made-one, Counted}
@@ -43,7 +43,7 @@ text c = c .unpack .last .1 .0
 
 beside : (c : tie.After-unpack) → text c ≡ textBeside (octets c)
 unfolding textBeside
-beside c = ap (λ (x : Outcome). x .buffer) (c .unpack .ensures)
+beside c = ap (λ (x : WriteOutcome). x .buffer) (c .unpack .ensures)
 
 -- ---- no count: too many characters, or unreadable bits
 

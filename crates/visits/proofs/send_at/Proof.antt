@@ -5,7 +5,7 @@ use Prim.Native.Nat.{ℕ}
 use native.Mathlib.Omega.{arith}
 use denote.Ref.{now}
 use Rattle.records.specs.declared.Record.{Record}
-use Rattle.records.specs.declared.Step.{Step}
+use Rattle.records.specs.declared.Sending.{Sending}
 use Rattle.records.specs.Steps.{sent}
 use Rattle.rows.specs.Rows.{recordAt, recordSound}
 use Rattle.rows.proofs.Rows.{record-sound}
@@ -28,7 +28,7 @@ sound : (c : tie.Start) → recordSound (R c) ≡ true
 sound c = record-sound (T c) (c .args .row) (c .pre .0 .1)
 
 -- what the row's record comes to
-step : (c : tie.After-send) (x : Step) → c .send .result ≡ x → sent (start (c .before) .args .delay) (start (c .before) .args .clock) (R (start (c .before))) ≡ x
+step : (c : tie.After-send) (x : Sending) → c .send .result ≡ x → sent (start (c .before) .args .delay) (start (c .before) .args .clock) (R (start (c .before))) ≡ x
 step c x e =
     let a = start (c .before) .args in
     ap (sent (a .delay) (a .clock)) (sym (c .before .load .ensures)) ∙ sym (c .send .ensures) ∙ e

@@ -8,7 +8,7 @@ use Rattle.answers.specs.declared.Written.the-variants.{Count}
 use Rattle.numbers.specs.Numbers.{digitsOf}
 use Rattle.numbers.proofs.Digits.{digits-most}
 use Rattle.numbers.proofs.Writing.{written-digits}
-use Rattle.rules.specs.Answers.{holder, holderText}
+use Rattle.rules.specs.Answers.{holderIs, holderText}
 use Rattle.visits.proofs.Texts.{takes-holder, holder-room, holder-front, counts-only}
 use Rattle.visits.proofs.tell.Statement.{statement}
 use Rattle.visits.proofs.tell.Tie as tie
@@ -84,7 +84,7 @@ returns-2 : tie.Need-returns-2
 returns-2 c =
     let p = c .before .before in
     let e = rw (text (p .before .before .before)) at (p .put .ensures) in
-    (ap (λ (n : ℕ). holder (told (start (p .before .before .before))) n) (e .0), e .1)
+    (ap (λ (n : ℕ). holderIs (told (start (p .before .before .before))) n) (e .0), e .1)
 
 pub tell-spec : {M : Type 1} → statement M
 tell-spec =

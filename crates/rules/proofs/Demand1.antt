@@ -1,0 +1,172 @@
+-- Demand 1 holds of every call, over any words and octets: each check's answer and what is done where none holds. Assumes nothing.
+use mathlib.Core.Path.{_≡_, refl, sym, ap, _∙_}
+use mathlib.Core.Bool.{Bool, true, false, cond, _||_}
+use mathlib.Core.Option.{Option, none, some}
+use mathlib.Core.List.{List, []}
+use Prim.Native.Nat.{ℕ}
+use lib.Dec.{eqb}
+use borrow.Author.Tests.{not-false}
+use Rattle.answers.proofs.Tests.{no-path, and-left}
+use Rattle.answers.proofs.Decide.{decide-by}
+use Rattle.numbers.specs.declared.FunctionalNumber.{FunctionalNumber}
+use Rattle.numbers.specs.declared.Msisdn.{Msisdn}
+use Rattle.strings.specs.declared.Operation.{Operation}
+use Rattle.strings.specs.declared.Operation.the-variants.{Register, Erase, Interrogate}
+use Rattle.strings.specs.declared.Erasing.{Erasing}
+use Rattle.strings.specs.Text.{Request}
+use Rattle.strings.specs.Outcomes.{requestOf}
+use Rattle.records.specs.declared.Record.{Record}
+use Rattle.records.specs.Steps.{heldBy}
+use Rattle.rows.specs.Rows.{recordAt, stored}
+use Rattle.rows.proofs.Rows.{words-stored}
+use Rattle.tables.specs.declared.Found.{Found}
+use Rattle.tables.specs.declared.Found.the-variants.{At, Nothing}
+use Rattle.tables.specs.Tables.{tableSound, rowOf, recordOf}
+use Rattle.tables.proofs.Stored.{record-found}
+use Rattle.rules.specs.Answers.{Answer, error, delivered, dropped, again as sendAgain, Outcome, made, outcomeClass, numbersOf, isOf, isRefusal, isError, isOutcome, isNegative, twoDigits, packedOver, refusing}
+use Rattle.rules.specs.Requests as requests
+use Rattle.rules.specs.Notices as notices
+use Rattle.rules.specs.Calls.{Call, request, sending, result, bufferOf, clockReading, call, nameOf}
+use Rattle.rules.specs.Demand.{Demand1, registers, requesterOf, holderOf}
+use Rattle.rules.proofs.Visits.{found-sound, naming}
+
+-- ---- what an outcome says of the memory
+
+module _ (table buffer : List ℕ) where
+  record Leaves (o : Outcome) : Type 0 where
+    refused : (isRefusal (o .answer) || isError (o .answer)) ≡ true → (o .table ≡ table) × (o .buffer ≡ buffer)
+    negative : isNegative (o .answer) ≡ true → (o .table ≡ table) × (o .buffer ≡ packedOver (twoDigits (numbersOf (o .answer) .number)) buffer)
+    others : isOf outcomeClass (o .answer) ≡ true → (isOutcome 1 (o .answer) || isOutcome 2 (o .answer)) ≡ false → o .table ≡ table
+
+  -- a refusal, an error: nothing is written
+  silent : (a : Answer) → (isOf outcomeClass a ≡ false) → Leaves (record { answer = a; table = table; buffer = buffer })
+  silent a unsaid = record { refused = λ e. (refl, refl); negative = λ e. no-path (sym unsaid ∙ and-left _ _ e); others = λ e f. refl }
+
+  -- an answer that is neither a refusal nor an error nor an outcome
+  apart : (o : Outcome) → (isRefusal (o .answer) || isError (o .answer)) ≡ false → isOf outcomeClass (o .answer) ≡ false → Leaves o
+  apart o r unsaid = record {
+    refused = λ e. no-path (sym r ∙ e);
+    negative = λ e. no-path (sym unsaid ∙ and-left _ _ e);
+    others = λ e f. no-path (sym unsaid ∙ e);
+  }
+
+  -- a negative outcome: its two characters
+  says : (n : ℕ) → Leaves (requests.saying n table buffer)
+  says n = record { refused = λ e. no-path e; negative = λ e. (refl, refl); others = λ e f. refl }
+
+  -- 01 and 02
+  changes : (n : ℕ) (new : List ℕ) → (isOutcome 1 (requests.saying n new buffer .answer) || isOutcome 2 (requests.saying n new buffer .answer)) ≡ true
+      → isNegative (requests.saying n new buffer .answer) ≡ false → Leaves (requests.saying n new buffer)
+  changes n new d p = record { refused = λ e. no-path e; negative = λ e. no-path (sym p ∙ e); others = λ e f. no-path (sym f ∙ d) }
+
+  carried-out : (o : Operation) (e : Erasing) (requester : Msisdn) (i : ℕ) → Leaves (requests.carriedOut o e requester table i buffer)
+  carried-out Register e requester i = changes 1 _ refl refl
+  carried-out Erase e requester i = changes 2 _ refl refl
+  carried-out Interrogate e requester i = record { refused = λ e. no-path e; negative = λ e. no-path e; others = λ e f. refl }
+
+  carried-out-at : (read : Option Request) (place : Found) (requester : Msisdn) → Leaves (requests.carriedOutAt read place requester table buffer)
+  carried-out-at none place requester = silent (error 36) refl
+  carried-out-at (some f) Nothing requester = says 41
+  carried-out-at (some f) (At i) requester = carried-out (f .operation) (f .erasing) requester i
+
+  request-leaves : (list : List ℕ) (requester : Msisdn) (scheme : ℕ) (string : List ℕ) → Leaves (requests.requesting table list buffer requester scheme string)
+  unfolding requests.requesting requests.requestChecks
+  request-leaves list requester scheme string =
+      decide-by Leaves (requests.requestChecks table list buffer requester scheme string) _ (
+        silent _ refl,
+        (
+          silent _ refl,
+          (
+            silent _ refl,
+            (
+              silent _ refl,
+              (
+                silent _ refl,
+                (
+                  silent _ refl,
+                  (
+                    silent _ refl,
+                    (says 42, (says 22, (says 41, (says 67, (says 61, (says 62, (says 63, (says 68, tt)))))))),
+                  ),
+                ),
+              ),
+            ),
+          ),
+        ),
+      )
+      (λ passed. carried-out-at (requestOf string) (rowOf table (requests.numberIn (requestOf string) .0)) requester)
+
+  sent-leaves : (number : FunctionalNumber) (place : Found) → Leaves (notices.sentAt number place table buffer)
+  sent-leaves number Nothing = silent _ refl
+  sent-leaves number (At i) = apart _ refl refl
+
+  sending-leaves : (number : FunctionalNumber) (delay clock : ℕ) → Leaves (notices.sendingNotice table buffer number delay clock)
+  unfolding notices.sendingNotice
+  sending-leaves number delay clock =
+      decide-by Leaves (refusing table buffer (notices.sendingChecks (tableSound table) buffer (number .0) (recordOf table (number .0)) delay clock)) _
+      (silent _ refl, (silent _ refl, (silent _ refl, (silent _ refl, (silent _ refl, (silent _ refl, tt))))))
+      (λ passed. sent-leaves number (rowOf table (number .0)))
+
+module _ (table : List ℕ) where
+  returned-apart : (zero clears : Bool) (new : List ℕ) → Leaves table [] (made (cond zero delivered (cond clears dropped sendAgain)) new [])
+  returned-apart true clears new = apart table [] _ refl refl
+  returned-apart false true new = apart table [] _ refl refl
+  returned-apart false false new = apart table [] _ refl refl
+
+  result-leaves : (number : FunctionalNumber) (kind clock : ℕ) → Leaves table [] (notices.takingResult table number kind clock)
+  unfolding notices.takingResult
+  result-leaves number kind clock =
+      decide-by (Leaves table []) (refusing table [] (notices.resultChecks (tableSound table) (number .0) (recordOf table (number .0)) kind)) _
+      (silent table [] _ refl, (silent table [] _ refl, (silent table [] _ refl, (silent table [] _ refl, tt))))
+      (λ passed. at (rowOf table (number .0)))
+    where
+      at : (place : Found) → Leaves table [] (notices.resultAt kind clock place table)
+      at Nothing = silent table [] _ refl
+      at (At i) = returned-apart (eqb kind 0) (notices.clears kind (recordAt table i .notice)) _
+
+-- ---- a holder who registers again
+
+held-already : (r : Record) (m : Msisdn) → r .holder .0 ≡ m .0 → heldBy m r ≡ r
+held-already r m e = rw (← e) refl
+
+module _ (list reply : List ℕ) (requester : Msisdn) (scheme : ℕ) (string t : List ℕ) where
+  registers-again : (f : Request) → requestOf string ≡ some f → f .operation ≡ Register → holderOf t (f .number .0) ≡ requester .0
+      → requests.requesting t list reply requester scheme string .table ≡ t
+  unfolding requests.requesting requests.requestChecks
+  registers-again f reads register holds =
+      decide-by (λ (o : Outcome). o .table ≡ t) (requests.requestChecks t list reply requester scheme string) _
+      (refl, (refl, (refl, (refl, (refl, (refl, (refl, (refl, (refl, (refl, (refl, (refl, (refl, (refl, (refl, tt)))))))))))))))
+      (λ passed. rw reads (at (not-false _ (passed .1 .1 .0)) (rowOf t (f .number .0)) refl))
+    where
+      at : tableSound t ≡ true → (place : Found) → rowOf t (f .number .0) ≡ place → requests.carriedOutAt (some f) place requester t reply .table ≡ t
+      at sound Nothing e = refl
+      at sound (At i) e = rw register
+          (ap (stored t i) (held-already (recordAt t i) requester (sym (ap (λ o. requests.holderIn o .0) (record-found t (f .number .0) i e)) ∙ holds))
+          ∙ words-stored t i (found-sound t (f .number .0) i sound e))
+
+-- ---- the demand
+
+operation-registers : (o : Operation) → requests.isRegister o ≡ true → o ≡ Register
+operation-registers Register e = refl
+operation-registers Erase e = no-path e
+operation-registers Interrogate e = no-path e
+
+again : (list : List ℕ) (delay : ℕ) (c : Call) (table : List ℕ) (k : ℕ) → nameOf list c ≡ some k → registers c ≡ true → holderOf table k ≡ requesterOf c
+    → call list delay c table .1 ≡ table
+again list delay (request requester scheme string reply) table k named registration holds =
+    let x = naming list reply requester scheme string k named in
+    registers-again list reply requester scheme string table (x .fields) (x .reads)
+    (operation-registers (x .fields .operation) (sym (ap requests.isRegistration (x .reads)) ∙ registration)) (rw (x .names) holds)
+again list delay (sending now number buffer) table k named registration holds = no-path registration
+again list delay (result now number kind) table k named registration holds = no-path registration
+
+leaves : (list : List ℕ) (delay : ℕ) (c : Call) (table : List ℕ)
+    → Leaves table (bufferOf c) (record { answer = call list delay c table .0 .answer; table = call list delay c table .1; buffer = call list delay c table .0 .buffer })
+leaves list delay (request requester scheme string reply) table = request-leaves table reply list requester scheme string
+leaves list delay (sending now number buffer) table = sending-leaves table buffer number delay (clockReading now)
+leaves list delay (result now number kind) table = result-leaves table number kind (clockReading now)
+
+pub demand1 : (list : List ℕ) (delay : ℕ) (c : Call) (table : List ℕ) → Demand1 list delay c table
+demand1 list delay c table =
+    let l = leaves list delay c table in
+    record { refused = l .refused; negative = l .negative; others = l .others; registered-again = again list delay c table }
