@@ -1,5 +1,5 @@
 # shellcheck shell=sh
-# Sourced: which processor this is, what compiles C for it and the archive, and how a test says what it leaves out.
+# Sourced: which processor this is, what compiles C for x86-64 there, and how a test says what it leaves out.
 # The kit's programs and archive are x86-64 code. FFN_MACHINE stands in for the machine's own name.
 machine=${FFN_MACHINE:-$(uname -m)}
 
