@@ -4,7 +4,8 @@
 
 PREFIX ?= /usr/local
 FFN_LIB_DIR ?= target/staticlib
-place = $(DESTDIR)$(PREFIX)
+prefix = $(abspath $(PREFIX))
+place = $(DESTDIR)$(prefix)
 need_rt = command -v rt >/dev/null || { echo "missing: rt, the Rattle kit's command"; exit 1; }
 
 run:
@@ -28,7 +29,7 @@ install: $(FFN_LIB_DIR)/libffn_c.a
 	@mkdir -p $(place)/lib/pkgconfig $(place)/include
 	@install -m 644 $< $(place)/lib
 	@install -m 644 include/ffn.h $(place)/include
-	@sed 's|@PREFIX@|$(PREFIX)|' include/ffn.pc.in >$(place)/lib/pkgconfig/ffn.pc
+	@sed 's|@PREFIX@|$(prefix)|' include/ffn.pc.in >$(place)/lib/pkgconfig/ffn.pc
 	@chmod 644 $(place)/lib/pkgconfig/ffn.pc
 
 target/staticlib/libffn_c.a: crates.txt $(shell find crates -name '*.rt' -o -name '*.antt')
