@@ -9,11 +9,11 @@ use ffn::{
 const UNTOUCHED: u8 = 0xEE;
 
 fn msisdn(digits: &str) -> Msisdn {
-    Msisdn::from_digits(digits).unwrap()
+    digits.parse().unwrap()
 }
 
 fn f() -> FunctionalNumber {
-    FunctionalNumber::from_digits("0492123401").unwrap()
+    "0492123401".parse().unwrap()
 }
 
 fn a() -> Msisdn {
@@ -68,7 +68,7 @@ fn ask(table: &mut [u64], requester: Msisdn, text: &str) -> Result<Outcome, Fail
     match answer {
         Ok(Reply { outcome, octets }) => {
             let expected = match outcome {
-                Outcome::Held(holder) => format!("03 {}", &holder.word().to_string()[1..]),
+                Outcome::Held(holder) => format!("03 {holder}"),
                 _ => format!("{:02}", outcome.number()),
             };
             assert!(holds(&reply, &expected));
@@ -87,21 +87,6 @@ const ERASE: &str = "##214*0492123401***#";
 const INTERROGATE: &str = "*#214*0492123401***#";
 const FORCE_A: &str = "##214*0492123401*88*4915100001*#";
 const FORCE_B: &str = "##214*0492123401*88*4915100002*#";
-
-#[test]
-fn numbers_keep_their_zeros() {
-    assert_eq!(f().word(), 10_492_123_401);
-    assert_eq!(
-        FunctionalNumber::from_digits("492123401").unwrap().word(),
-        1_492_123_401
-    );
-    assert_eq!(msisdn("00000").word(), 100_000);
-    assert_eq!(msisdn("999999999999999").word(), 1_999_999_999_999_999);
-    for text in ["", "1234", "1234567890123456", "12345 ", "+12345", "1234٥"] {
-        assert_eq!(Msisdn::from_digits(text), None, "{text:?}");
-    }
-    assert_eq!(Msisdn::from_word(0), None);
-}
 
 #[test]
 fn p5_and_p6_registering() {
@@ -253,7 +238,7 @@ fn refusals_for_notices_in_their_order() {
     let mut unsound = [1, 0, 0, 0, 0, 0];
     let mut buffer = [UNTOUCHED; 80];
     let mut table = notice(4, 0);
-    let absent = FunctionalNumber::from_digits("0492123402").unwrap();
+    let absent = "0492123402".parse().unwrap();
     assert_eq!(
         sending(&mut unsound, &mut buffer[..79], absent, 1, 0),
         Err(Refusal::NoRoom)

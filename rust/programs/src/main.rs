@@ -1,5 +1,6 @@
-//! `programs PROGRAM SEED INPUTS`: random inputs through the proved program and
-//! through the independent implementation; their whole outputs must be the same.
+//! `programs RUNNER PROGRAM SEED INPUTS`: random inputs through the proved
+//! program, which RUNNER runs, and through the independent implementation;
+//! their whole outputs must be the same.
 
 #![forbid(unsafe_code)]
 
@@ -7,8 +8,9 @@ use std::io::Write;
 use std::process::{Command, ExitCode, Stdio};
 
 /// What the program writes for an input.
-fn output(program: &str, input: &[u8]) -> std::io::Result<Vec<u8>> {
-    let mut child = Command::new(program)
+fn output(runner: &str, program: &str, input: &[u8]) -> std::io::Result<Vec<u8>> {
+    let mut child = Command::new(runner)
+        .arg(program)
         .stdin(Stdio::piped())
         .stdout(Stdio::piped())
         .spawn()?;
@@ -25,8 +27,8 @@ fn output(program: &str, input: &[u8]) -> std::io::Result<Vec<u8>> {
 
 fn main() -> ExitCode {
     let words: Vec<String> = std::env::args().skip(1).collect();
-    let [program, seed, inputs] = words.as_slice() else {
-        eprintln!("usage: programs PROGRAM SEED INPUTS");
+    let [runner, program, seed, inputs] = words.as_slice() else {
+        eprintln!("usage: programs RUNNER PROGRAM SEED INPUTS");
         return ExitCode::from(2);
     };
     let (Ok(seed), Ok(inputs)) = (seed.parse(), inputs.parse::<u32>()) else {
@@ -38,7 +40,7 @@ fn main() -> ExitCode {
     for i in 0..inputs {
         let input = generator.program();
         let expected = oracle::run(&input);
-        let got = output(program, &input).expect("the program runs");
+        let got = output(runner, program, &input).expect("the program runs");
         if got != expected {
             eprintln!(
                 "seed {seed}, input {i} differs:\n{}\n-- expected\n{}\n-- got\n{}",

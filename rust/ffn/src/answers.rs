@@ -1,0 +1,194 @@
+//! What a call is asked and what it answers, in document 01's numbers and
+//! words.
+
+use std::error::Error;
+use std::fmt;
+
+use crate::Msisdn;
+
+/// An enum whose variants have document 01's numbers.
+macro_rules! numbered {
+    ($(#[$about:meta])* $name:ident { $($(#[$case:meta])* $variant:ident = $number:literal,)* }) => {
+        $(#[$about])*
+        #[derive(Clone, Copy, Debug, PartialEq, Eq)]
+        pub enum $name {
+            $($(#[$case])* $variant = $number,)*
+        }
+
+        impl $name {
+            /// Document 01's number.
+            pub fn number(self) -> u32 {
+                self as u32
+            }
+
+            /// The one with this number, if there is one.
+            pub fn from_number(number: u32) -> Option<Self> {
+                match number {
+                    $($number => Some(Self::$variant),)*
+                    _ => None,
+                }
+            }
+        }
+    };
+}
+
+/// A numbered enum that says in words why a call has no other answer.
+macro_rules! reason {
+    ($(#[$about:meta])* $name:ident: $class:literal { $($variant:ident = $number:literal: $words:literal,)* }) => {
+        numbered! {
+            $(#[$about])*
+            $name { $(#[doc = $words] $variant = $number,)* }
+        }
+
+        impl fmt::Display for $name {
+            fn fmt(&self, f: &mut fmt::Formatter<'_>) -> fmt::Result {
+                let words = match self {
+                    $(Self::$variant => $words,)*
+                };
+                write!(f, "{} {}: {words}", $class, self.number())
+            }
+        }
+
+        impl Error for $name {}
+    };
+}
+
+reason! {
+    /// Why a call is refused.
+    Refusal: "refusal" {
+        NoRoom = 1: "a buffer is too short",
+        TableUnsound = 2: "the table is unsound",
+        Kind = 3: "the kind is above 5",
+        Phase = 4: "the notice is not in the phase that the call needs",
+        NotDue = 5: "the notice is not due",
+        Delay = 6: "the delay is neither 0 nor 60 to 600 seconds",
+        Number = 7: "the functional number is malformed or not in the table",
+        ListUnsound = 8: "the list is unsound",
+        Unfit = 9: "the fields break the string's rules, a value is not one that the packer takes, or unused bits are not 0",
+    }
+}
+
+reason! {
+    /// Why a request is in error, by the codes of TS 29.002.
+    RequestError: "error" {
+        DataMissing = 35: "the requester's MSISDN is not 5 to 15 digits, or the string has 0 octets",
+        UnexpectedDataValue = 36: "the string has over 160 octets or unreadable bits, or breaks its rules",
+        UnknownAlphabet = 71: "the data coding scheme is not 0x0F",
+    }
+}
+
+/// A request that has no outcome.
+#[derive(Clone, Copy, Debug, PartialEq, Eq)]
+pub enum Failure {
+    Refused(Refusal),
+    Error(RequestError),
+}
+
+impl fmt::Display for Failure {
+    fn fmt(&self, f: &mut fmt::Formatter<'_>) -> fmt::Result {
+        match self {
+            Self::Refused(refusal) => refusal.fmt(f),
+            Self::Error(error) => error.fmt(f),
+        }
+    }
+}
+
+impl Error for Failure {}
+
+numbered! {
+    /// What a request asks for.
+    Operation {
+        /// `**`
+        Register = 0,
+        /// `##`
+        Erase = 1,
+        /// `*#`
+        Interrogate = 2,
+    }
+}
+
+numbered! {
+    /// How a sending went.
+    Kind {
+        Delivered = 0,
+        UnknownSubscriber = 1,
+        IllegalSubscriber = 2,
+        IllegalEquipment = 3,
+        ServiceNotSupported = 4,
+        /// Any other error, a lost dialogue too.
+        OtherError = 5,
+    }
+}
+
+numbered! {
+    /// What became of a notice.
+    Resulted {
+        /// It is cleared, and was delivered.
+        Delivered = 0,
+        /// It is cleared, and was not delivered.
+        Dropped = 1,
+        /// It waits to be sent again.
+        Again = 2,
+    }
+}
+
+/// The outcome of a request.
+#[derive(Clone, Copy, Debug, PartialEq, Eq)]
+pub enum Outcome {
+    /// 01: the requester holds the number.
+    Registered,
+    /// 02: nobody holds the number.
+    Erased,
+    /// 03: this one holds the number.
+    Held(Msisdn),
+    /// 22: a forced erasure by one who is no supervisor.
+    NoSupervisor,
+    /// 41: the functional number is not in the table.
+    UnknownNumber,
+    /// 42: the requester is absent from the list or has no Follow Me.
+    NoFollowMe,
+    /// 61: another one holds the number.
+    HeldByAnother,
+    /// 62: nobody holds the number.
+    NoHolder,
+    /// 63: the holder is not the requester, or not the MSISDN named.
+    WrongHolder,
+    /// 67: number and requester have the same digits.
+    SameDigits,
+    /// 68: a notice of the number has not ended.
+    NoticePending,
+}
+
+impl Outcome {
+    /// Document 01's number.
+    pub fn number(self) -> u32 {
+        match self {
+            Self::Registered => 1,
+            Self::Erased => 2,
+            Self::Held(_) => 3,
+            Self::NoSupervisor => 22,
+            Self::UnknownNumber => 41,
+            Self::NoFollowMe => 42,
+            Self::HeldByAnother => 61,
+            Self::NoHolder => 62,
+            Self::WrongHolder => 63,
+            Self::SameDigits => 67,
+            Self::NoticePending => 68,
+        }
+    }
+}
+
+/// A request that has an outcome: its text is packed in the first `octets`
+/// octets of the reply.
+#[derive(Clone, Copy, Debug, PartialEq, Eq)]
+pub struct Reply {
+    pub outcome: Outcome,
+    pub octets: usize,
+}
+
+/// A notice to send: the first `octets` octets of the buffer, to `addressee`.
+#[derive(Clone, Copy, Debug, PartialEq, Eq)]
+pub struct Sent {
+    pub addressee: Msisdn,
+    pub octets: usize,
+}

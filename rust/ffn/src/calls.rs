@@ -1,0 +1,230 @@
+//! The calls, which `libffn_c.a` carries out.
+
+use crate::answers::{
+    Failure, Kind, Operation, Outcome, Refusal, Reply, RequestError, Resulted, Sent,
+};
+use crate::{c, FunctionalNumber, Msisdn};
+
+/// The least room of a reply or a notice.
+pub const BUFFER_ROOM: usize = 80;
+
+/// The least room that the request writer takes.
+pub const WRITER_ROOM: usize = 160;
+
+/// The most characters of a request string.
+pub const MOST_CHARACTERS: usize = 72;
+
+/// The data coding scheme of a request's string.
+pub const CODING_SCHEME: u8 = 0x0F;
+
+/// The fields of a request string.
+#[derive(Clone, Copy, Debug, PartialEq, Eq)]
+pub struct Request<'a> {
+    pub operation: Operation,
+    pub number: FunctionalNumber,
+    /// With [`Operation::Erase`] only: a forced erasure, and the MSISDN to
+    /// erase.
+    pub forced: Option<Msisdn>,
+    /// 0 to 30 characters from 0–9, A–Z and space; the node ignores it.
+    pub additional: &'a [u8],
+}
+
+/// A request string that was read, with its characters.
+#[derive(Clone, Copy, Debug, PartialEq, Eq)]
+pub struct ReadRequest {
+    pub operation: Operation,
+    pub number: FunctionalNumber,
+    pub forced: Option<Msisdn>,
+    text: [u8; MOST_CHARACTERS],
+    start: usize,
+    length: usize,
+}
+
+impl ReadRequest {
+    /// The additional field.
+    pub fn additional(&self) -> &[u8] {
+        &self.text[self.start..][..self.length]
+    }
+
+    /// The fields, as the writer takes them.
+    pub fn fields(&self) -> Request<'_> {
+        Request {
+            operation: self.operation,
+            number: self.number,
+            forced: self.forced,
+            additional: self.additional(),
+        }
+    }
+}
+
+/// What the library answered is always there: its contracts name every answer.
+fn answered<T>(answer: Option<T>) -> T {
+    answer.unwrap_or_else(|| unreachable!("no answer of the library"))
+}
+
+fn refusal(number: u32) -> Refusal {
+    answered(Refusal::from_number(number))
+}
+
+fn error(number: u32) -> RequestError {
+    answered(RequestError::from_number(number))
+}
+
+fn outcome(number: u32, value: u64) -> Outcome {
+    match number {
+        1 => Outcome::Registered,
+        2 => Outcome::Erased,
+        3 => Outcome::Held(answered(Msisdn::from_word(value))),
+        22 => Outcome::NoSupervisor,
+        41 => Outcome::UnknownNumber,
+        42 => Outcome::NoFollowMe,
+        61 => Outcome::HeldByAnother,
+        62 => Outcome::NoHolder,
+        63 => Outcome::WrongHolder,
+        67 => Outcome::SameDigits,
+        68 => Outcome::NoticePending,
+        _ => unreachable!("outcome {number}"),
+    }
+}
+
+fn written(answer: c::Answer) -> Result<usize, Refusal> {
+    match answer.class {
+        c::WRITTEN => Ok(answer.count),
+        c::REFUSAL => Err(refusal(answer.number)),
+        _ => unreachable!("{answer:?}"),
+    }
+}
+
+/// Packs characters (TS 23.038, USSD) and returns the count of octets.
+///
+/// # Errors
+/// [`Refusal::NoRoom`] where `out` is shorter than the octets, then
+/// [`Refusal::Unfit`] where a value is above 127 or a carriage return.
+pub fn pack(chars: &[u8], out: &mut [u8]) -> Result<usize, Refusal> {
+    written(c::pack(chars, out))
+}
+
+/// Unpacks octets and returns the count of characters.
+///
+/// # Errors
+/// [`Refusal::NoRoom`] where `out` is shorter than the characters before any
+/// drop, then [`Refusal::Unfit`] where unused bits are not 0.
+pub fn unpack(octets: &[u8], out: &mut [u8]) -> Result<usize, Refusal> {
+    written(c::unpack(octets, out))
+}
+
+/// Writes a request string, packed, and returns the count of octets.
+///
+/// # Errors
+/// [`Refusal::NoRoom`] where `out` has under 160 octets, then
+/// [`Refusal::Unfit`] where the fields break the string's rules.
+pub fn write_request(fields: &Request<'_>, out: &mut [u8]) -> Result<usize, Refusal> {
+    written(c::write_request(
+        fields.operation.number(),
+        fields.number.word(),
+        fields.forced.map_or(0, Msisdn::word),
+        fields.additional,
+        out,
+    ))
+}
+
+/// Reads a packed request string.
+///
+/// # Errors
+/// [`RequestError::UnexpectedDataValue`] where it does not read.
+pub fn read_request(octets: &[u8]) -> Result<ReadRequest, RequestError> {
+    let mut text = [0; MOST_CHARACTERS];
+    let read = c::read_request(octets, &mut text);
+    match read.class {
+        c::READ => Ok(ReadRequest {
+            operation: answered(Operation::from_number(read.operation)),
+            number: answered(FunctionalNumber::from_word(read.functional_number)),
+            forced: Msisdn::from_word(read.msisdn),
+            text,
+            start: read.start,
+            length: read.length,
+        }),
+        c::ERROR => Err(error(read.number)),
+        _ => unreachable!("{read:?}"),
+    }
+}
+
+/// Carries out a request.
+///
+/// # Errors
+/// A refusal or an error, in document 01's order of checks.
+pub fn request(
+    table: &mut [u64],
+    list: &[u64],
+    reply: &mut [u8],
+    requester: Msisdn,
+    scheme: u8,
+    string: &[u8],
+) -> Result<Reply, Failure> {
+    let answer = c::request(table, list, reply, requester.word(), scheme, string);
+    match answer.class {
+        c::OUTCOME => Ok(Reply {
+            outcome: outcome(answer.number, answer.value),
+            octets: answer.count,
+        }),
+        c::ERROR => Err(Failure::Error(error(answer.number))),
+        c::REFUSAL => Err(Failure::Refused(refusal(answer.number))),
+        _ => unreachable!("{answer:?}"),
+    }
+}
+
+/// Sends the notice of a number, if it is due.
+///
+/// # Errors
+/// [`Refusal::NoRoom`], [`Refusal::TableUnsound`], [`Refusal::Number`],
+/// [`Refusal::Delay`], [`Refusal::Phase`], [`Refusal::NotDue`], in this order.
+pub fn sending(
+    table: &mut [u64],
+    buffer: &mut [u8],
+    number: FunctionalNumber,
+    delay: u32,
+    now: u32,
+) -> Result<Sent, Refusal> {
+    let answer = c::sending(table, buffer, number.word(), delay, now);
+    match answer.class {
+        c::SENT => Ok(Sent {
+            addressee: answered(Msisdn::from_word(answer.value)),
+            octets: answer.count,
+        }),
+        c::REFUSAL => Err(refusal(answer.number)),
+        _ => unreachable!("{answer:?}"),
+    }
+}
+
+/// Takes in how a sending went.
+///
+/// # Errors
+/// [`Refusal::TableUnsound`], [`Refusal::Number`], [`Refusal::Phase`], in this
+/// order.
+pub fn result(
+    table: &mut [u64],
+    number: FunctionalNumber,
+    kind: Kind,
+    now: u32,
+) -> Result<Resulted, Refusal> {
+    let answer = c::result(table, number.word(), kind.number(), now);
+    match answer.class {
+        c::RESULT => Ok(answered(Resulted::from_number(answer.number))),
+        c::REFUSAL => Err(refusal(answer.number)),
+        _ => unreachable!("{answer:?}"),
+    }
+}
+
+/// Finds the lowest number whose notice is due, if one is due.
+///
+/// # Errors
+/// [`Refusal::TableUnsound`], then [`Refusal::Delay`].
+pub fn finding(table: &[u64], delay: u32, now: u32) -> Result<Option<FunctionalNumber>, Refusal> {
+    let answer = c::finding(table, delay, now);
+    match answer.class {
+        c::FOUND => Ok(Some(answered(FunctionalNumber::from_word(answer.value)))),
+        c::NONE_DUE => Ok(None),
+        c::REFUSAL => Err(refusal(answer.number)),
+        _ => unreachable!("{answer:?}"),
+    }
+}
