@@ -38,7 +38,7 @@ ofWriter o = returning (ofSaid (o .answer)) [] (o .buffer)
 
 -- ---- the request's writer
 
--- "the request writer is given fields that break the string's rules (checked after 1)": so does an operation that is none
+-- "the request writer is given fields that break the string's rules": so does an operation that is none
 abbrev pub writingFields : Operating → FunctionalNumber → Erasing → List ℕ → List ℕ → writing.WriteOutcome
 writingFields Unknown number erasing additional out = writing.writing (ltb (length out) writerRoom) true [] out
 writingFields (Known operation) number erasing additional out =

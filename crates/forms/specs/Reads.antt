@@ -1,4 +1,4 @@
--- What the readers of fields and lines answer. Assumes nothing.
+-- A helper: what the readers of fields and lines answer, in the words of `Lines`. Assumes nothing.
 use mathlib.Core.Path.{_≡_}
 use Prim.Native.Nat.{ℕ, _≤_}
 use mathlib.Core.Option.{Option, none, some}

@@ -1,4 +1,4 @@
--- What a request comes to once its string was read. Assumes nothing.
+-- A helper: what a request comes to once its string was read, in the words of `Visits`; proved a part of `requesting` (proofs/Asked). Assumes nothing.
 use Prim.Native.Nat.{ℕ}
 use mathlib.Core.Option.{some}
 use mathlib.Core.List.{List}

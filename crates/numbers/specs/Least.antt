@@ -1,4 +1,4 @@
--- The table of least numbers, by which a word's leading zero bits and one comparison tell whether it is a number. Assumes nothing.
+-- A helper: the table of least numbers, by which a word's leading zero bits and one comparison tell whether it is a number; proved equal to `isNumber` (proofs/Least). Assumes nothing.
 use Prim.Native.Nat.{ℕ, zero, suc, _+_, _-_, _*_, _^_}
 use mathlib.Core.Bool.{Bool, cond, _||_, _&&_}
 use mathlib.Core.List.{List, [], _∷_}

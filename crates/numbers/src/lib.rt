@@ -111,7 +111,7 @@ pub fn least_for(word: u64, least: &[u64; 65]) -> u64
     least[zeros]
 }
 
-// Whether word is not below a start, and below twice that: one comparison, by a subtraction that wraps.
+// Whether word is not below a start, and below twice that: a word below the start wraps to a difference that is above any start.
 pub fn is_from(word: u64, start: u64) -> bool
     requires { ⌜ start ≤ 10 ^ mostDigits ⌝ }
     ensures { λ r. ⌜ r ≡ isFrom start word ⌝ }

@@ -76,7 +76,7 @@ forcedOff supervisor r = record { holder = nobody; notice = Waiting 0 0; address
 
 -- ---- requests
 
--- "67: registration where number and requester have the same digits"; "61: registration, another holder".
+-- 67: "registration where number and requester have the same digits"; 61: "registration, another holder".
 -- "registration answers 01 and the requester holds the number"
 unfoldable pub registered : FunctionalNumber → Msisdn → Record → Step
 registered number requester r =
@@ -86,12 +86,12 @@ registered number requester r =
     ∷ [])
     (step.Becomes (heldBy requester r))
 
--- "62: erasure, no holder"; "63: erasure, holder is not the requester". "Erasure answers 02 and nobody holds it"
+-- 62: "erasure or interrogation, no holder"; 63: "erasure, holder is not the requester". "Erasure answers 02 and nobody holds it"
 unfoldable pub erased : Msisdn → Record → Step
 erased requester r =
     decide ((isNobody (r .holder), step.Stays 62) ∷ (not (same (r .holder) requester), step.Stays 63) ∷ []) (step.Becomes (heldBy nobody r))
 
--- "63: forced, holder is not the MSISDN named"; "68: forced, holder differs from the supervisor, phase is not 0".
+-- 63: "forced, holder is not the MSISDN named"; 68: "forced, holder differs from the supervisor, phase is not 0".
 -- "A forced erasure answers 02; if supervisor and holder differ, the phase becomes 1 with addressee and supervisor set"
 unfoldable pub forced : Msisdn → Msisdn → Record → Step
 forced supervisor named r =
@@ -102,7 +102,7 @@ forced supervisor named r =
     ∷ [])
     (step.Becomes (cond (same (r .holder) supervisor) (heldBy nobody r) (forcedOff supervisor r)))
 
--- "62: interrogation, no holder". "Interrogation answers 03", with the holder
+-- 62: "erasure or interrogation, no holder". "Interrogation answers 03", with the holder
 unfoldable pub interrogated : Record → Holder
 interrogated r = decide ((isNobody (r .holder), holder.Stays 62) ∷ []) (holder.Held (r .holder))
 

@@ -1,4 +1,4 @@
--- How a scan of many rows tests one: the start of the length that it saw last tells most holders. Assumes nothing.
+-- A helper: how a scan of many rows tests one, the start of the length that it saw last telling most holders; proved equal to `rowSound` (proofs/Starts). Assumes nothing.
 use Prim.Native.Nat.{ℕ}
 use mathlib.Core.Bool.{Bool, cond, _&&_, _||_}
 use mathlib.Core.List.{List}

@@ -81,7 +81,7 @@ module _ (list : List ℕ) (delay : ℕ) (table : List ℕ) (s : Msisdn) (scheme
   abbrev number : ℕ
   number = f .number .0
 
-  -- "68: forced, holder differs from the supervisor, phase is not 0"
+  -- 68: "forced, holder differs from the supervisor, phase is not 0"
   abbrev waits : Bool
   waits = not (same (r .holder) s) && not (isAbsent (r .notice))
 

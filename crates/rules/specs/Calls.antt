@@ -18,7 +18,7 @@ use Rattle.rules.specs.Answers.{Answer, Outcome}
 use Rattle.rules.specs.Requests as requests
 use Rattle.rules.specs.Notices as notices
 
--- a call, "each with its own clock and buffer"
+-- a call, with its own clock and buffer
 pub data Call : Type 0 where
   -- requester, data coding scheme, string, reply buffer
   request : Msisdn → ℕ → List ℕ → List ℕ → Call
@@ -70,7 +70,7 @@ isNamed (some n) k = eqb n k
 abbrev pub names : List ℕ → Call → ℕ → Bool
 names list c k = isNamed (nameOf list c) k
 
--- the row of a number alone, "on the empty table if it has none"
+-- the row of a number alone; the empty table where it has none
 abbrev pub rowAlone : List ℕ → Found → List ℕ
 rowAlone table Nothing = []
 rowAlone table (At i) = take rowWords (drop (rowWords * i) table)

@@ -50,9 +50,9 @@ module _ (list : List ℕ) (delay : ℕ) (c : Call) (table : List ℕ) where
 
   -- of any request, sending or result, on any words and octets. A finding has an answer and nothing else: it is lent nothing that it may change
   pub record Demand1 : Type 0 where
-    -- each refusal and each error "changes no table and no buffer"
+    -- each refusal and each error changes no table and no buffer
     pub refused : (isRefusal (got .answer) || isError (got .answer)) ≡ true → (after ≡ table) × (got .buffer ≡ bufferOf c)
-    -- "A negative outcome writes its two characters and changes no table"
+    -- a negative outcome writes its two characters and changes no table
     pub negative :
         isNegative (got .answer) ≡ true → (after ≡ table) × (got .buffer ≡ packedOver (twoDigits (numbersOf (got .answer) .number)) (bufferOf c))
     -- "outcomes other than a changing 01 or 02 leave the table"
@@ -60,7 +60,7 @@ module _ (list : List ℕ) (delay : ℕ) (c : Call) (table : List ℕ) where
     -- 01 is "no change if already so": a holder who registers again changes nothing
     pub registered-again : (k : ℕ) → nameOf list c ≡ some k → registers c ≡ true → holderOf table k ≡ requesterOf c → after ≡ table
 
--- ---- demand 3: "For one sound table, list and permitted delay, any list of requests, sendings and results (each with its own clock and buffer)"
+-- ---- demand 3: for one sound table, list and permitted delay, any list of requests, sendings and results, each with its own clock and buffer
 
 -- the calls that name k, and what calls that name k got, in their order
 abbrev pub callsOf : List ℕ → ℕ → List Call → List Call
@@ -74,17 +74,17 @@ module _ (list : List ℕ) (delay : ℕ) (table : List ℕ) where
   run = call list delay
 
   pub record Demand3 : Type 0 where
-    -- "Rearranged in any way that keeps the order of calls naming the same functional number, every call gets the answer and the octets it got"
+    -- rearranged in any way that keeps the order of calls naming the same number, every call still gets its answer and octets
     pub answers :
         (cs ds : List Call) (r : Rearranged (names list) cs ds) (i : ℕ) → i < length cs
         → getElem? (log run ds table) (r .to i) ≡ getElem? (log run cs table) i
-    -- "and the end table is the same", word for word
+    -- and the end table is the same, word for word
     pub end-table : (cs ds : List Call) → Rearranged (names list) cs ds → end run ds table ≡ end run cs table
-    -- "For every number, its answers and octets are those of the calls naming it, in their order, run on its row alone (on the empty table if it has none)"
+    -- each number's answers and octets are those of the calls naming it, in their order, run on its row alone, on the empty table if it has none
     pub alone-answers : (k : ℕ) (cs : List Call) → gotBy list k (log run cs table) ≡ log run (callsOf list k cs) (alone table k)
-    -- "and, if it is in the table, so is its record at the end"; if it is not, there is none on either side
+    -- and so is its record at the end; if it is not in the table, there is none on either side
     pub alone-record : (k : ℕ) (cs : List Call) → recordOf (end run cs table) k ≡ recordOf (end run (callsOf list k cs) (alone table k)) k
-    -- "Its holder at the end is the requester of its last call answered 01 or 02 if that was 01, nobody if it was 02, and the starting holder if there was no such call"
+    -- its holder at the end is the requester of its last call answered 01 or 02 if that was 01, nobody if it was 02, else the starting holder
     pub held :
         (k : ℕ) (cs : List Call)
         → holderOf (end run cs table) k ≡ holderAfter (last (only (decidesHolder list k) (log run cs table))) (holderOf table k)

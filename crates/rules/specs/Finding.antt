@@ -1,4 +1,4 @@
--- "returns the lowest due number, or none exactly if none is due", once more: by every row at once, where `finding` goes from row to row. Assumes nothing.
+-- "returns the lowest due number, or none exactly if none is due", by every row at once: a second definition, proved of `finding`, which goes from row to row (proofs/Finding). Assumes nothing.
 use mathlib.Core.Path.{_≡_}
 use mathlib.Core.Bool.{Bool, true, false}
 use mathlib.Core.List.{List}

@@ -82,7 +82,7 @@ abbrev pub wanted : Msisdn → Option Request → Msisdn
 wanted requester none = requester
 wanted requester (some f) = named requester (f .erasing)
 
--- the holder in a record, and whether its notice is absent ("phase is 0")
+-- the holder in a record, and whether its notice is absent (phase 0)
 abbrev pub holderIn : Option Record → Msisdn
 holderIn none = nobody
 holderIn (some r) = r .holder

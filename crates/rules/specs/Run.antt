@@ -40,7 +40,7 @@ module _ {C : Type 0} (names : C → ℕ → Bool) where
   abbrev pub namedAt : List C → ℕ → ℕ → Bool
   namedAt cs i k = namesOf (getElem? cs i) k
 
-  -- ds is cs "rearranged in any way that keeps the order of calls naming the same number":
+  -- ds is cs rearranged in any way that keeps the order of calls naming the same number:
   -- the call at place i of cs stands at place `to i` of ds, `from` is the way back, and calls that name one number keep their order
   pub record Rearranged (cs ds : List C) : Type 0 where
     pub to : ℕ → ℕ

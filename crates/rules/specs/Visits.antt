@@ -1,4 +1,4 @@
--- A second form of the rules, for the theorems and the code: once a request's string reads, and for every sending and result, a call visits the record of one number, and a step of that record decides. It is proved equal to the first form. Assumes nothing.
+-- A helper: a second form of the rules, for the theorems and the code, proved equal to `Requests` and `Notices` (proofs/Visits). Once a request's string reads, and for every sending and result, a call visits the record of one number, and a step of that record decides. Assumes nothing.
 use Prim.Native.Nat.{ℕ}
 use mathlib.Core.Bool.{true, not, _&&_}
 use mathlib.Core.Option.{Option, none, some}

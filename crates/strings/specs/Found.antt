@@ -1,4 +1,4 @@
--- What the reader of one field answers, beside what the field's definition says of the part that it was handed. Assumes nothing.
+-- A helper: what the reader of one field answers, beside what the field's definition in `Reader` says of the part that it was handed. Assumes nothing.
 use mathlib.Core.Path.{_≡_}
 use mathlib.Core.Option.{Option, none, some}
 use mathlib.Core.List.{List}

@@ -55,7 +55,7 @@ tell text (some f) = fields f (length text - 1 - length (f .additional))
 unfoldable pub textBeside : List ℕ → List ℕ
 textBeside os = unpacking os (replicate mostCharacters 0) .buffer
 
--- "fields or error 36"
+-- the fields, or error 36
 unfoldable pub reading : List ℕ → ReadOutcome
 reading os = record { answer = tell (unpacked os) (requestOf os); text = textBeside os }
 

@@ -1,4 +1,4 @@
--- The words of one length lie together, so a scan of ascending words knows a number by the end of the last one's length. Assumes nothing.
+-- A helper: the words of one length lie together, so a scan of ascending words knows a number by the end of the last one's length; proved equal to `tableSound` and `listSound` (proofs/Ends, and the functions of these names). Assumes nothing.
 use Prim.Native.Nat.{ℕ, _+_, _*_, _^_}
 use mathlib.Core.Bool.{Bool, cond, _&&_}
 use mathlib.Core.List.{List}

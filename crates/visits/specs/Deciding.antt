@@ -1,4 +1,4 @@
--- The fields of a request that decide. Assumes nothing.
+-- A helper: the fields of a request that decide. Assumes nothing.
 use mathlib.Core.List.{[]}
 use Rattle.strings.specs.declared.Fields.{Fields}
 use Rattle.strings.specs.Text.{Request}
