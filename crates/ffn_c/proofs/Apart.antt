@@ -1,28 +1,24 @@
 -- The struct loses nothing: from its four numbers the answer in document 01's words can be read back. Assumes nothing.
 use mathlib.Core.Path.{_≡_, refl}
-use mathlib.Core.Bool.{Bool, true, not, cond}
-use mathlib.Core.Option.{Option, none, some}
+use mathlib.Core.Bool.{Bool, true, not, cond, _||_}
 use mathlib.Core.List.{List, [], _∷_}
-use Prim.Native.Nat.{ℕ, zero, suc}
+use Prim.Native.Nat.{ℕ, zero, suc, _<_}
 use lib.Dec.{eqb}
 use borrow.Author.Tests.{not-true}
+use Rattle.answers.proofs.Tests.{or-neither}
 use Rattle.answers.proofs.Decide.{decide-each}
 use Rattle.numbers.specs.declared.FunctionalNumber.{FunctionalNumber}
 use Rattle.numbers.specs.declared.Msisdn.{Msisdn}
-use Rattle.strings.specs.declared.Operation.{Operation}
-use Rattle.strings.specs.declared.Operation.the-variants.{Register, Erase, Interrogate}
-use Rattle.strings.specs.declared.Erasing.{Erasing}
-use Rattle.strings.specs.Text.{Request}
-use Rattle.strings.specs.Outcomes.{requestOf}
 use Rattle.records.specs.Steps.{isDue, delayAllowed}
 use Rattle.rows.specs.Rows.{numberAt, recordAt}
 use Rattle.tables.specs.declared.Found.{Found}
 use Rattle.tables.specs.declared.Found.the-variants.{At, Nothing}
 use Rattle.tables.specs.Tables.{tableSound, rowsIn, rowOf, recordOf}
-use Rattle.rules.specs.Answers.{Answer, refusal, error, outcome, holderIs, sentTo, delivered, dropped, again, found, noneDue, Outcome, refusing}
+use Rattle.rules.specs.Answers.{Answer, refusal, error, outcome, holderIs, sentTo, delivered, dropped, again, found, noneDue, Outcome, isNegativeNumber, refusing}
 use Rattle.rules.specs.Answers as class
-use Rattle.rules.specs.Requests.{numberIn, carriedOut, carriedOutAt, requestChecks, requesting}
+use Rattle.rules.specs.Requests.{saying, requesting}
 use Rattle.rules.specs.Notices as notices
+use Rattle.rules.proofs.Each.{request-each}
 use Rattle.structs.specs.declared.Answer as numbers
 use Rattle.structs.specs.Numbers.{ofAnswer}
 
@@ -74,30 +70,16 @@ back noneDue t = refl
 
 -- ---- a request
 
-done-tells :
-    (operation : Operation) (erasing : Erasing) (requester : Msisdn) (table : List ℕ) (i : ℕ) (reply : List ℕ)
-    → Tells (carriedOut operation erasing requester table i reply)
-unfolding tells IsTold Tells
-done-tells Register erasing requester table i reply = refl
-done-tells Erase erasing requester table i reply = refl
-done-tells Interrogate erasing requester table i reply = refl
-
-done-at-tells : (f : Option Request) (place : Found) (requester : Msisdn) (table reply : List ℕ) → Tells (carriedOutAt f place requester table reply)
-unfolding tells IsTold Tells
-done-at-tells none place requester table reply = refl
-done-at-tells (some f) Nothing requester table reply = refl
-done-at-tells (some f) (At i) requester table reply = done-tells (f .operation) (f .erasing) requester table i reply
-
 pub request-back :
     (table list reply : List ℕ) (requester : Msisdn) (scheme : ℕ) (string : List ℕ)
     → let a = requesting table list reply requester scheme string .answer in readBack (ofAnswer a) ≡ a
-unfolding tells IsTold Tells requestChecks requesting
+unfolding tells IsTold Tells
 request-back table list reply requester scheme string =
-    back _
-    (decide-each Tells (requestChecks table list reply requester scheme string)
-    (carriedOutAt (requestOf string) (rowOf table (numberIn (requestOf string) .0)) requester table reply)
-    (refl, (refl, (refl, (refl, (refl, (refl, (refl, (refl, (refl, (refl, (refl, (refl, (refl, (refl, (refl, tt)))))))))))))))
-    (done-at-tells (requestOf string) (rowOf table (numberIn (requestOf string) .0)) requester table reply))
+    back _ (request-each table reply Tells (λ n. refl) (λ n. refl) denied (λ new. refl) (λ new. refl) (λ msisdn. refl) list requester scheme string)
+  where
+    -- a negative outcome is not 03
+    denied : (n : ℕ) → n < 100 → isNegativeNumber n ≡ true → Tells (saying n table reply)
+    denied n l e = let other = or-neither (eqb n 1 || eqb n 2) (eqb n class.interrogationNumber) (not-true _ e) in rw (other .1)
 
 -- ---- a sending
 

@@ -27,5 +27,5 @@ wholeOutput =
     "R 01\nR 02\nT 4915100001 ##214*0492123401*88*4915100002*#\nD again\nT refused 5\nT 4915100001 ##214*0492123401*88*4915100002*#\nD delivered\n"
 
 pub listing : outputOf (ascii wholeInput) ≡ ascii wholeOutput
-unfolding valueOf digits octetsFor charsIn taken each padded packed characters readable filled kept unpacked isDigit pushed storedForm isNumber digitsUpTo digitsOf leading leadingNumber isAdditional textOf noticeFields begins operationAt serviceAt numberFieldAt forcedAt erasingAt additionalAt fieldsOf requestOf elapsed delayOf delayAllowed rows.noticeBy rows.rowSound rows.noticeOf rows.recordAt rows.stored placeOf tableSound rowOf recordOf listSound flagsOf requests.requestChecks requests.requesting notices.sendingNotice notices.takingResult lines.linesOf lines.firstField lines.behindField lines.isDigits lines.numberOf lines.askedOf lines.valueBelow lines.numberForm lines.subscriberForm lines.requestForm lines.sendingForm lines.resultFields lines.resultForm lines.lettered lines.formOf program.mayFollow program.numbered program.subscribed program.asked program.requested program.dispatched program.reported program.lineEffect program.linesEffect program.programEffect program.outputOf
+unfolding valueOf digits octetsFor charsIn taken each padded packed characters readable filled kept unpacked isDigit pushed storedForm isNumber digitsUpTo digitsOf leading leadingNumber isAdditional textOf noticeFields begins operationAt serviceAt numberFieldAt forcedAt erasingAt additionalAt fieldsOf requestOf elapsed delayOf delayAllowed rows.noticeBy rows.rowSound rows.noticeOf rows.recordAt rows.stored placeOf tableSound rowOf recordOf listSound flagsOf requests.step requests.requesting notices.sendingNotice notices.takingResult lines.linesOf lines.firstField lines.behindField lines.isDigits lines.numberOf lines.askedOf lines.valueBelow lines.numberForm lines.subscriberForm lines.requestForm lines.sendingForm lines.resultFields lines.resultForm lines.lettered lines.formOf program.mayFollow program.numbered program.subscribed program.asked program.requested program.dispatched program.reported program.lineEffect program.linesEffect program.programEffect program.outputOf
 listing = refl

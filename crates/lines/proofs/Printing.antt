@@ -1,7 +1,6 @@
 -- Every answer of a request or a sending can be printed: its octets are packed characters, and its addressee is a number. Assumes nothing.
 use mathlib.Core.Path.{_≡_, refl, _∙_}
 use mathlib.Core.Bool.{Bool, true, false, cond}
-use mathlib.Core.Option.{Option, none, some}
 use mathlib.Core.List.{List, [], _∷_, _++_}
 use Prim.Native.Nat.{ℕ, zero, suc, _+_, _/_, _%_, _≤_, _<_, zero-le}
 use native.Mathlib.Omega.{arith}
@@ -21,10 +20,7 @@ use Rattle.packing.proofs.RoundTrip.{packed-reads}
 use Rattle.numbers.specs.Numbers.{isNumber, digitsUpTo, digitsOf}
 use Rattle.numbers.specs.declared.FunctionalNumber.{FunctionalNumber}
 use Rattle.numbers.specs.declared.Msisdn.{Msisdn}
-use Rattle.strings.specs.declared.Operation.{Operation}
-use Rattle.strings.specs.declared.Operation.the-variants.{Register, Erase, Interrogate}
-use Rattle.strings.specs.Text.{Request, textOf, noticeFields}
-use Rattle.strings.specs.Outcomes.{requestOf}
+use Rattle.strings.specs.Text.{textOf, noticeFields}
 use Rattle.tables.specs.declared.Found.{Found}
 use Rattle.tables.specs.declared.Found.the-variants.{At, Nothing}
 use Rattle.records.specs.declared.Notice.{Notice}
@@ -39,6 +35,7 @@ use Rattle.rules.specs.Answers.{Answer, refusal, error, outcome, holderIs, sent
 use Rattle.rules.specs.Requests as requests
 use Rattle.rules.specs.Notices as notices
 use Rattle.rules.proofs.Visits.{found-sound, found-number}
+use Rattle.rules.proofs.Each.{request-each}
 use Rattle.visits.proofs.Texts.{takes-two}
 use Rattle.lines.specs.Program.{lentBuffer, asked}
 use Rattle.replies.specs.Replies.{Text, mostReplyOctets, mostNoticeOctets, Printable}
@@ -101,55 +98,10 @@ Replies o = Printable (o .answer) (o .buffer) × (isSent (o .answer) ≡ false)
 says : (n : ℕ) (table reply : List ℕ) → n < 256 → Replies (requests.saying n table reply)
 says n table reply h = (said-stands n reply h, refl)
 
-module _ (table list reply : List ℕ) (requester : Msisdn) (scheme : ℕ) (string : List ℕ) where
-  carried-replies : (o : Operation) (f : Request) (i : ℕ) → Replies (requests.carriedOut o (f .erasing) requester table i reply)
-  carried-replies Register f i = says 1 table reply (omega arith)
-  carried-replies Erase f i = says 2 table reply (omega arith)
-  carried-replies Interrogate f i = (held-stands _ reply, refl)
-
-  done-replies : (q : Option Request) (place : Found) → Replies (requests.carriedOutAt q place requester table reply)
-  done-replies none place = (tt, refl)
-  done-replies (some f) Nothing = says 41 table reply (omega arith)
-  done-replies (some f) (At i) = carried-replies (f .operation) f i
-
-  request-replies : Replies (requests.requesting table list reply requester scheme string)
-  unfolding requests.requestChecks requests.requesting
-  request-replies =
-      decide-each Replies (requests.requestChecks table list reply requester scheme string) _ (
-        (tt, refl),
-        (
-          (tt, refl),
-          (
-            (tt, refl),
-            (
-              (tt, refl),
-              (
-                (tt, refl),
-                (
-                  (tt, refl),
-                  (
-                    (tt, refl),
-                    (
-                      says 42 table reply (omega arith),
-                      (
-                        says 22 table reply (omega arith),
-                        (
-                          says 41 table reply (omega arith),
-                          (
-                            says 67 table reply (omega arith),
-                            (says 61 table reply (omega arith), (says 62 table reply (omega arith), (says 63 table reply (omega arith), (says 68 table reply (omega arith), tt)))),
-                          ),
-                        ),
-                      ),
-                    ),
-                  ),
-                ),
-              ),
-            ),
-          ),
-        ),
-      )
-      (done-replies (requestOf string) (rowOf table (requests.numberIn (requestOf string) .0)))
+request-replies : (table list reply : List ℕ) (requester : Msisdn) (scheme : ℕ) (string : List ℕ) → Replies (requests.requesting table list reply requester scheme string)
+request-replies table list reply =
+    request-each table reply Replies (λ n. (tt, refl)) (λ n. (tt, refl)) (λ n l e. says n table reply (omega arith)) (λ new. says 1 new reply (omega arith))
+    (λ new. says 2 new reply (omega arith)) (λ msisdn. (held-stands msisdn reply, refl)) list
 
 pub asked-replies : (m : Msisdn) (string table list : List ℕ) → Replies (asked m string table list)
 unfolding asked

@@ -14,7 +14,7 @@ use Rattle.strings.specs.Text.{Request}
 use Rattle.strings.specs.Outcomes.{requestOf}
 use Rattle.tables.specs.Tables.{tableSound, listSound}
 use Rattle.rules.specs.Answers.{refusal, error, made, bufferRoom, Outcome}
-use Rattle.rules.specs.Requests.{codingScheme, mostStringOctets, refusalChecks, requestChecks, requesting}
+use Rattle.rules.specs.Requests.{codingScheme, mostStringOctets, refusalChecks, requesting}
 use Rattle.rules.specs.Notices.{sendingNotice, takingResult, finding, firstDue}
 use Rattle.rules.specs.Visits.{storing, leaving, sentStep, visitSending, missedSending}
 use Rattle.rows.specs.Rows.{recordAt}
@@ -26,43 +26,43 @@ module _ (table list reply : List ℕ) (requester : Msisdn) (scheme : ℕ) (stri
   whole = requesting table list reply requester scheme string
 
   pub refused-1 : length reply < bufferRoom → whole ≡ made (refusal 1) table reply
-  unfolding requesting requestChecks
+  unfolding requesting
   refused-1 short = rw (lt-ltb _ _ short)
 
   module _ (room : bufferRoom ≤ length reply) where
     pub refused-8 : listSound list ≡ false → whole ≡ made (refusal 8) table reply
-    unfolding requesting requestChecks
+    unfolding requesting
     refused-8 unsound = rw (le-ltb _ _ room, unsound)
 
     module _ (soundList : listSound list ≡ true) where
       pub refused-2 : tableSound table ≡ false → whole ≡ made (refusal 2) table reply
-      unfolding requesting requestChecks
+      unfolding requesting
       refused-2 unsound = rw (le-ltb _ _ room, soundList, unsound)
 
       module _ (soundTable : tableSound table ≡ true) where
         pub error-35-requester : isNumber (requester .0) ≡ false → whole ≡ made (error 35) table reply
-        unfolding requesting requestChecks
+        unfolding requesting
         error-35-requester malformed = rw (le-ltb _ _ room, soundList, soundTable, malformed)
 
         module _ (number : isNumber (requester .0) ≡ true) where
           pub error-71 : (scheme ≡ codingScheme → ⊥) → whole ≡ made (error 71) table reply
-          unfolding requesting requestChecks
+          unfolding requesting
           error-71 other = rw (le-ltb _ _ room, soundList, soundTable, number, ne-eqb _ _ other)
 
           module _ (coded : scheme ≡ codingScheme) where
             pub error-35-empty : length string ≡ 0 → whole ≡ made (error 35) table reply
-            unfolding requesting requestChecks
+            unfolding requesting
             error-35-empty empty = rw (le-ltb _ _ room, soundList, soundTable, number, eq-eqb _ _ coded, eq-eqb _ _ empty)
 
             module _ (some-octet : length string ≡ 0 → ⊥) where
               pub error-36-long : mostStringOctets < length string → whole ≡ made (error 36) table reply
-              unfolding requesting requestChecks
+              unfolding requesting
               error-36-long long =
                   rw (le-ltb _ _ room, soundList, soundTable, number, eq-eqb _ _ coded, ne-eqb _ _ some-octet, lt-ltb _ _ long)
 
               module _ (short : length string ≤ mostStringOctets) where
                 pub error-36-unread : requestOf string ≡ none → whole ≡ made (error 36) table reply
-                unfolding requesting requestChecks
+                unfolding requesting
                 error-36-unread unread =
                     rw (le-ltb _ _ room, soundList, soundTable, number, eq-eqb _ _ coded, ne-eqb _ _ some-octet, le-ltb _ _ short, unread)
 

@@ -30,12 +30,12 @@ use Rattle.tables.specs.Tables.{tableSound, listSound, recordOf, flagsOf}
 use Rattle.rules.specs.Answers.{Answer, refusal, delivered, dropped, again, Outcome, made, refusing, bufferRoom, isOutcome}
 use Rattle.rules.specs.Requests as requests
 use Rattle.rules.specs.Notices as notices
-use Rattle.rules.specs.Requests.{hasFollowMe, isSupervisor, isForced, afterErasure}
+use Rattle.rules.specs.Requests.{hasFollowMe, isSupervisor, isForced, afterErasure, rightChecks}
 use Rattle.rules.specs.Run.{end, log}
 use Rattle.rules.specs.Calls.{Call, request, sending, result, Reply, replied, call, clockReading, nameOf, names}
 use Rattle.rules.specs.Visits.{Visited, visited, visitSaying, stepped, holderAnswered, decides, decided, sentStep, resultStep, visitRequest, visit, replySaying, missedRequest, missed}
 use Rattle.rules.specs.Pending.{never}
-use Rattle.rules.proofs.Visits.{rightChecks, recordChecks, sentChecks}
+use Rattle.rules.proofs.Visits.{recordChecks, sentChecks}
 use Rattle.rules.proofs.Sound.{call-own, call-absent, call-other}
 use Rattle.rules.proofs.Local.{named-some}
 
@@ -164,7 +164,7 @@ module _ (t : List ℕ) (unsound : tableSound t ≡ false) where
   RefusedAt o = (n : ℕ) × (buffer : List ℕ) × (replied o ≡ (record { answer = refusal n; buffer = buffer }, t))
 
   request-refused : (list reply : List ℕ) (requester : Msisdn) (scheme : ℕ) (string : List ℕ) → RefusedAt (requests.requesting t list reply requester scheme string)
-  unfolding requests.requesting requests.requestChecks
+  unfolding requests.requesting
   request-refused list reply requester scheme string =
       rw unsound (decide-each RefusedAt (refusing t reply ((ltb (length reply) bufferRoom, refusal 1) ∷ (not (listSound list), refusal 8) ∷ []))
       (made (refusal 2) t reply) ((1, reply, refl), ((8, reply, refl), tt)) (2, reply, refl))

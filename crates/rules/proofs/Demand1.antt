@@ -1,18 +1,17 @@
 -- Demand 1 holds of every call, over any words and octets: each check's answer and what is done where none holds. Assumes nothing.
 use mathlib.Core.Path.{_≡_, refl, sym, ap, _∙_}
 use mathlib.Core.Bool.{Bool, true, false, cond, _||_}
-use mathlib.Core.Option.{Option, none, some}
-use mathlib.Core.List.{List, []}
+use mathlib.Core.Option.{some}
+use mathlib.Core.List.{List, [], map}
 use Prim.Native.Nat.{ℕ}
 use lib.Dec.{eqb}
 use borrow.Author.Tests.{not-false}
 use Rattle.answers.proofs.Tests.{no-path, and-left}
-use Rattle.answers.proofs.Decide.{decide-by}
+use Rattle.answers.proofs.Decide.{decide-by, decide-each}
 use Rattle.numbers.specs.declared.FunctionalNumber.{FunctionalNumber}
 use Rattle.numbers.specs.declared.Msisdn.{Msisdn}
 use Rattle.strings.specs.declared.Operation.{Operation}
 use Rattle.strings.specs.declared.Operation.the-variants.{Register, Erase, Interrogate}
-use Rattle.strings.specs.declared.Erasing.{Erasing}
 use Rattle.strings.specs.Text.{Request}
 use Rattle.strings.specs.Outcomes.{requestOf}
 use Rattle.records.specs.declared.Record.{Record}
@@ -21,14 +20,16 @@ use Rattle.rows.specs.Rows.{recordAt, stored}
 use Rattle.rows.proofs.Rows.{words-stored}
 use Rattle.tables.specs.declared.Found.{Found}
 use Rattle.tables.specs.declared.Found.the-variants.{At, Nothing}
-use Rattle.tables.specs.Tables.{tableSound, rowOf, recordOf}
+use Rattle.tables.specs.Tables.{tableSound, rowOf, recordOf, flagsOf}
 use Rattle.tables.proofs.Stored.{record-found}
-use Rattle.rules.specs.Answers.{Answer, error, delivered, dropped, again as sendAgain, Outcome, made, outcomeClass, numbersOf, isOf, isRefusal, isError, isOutcome, isNegative, twoDigits, packedOver, refusing}
+use Rattle.rules.specs.Answers.{Answer, refusal, error, delivered, dropped, again as sendAgain, Outcome, made, outcomeClass, numbersOf, isOf, isRefusal, isError, isOutcome, isNegative, twoDigits, packedOver, refusing}
 use Rattle.rules.specs.Requests as requests
+use Rattle.rules.specs.Requests.{Verdict, says, tells, Stepping}
 use Rattle.rules.specs.Notices as notices
 use Rattle.rules.specs.Calls.{Call, request, sending, result, bufferOf, clockReading, call, nameOf}
-use Rattle.rules.specs.Demand.{Demand1, registers, requesterOf, holderOf}
+use Rattle.rules.specs.Demand.{Demand1, registersAs, registers, requesterOf, holderOf}
 use Rattle.rules.proofs.Visits.{found-sound, naming}
+use Rattle.rules.proofs.Each.{request-each}
 
 -- ---- what an outcome says of the memory
 
@@ -51,50 +52,21 @@ module _ (table buffer : List ℕ) where
   }
 
   -- a negative outcome: its two characters
-  says : (n : ℕ) → Leaves (requests.saying n table buffer)
-  says n = record { refused = λ e. no-path e; negative = λ e. (refl, refl); others = λ e f. refl }
+  denies : (n : ℕ) → Leaves (requests.saying n table buffer)
+  denies n = record { refused = λ e. no-path e; negative = λ e. (refl, refl); others = λ e f. refl }
 
   -- 01 and 02
   changes : (n : ℕ) (new : List ℕ) → (isOutcome 1 (requests.saying n new buffer .answer) || isOutcome 2 (requests.saying n new buffer .answer)) ≡ true
       → isNegative (requests.saying n new buffer .answer) ≡ false → Leaves (requests.saying n new buffer)
   changes n new d p = record { refused = λ e. no-path e; negative = λ e. no-path (sym p ∙ e); others = λ e f. no-path (sym f ∙ d) }
 
-  carried-out : (o : Operation) (e : Erasing) (requester : Msisdn) (i : ℕ) → Leaves (requests.carriedOut o e requester table i buffer)
-  carried-out Register e requester i = changes 1 _ refl refl
-  carried-out Erase e requester i = changes 2 _ refl refl
-  carried-out Interrogate e requester i = record { refused = λ e. no-path e; negative = λ e. no-path e; others = λ e f. refl }
-
-  carried-out-at : (read : Option Request) (place : Found) (requester : Msisdn) → Leaves (requests.carriedOutAt read place requester table buffer)
-  carried-out-at none place requester = silent (error 36) refl
-  carried-out-at (some f) Nothing requester = says 41
-  carried-out-at (some f) (At i) requester = carried-out (f .operation) (f .erasing) requester i
+  tells-holder : (msisdn : ℕ) → Leaves (requests.answered buffer (tells msisdn) table)
+  tells-holder msisdn = record { refused = λ e. no-path e; negative = λ e. no-path e; others = λ e f. refl }
 
   request-leaves : (list : List ℕ) (requester : Msisdn) (scheme : ℕ) (string : List ℕ) → Leaves (requests.requesting table list buffer requester scheme string)
-  unfolding requests.requesting requests.requestChecks
   request-leaves list requester scheme string =
-      decide-by Leaves (requests.requestChecks table list buffer requester scheme string) _ (
-        silent _ refl,
-        (
-          silent _ refl,
-          (
-            silent _ refl,
-            (
-              silent _ refl,
-              (
-                silent _ refl,
-                (
-                  silent _ refl,
-                  (
-                    silent _ refl,
-                    (says 42, (says 22, (says 41, (says 67, (says 61, (says 62, (says 63, (says 68, tt)))))))),
-                  ),
-                ),
-              ),
-            ),
-          ),
-        ),
-      )
-      (λ passed. carried-out-at (requestOf string) (rowOf table (requests.numberIn (requestOf string) .0)) requester)
+      request-each table buffer Leaves (λ n. silent (refusal n) refl) (λ n. silent (error n) refl) (λ n l e. denies n) (λ new. changes 1 new refl refl)
+      (λ new. changes 2 new refl refl) tells-holder list requester scheme string
 
   sent-leaves : (number : FunctionalNumber) (place : Found) → Leaves (notices.sentAt number place table buffer)
   sent-leaves number Nothing = silent _ refl
@@ -130,19 +102,43 @@ held-already : (r : Record) (m : Msisdn) → r .holder .0 ≡ m .0 → heldBy m 
 held-already r m e = rw (← e) refl
 
 module _ (list reply : List ℕ) (requester : Msisdn) (scheme : ℕ) (string t : List ℕ) where
-  registers-again : (f : Request) → requestOf string ≡ some f → f .operation ≡ Register → holderOf t (f .number .0) ≡ requester .0
-      → requests.requesting t list reply requester scheme string .table ≡ t
-  unfolding requests.requesting requests.requestChecks
-  registers-again f reads register holds =
-      decide-by (λ (o : Outcome). o .table ≡ t) (requests.requestChecks t list reply requester scheme string) _
-      (refl, (refl, (refl, (refl, (refl, (refl, (refl, (refl, (refl, (refl, (refl, (refl, (refl, (refl, (refl, tt)))))))))))))))
-      (λ passed. rw reads (at (not-false _ (passed .1 .1 .0)) (rowOf t (f .number .0)) refl))
+  abbrev Stays : Outcome → Type 0
+  Stays o = o .table ≡ t
+
+  at : (f : Request) → f .operation ≡ Register → holderOf t (f .number .0) ≡ requester .0 → tableSound t ≡ true → (place : Found)
+      → rowOf t (f .number .0) ≡ place → requests.carriedOutAt f place requester t .table ≡ t
+  at f register holds sound Nothing e = refl
+  at f register holds sound (At i) e = rw register
+      (ap (stored t i) (held-already (recordAt t i) requester (sym (ap (λ o. requests.holderIn o .0) (record-found t (f .number .0) i e)) ∙ holds))
+      ∙ words-stored t i (found-sound t (f .number .0) i sound e))
+
+  -- the table that a reply leaves is its step's
+  replied-table : (s : Stepping) → s .table ≡ t → Stays (requests.replying reply s)
+  replied-table s e = go (s .verdict)
     where
-      at : tableSound t ≡ true → (place : Found) → rowOf t (f .number .0) ≡ place → requests.carriedOutAt (some f) place requester t reply .table ≡ t
-      at sound Nothing e = refl
-      at sound (At i) e = rw register
-          (ap (stored t i) (held-already (recordAt t i) requester (sym (ap (λ o. requests.holderIn o .0) (record-found t (f .number .0) i e)) ∙ holds))
-          ∙ words-stored t i (found-sound t (f .number .0) i sound e))
+      go : (v : Verdict) → Stays (requests.answered reply v (s .table))
+      go (says n) = e
+      go (tells msisdn) = e
+
+  step-stays : (f : Request) → f .operation ≡ Register → holderOf t (f .number .0) ≡ requester .0 → tableSound t ≡ true → requests.step t requester f .table ≡ t
+  unfolding requests.step
+  step-stays f register holds sound =
+      decide-each (λ (s : Stepping). s .table ≡ t) (map (requests.staying t) (requests.stepChecks requester f (recordOf t (f .number .0))))
+      (requests.carriedOutAt f (rowOf t (f .number .0)) requester t) (refl, (refl, (refl, (refl, (refl, (refl, tt))))))
+      (at f register holds sound (rowOf t (f .number .0)) refl)
+
+  asking-stays : (flags : ℕ) (f : Request) → requests.step t requester f .table ≡ t → Stays (requests.asking t flags reply requester f)
+  asking-stays flags f e =
+      decide-each Stays (map (requests.negative t reply) (requests.rightChecks flags (f .erasing))) (requests.replying reply (requests.step t requester f))
+      (refl, (refl, tt)) (replied-table (requests.step t requester f) e)
+
+  registers-again : (f : Request) → requestOf string ≡ some f → f .operation ≡ Register → holderOf t (f .number .0) ≡ requester .0
+      → Stays (requests.requesting t list reply requester scheme string)
+  unfolding requests.requesting
+  registers-again f reads register holds =
+      decide-by Stays (refusing t reply (requests.refusalChecks (tableSound t) list reply requester scheme string)) _
+      (refl, (refl, (refl, (refl, (refl, (refl, (refl, tt)))))))
+      (λ passed. rw reads (asking-stays (flagsOf list (requester .0)) f (step-stays f register holds (not-false _ (passed .1 .1 .0)))))
 
 -- ---- the demand
 
@@ -156,7 +152,7 @@ again : (list : List ℕ) (delay : ℕ) (c : Call) (table : List ℕ) (k : ℕ) 
 again list delay (request requester scheme string reply) table k named registration holds =
     let x = naming list reply requester scheme string k named in
     registers-again list reply requester scheme string table (x .fields) (x .reads)
-    (operation-registers (x .fields .operation) (sym (ap requests.isRegistration (x .reads)) ∙ registration)) (rw (x .names) holds)
+    (operation-registers (x .fields .operation) (sym (ap registersAs (x .reads)) ∙ registration)) (rw (x .names) holds)
 again list delay (sending now number buffer) table k named registration holds = no-path registration
 again list delay (result now number kind) table k named registration holds = no-path registration
 

@@ -156,6 +156,6 @@ examples =
     ∷ []
 
 pub p1-to-p15 : All examples
-unfolding valueOf digits octetsFor charsIn padded packed characters readable filled kept unpacked isDigit pushed storedForm isNumber digitsUpTo digitsOf leading leadingNumber isAdditional textOf noticeFields begins operationAt serviceAt numberFieldAt forcedAt erasingAt additionalAt fieldsOf requestOf elapsed delayOf delayAllowed rows.noticeBy rows.rowSound rows.noticeOf rows.recordAt rows.stored placeOf tableSound rowOf recordOf listSound flagsOf requests.requestChecks requests.requesting notices.sendingNotice notices.takingResult
+unfolding valueOf digits octetsFor charsIn padded packed characters readable filled kept unpacked isDigit pushed storedForm isNumber digitsUpTo digitsOf leading leadingNumber isAdditional textOf noticeFields begins operationAt serviceAt numberFieldAt forcedAt erasingAt additionalAt fieldsOf requestOf elapsed delayOf delayAllowed rows.noticeBy rows.rowSound rows.noticeOf rows.recordAt rows.stored placeOf tableSound rowOf recordOf listSound flagsOf requests.step requests.requesting notices.sendingNotice notices.takingResult
 p1-to-p15 =
     refl and refl and refl and refl and refl and refl and refl and refl and refl and refl and refl and refl and refl and refl and refl and refl and done

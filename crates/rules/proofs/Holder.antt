@@ -25,12 +25,12 @@ use Rattle.records.specs.declared.Resulted.the-variants.{Refused, Delivered, Dr
 use Rattle.records.specs.Steps as steps
 use Rattle.tables.specs.Tables.{tableSound, recordOf, flagsOf}
 use Rattle.rules.specs.Answers.{Answer, refusal, bufferRoom, isOutcome}
-use Rattle.rules.specs.Requests.{holderIn, afterErasure}
+use Rattle.rules.specs.Requests.{holderIn, afterErasure, rightChecks}
 use Rattle.rules.specs.Run.{only, last, end, log}
 use Rattle.rules.specs.Calls.{Call, request, sending, result, Reply, clockReading, call, nameOf, names}
 use Rattle.rules.specs.Visits.{Visited, visited, visitSaying, stepped, holderAnswered, decides, decided, sentStep, resultStep, visitRequest, visit, replySaying, missedRequest, missed}
 use Rattle.rules.specs.Demand.{requesterOf, decidesHolder, holderAfter, holderOf}
-use Rattle.rules.proofs.Visits.{rightChecks, recordChecks, sentChecks}
+use Rattle.rules.proofs.Visits.{recordChecks, sentChecks}
 use Rattle.rules.proofs.Sound.{call-keeps, call-own, call-absent, call-other}
 use Rattle.rules.proofs.Local.{named-some}
 

@@ -37,10 +37,11 @@ use Rattle.tables.specs.declared.Found.the-variants.{At, Nothing}
 use Rattle.tables.specs.Tables.{tableSound, rowOf, recordFound, recordOf, rowsIn, flagsOf}
 use Rattle.tables.proofs.Stored.{row-found, own-record, other-record, table-stored}
 use Rattle.rules.specs.Answers.{refusal, bufferRoom}
+use Rattle.rules.specs.Requests.{rightChecks}
 use Rattle.rules.specs.Run.{end}
 use Rattle.rules.specs.Calls.{Call, request, sending, result, Reply, clockReading, call, nameOf, isNamed, names}
 use Rattle.rules.specs.Visits.{Visited, visited, visitSaying, stepped, holderAnswered, decides, decided, sentStep, resultStep, visitRequest, visit, missed}
-use Rattle.rules.proofs.Visits.{found-sound, rightChecks, requester-number, call-visits, call-misses, call-stops}
+use Rattle.rules.proofs.Visits.{found-sound, requester-number, call-visits, call-misses, call-stops}
 
 -- ---- a visit leaves a sound record
 

@@ -19,14 +19,16 @@ use Rattle.strings.specs.declared.Operation.{Operation}
 use Rattle.strings.specs.declared.Operation.the-variants.{Register, Erase, Interrogate}
 use Rattle.strings.specs.declared.Erasing.{Erasing}
 use Rattle.strings.specs.declared.Erasing.the-variants.{Empty, Forced}
-use Rattle.strings.specs.Text.{Request, erasingSound}
+use Rattle.strings.specs.Text.{Request, requestFrom, erasingSound}
 use Rattle.strings.specs.Outcomes.{requestOf}
 use Rattle.strings.proofs.Text.{sound-rules}
 use Rattle.strings.proofs.ReadBack.{read-only}
 use Rattle.strings.proofs.Octets.{request-reads}
 use Rattle.records.specs.declared.Notice.the-variants.{Waiting}
 use Rattle.records.specs.declared.Record.{Record}
+use Rattle.records.specs.declared.Step.{Step}
 use Rattle.records.specs.declared.Step.the-variants as step
+use Rattle.records.specs.declared.Holder.{Holder}
 use Rattle.records.specs.declared.Holder.the-variants as holds
 use Rattle.records.specs.declared.Sending.the-variants as launches
 use Rattle.records.specs.declared.Resulted.the-variants.{Refused, Delivered, Dropped, Again}
@@ -40,9 +42,10 @@ use Rattle.tables.proofs.Sound.{table-row}
 use Rattle.tables.proofs.Stored.{row-found}
 use Rattle.rules.specs.Answers.{Answer, refusal, error, delivered, dropped, again, Outcome, made, bufferRoom, refusing}
 use Rattle.rules.specs.Requests as requests
+use Rattle.rules.specs.Requests.{Stepping, comesTo, says, tells}
 use Rattle.rules.specs.Notices as notices
 use Rattle.rules.specs.Calls.{Call, request, sending, result, replied, clockReading, call, numberRead, nameOf}
-use Rattle.rules.specs.Visits.{visited, storing, leaving, visitSaying, stepped, holderAnswered, decides, decided, sentStep, resultStep, visitSending, visitResult, visitRequest, visit, replySaying, missedSending, missedResult, missedRequest, missed, stopped}
+use Rattle.rules.specs.Visits.{visited, storing, leaving, visitSaying, stepped, holderAnswered, erases, decides, decided, sentStep, resultStep, visitSending, visitResult, visitRequest, visit, replySaying, missedSending, missedResult, missedRequest, missed, stopped}
 
 -- ---- the row of a number in a sound table
 
@@ -63,16 +66,6 @@ module _ (t : List ℕ) (k i : ℕ) (sound : tableSound t ≡ true) (e : rowOf t
 read-sound : (string : List ℕ) (f : Request) → requestOf string ≡ some f → erasingSound (f .operation) (f .erasing) ≡ true
 read-sound string f e = sound-rules f (read-only (unpacked string) (request-reads string e .1) .0) .erasing
 
--- the rows of the table with an outcome, and what is done: by the fields read and the place of their number
-abbrev outcomes : List ℕ → List ℕ → List ℕ → Msisdn → Option Request → Found → Outcome
-outcomes t list reply requester read place =
-    decide (map (requests.negative t reply) (requests.outcomeChecks (flagsOf list (requester .0)) requester read (recordFound t place)))
-    (requests.carriedOutAt read place requester t reply)
-
--- the checks of the requester's flags
-abbrev pub rightChecks : ℕ → Erasing → List (Bool × ℕ)
-rightChecks flags e = (not (requests.hasFollowMe flags), 42) ∷ (requests.isForced e && not (requests.isSupervisor flags), 22) ∷ []
-
 -- the checks of the record, by the operation
 abbrev pub recordChecks : Operation → Erasing → FunctionalNumber → Msisdn → Record → List (Bool × ℕ)
 recordChecks Register e number requester r =
@@ -85,48 +78,46 @@ recordChecks Erase (Forced m) number requester r =
     ∷ []
 recordChecks Interrogate e number requester r = (steps.isNobody (r .holder), 62) ∷ []
 
-module _ (t : List ℕ) (i : ℕ) (same : stored t i (recordAt t i) ≡ t) (list : List ℕ) (requester : Msisdn) (reply : List ℕ) where
+-- a step where the number is in row i: that row's record decides
+abbrev pub stepAt : List ℕ → ℕ → ℕ → Step → Stepping
+stepAt t i n (step.Stays m) = comesTo (says m) t
+stepAt t i n (step.Becomes next) = comesTo (says n) (stored t i next)
+
+abbrev tellAt : List ℕ → Holder → Stepping
+tellAt t (holds.Stays m) = comesTo (says m) t
+tellAt t (holds.Held msisdn) = comesTo (tells (msisdn .0)) t
+
+-- what the record of row i makes of a step, by the operation
+abbrev pub decidesAt : Operation → Erasing → FunctionalNumber → Msisdn → List ℕ → ℕ → Stepping
+decidesAt Register e number requester t i = stepAt t i 1 (steps.registered number requester (recordAt t i))
+decidesAt Erase e number requester t i = stepAt t i 2 (erases e requester (recordAt t i))
+decidesAt Interrogate e number requester t i = tellAt t (steps.interrogated (recordAt t i))
+
+module _ (t : List ℕ) (i : ℕ) (requester : Msisdn) where
   abbrev it : Record
   it = recordAt t i
 
-  abbrev flags : ℕ
-  flags = flagsOf list (requester .0)
-
-  abbrev outcome : ℕ → Outcome
-  outcome n = requests.saying n t reply
-
-  -- storing the record that row i has changes nothing
-  stays : (n : ℕ) → outcome n ≡ storing t i (visitSaying n reply it)
-  stays n = rw same
-
-  finds : (e : Erasing) → requests.carriedOut Interrogate e requester t i reply ≡ storing t i (holderAnswered reply it (holds.Held (it .holder)))
-  finds e = rw same
-
-  -- the checks before a step
+  -- the checks before a step of the record
   stepping :
       (n : ℕ) (checks : List (Bool × ℕ)) (next : Record)
-      → decide (map (requests.negative t reply) checks) (requests.saying n (stored t i next) reply)
-      ≡ storing t i (stepped n reply it (decide (map (answering step.Stays) checks) (step.Becomes next)))
-  stepping n checks next = decide-of outcome (λ s. storing t i (stepped n reply it s)) step.Stays stays checks (step.Becomes next)
+      → decide (map (requests.staying t) checks) (comesTo (says n) (stored t i next)) ≡ stepAt t i n (decide (map (answering step.Stays) checks) (step.Becomes next))
+  stepping n checks next = decide-of (λ m. comesTo (says m) t) (stepAt t i n) step.Stays (λ m. refl) checks (step.Becomes next)
 
   by-record :
       (o : Operation) (e : Erasing) (number : FunctionalNumber)
-      → decide (map (requests.negative t reply) (recordChecks o e number requester it)) (requests.carriedOut o e requester t i reply)
-      ≡ storing t i (decides o e number requester reply it)
+      → decide (map (requests.staying t) (recordChecks o e number requester it)) (requests.carriedOut o e requester t i) ≡ decidesAt o e number requester t i
   unfolding steps.registered steps.erased steps.forced steps.interrogated
   by-record Register e number = stepping 1 (recordChecks Register e number requester it) (steps.heldBy requester it)
   by-record Erase Empty number = stepping 2 (recordChecks Erase Empty number requester it) (steps.heldBy steps.nobody it)
   by-record Erase (Forced m) number = stepping 2 (recordChecks Erase (Forced m) number requester it) (requests.afterErasure requester (Forced m) it)
   by-record Interrogate e number =
-      ap (λ done. decide (map (requests.negative t reply) (recordChecks Interrogate e number requester it)) done) (finds e)
-      ∙ decide-of outcome (λ h. storing t i (holderAnswered reply it h)) holds.Stays stays (recordChecks Interrogate e number requester it) (holds.Held (it .holder))
+      decide-of (λ m. comesTo (says m) t) (tellAt t) holds.Stays (λ m. refl) (recordChecks Interrogate e number requester it) (holds.Held (it .holder))
 
   -- the checks that bear on an operation
   in-order :
       (o : Operation) (e : Erasing) (number : FunctionalNumber) (additional : List ℕ) → erasingSound o e ≡ true
-      → outcomes t list reply requester (some (record { operation = o; number = number; erasing = e; additional = additional })) (At i)
-      ≡ decide (map (requests.negative t reply) (rightChecks flags e))
-      (decide (map (requests.negative t reply) (recordChecks o e number requester it)) (requests.carriedOut o e requester t i reply))
+      → decide (map (requests.staying t) (requests.stepChecks requester (requestFrom o number e additional) (some it))) (requests.carriedOut o e requester t i)
+      ≡ decide (map (requests.staying t) (recordChecks o e number requester it)) (requests.carriedOut o e requester t i)
   in-order Register Empty number additional h = refl
   in-order Register (Forced m) number additional h = no-path h
   in-order Erase Empty number additional h = refl
@@ -134,13 +125,52 @@ module _ (t : List ℕ) (i : ℕ) (same : stored t i (recordAt t i) ≡ t) (list
   in-order Interrogate Empty number additional h = refl
   in-order Interrogate (Forced m) number additional h = no-path h
 
-  visits : (f : Request) → erasingSound (f .operation) (f .erasing) ≡ true
-      → outcomes t list reply requester (some f) (At i) ≡ storing t i (visitRequest flags requester reply (some f) it)
+module _ (t : List ℕ) (requester : Msisdn) (f : Request) where
+  abbrev stepped-at : Found → Stepping
+  stepped-at place = decide (map (requests.staying t) (requests.stepChecks requester f (recordFound t place))) (requests.carriedOutAt f place requester t)
+
+  step-place : (place : Found) → rowOf t (f .number .0) ≡ place → requests.step t requester f ≡ stepped-at place
+  unfolding requests.step recordOf
+  step-place place e = ap stepped-at e
+
+  pub step-visits : (i : ℕ) → rowOf t (f .number .0) ≡ At i → erasingSound (f .operation) (f .erasing) ≡ true
+      → requests.step t requester f ≡ decidesAt (f .operation) (f .erasing) (f .number) requester t i
+  step-visits i e h =
+      step-place (At i) e
+      ∙ in-order t i requester (f .operation) (f .erasing) (f .number) (f .additional) h
+      ∙ by-record t i requester (f .operation) (f .erasing) (f .number)
+
+  pub step-misses : rowOf t (f .number .0) ≡ Nothing → requests.step t requester f ≡ comesTo (says 41) t
+  step-misses e = step-place Nothing e
+
+-- a single request by its step: what is replied, and stored
+module _ (t : List ℕ) (i : ℕ) (same : stored t i (recordAt t i) ≡ t) (requester : Msisdn) (reply : List ℕ) where
+  -- storing the record that row i has changes nothing
+  stays : (n : ℕ) → requests.saying n t reply ≡ storing t i (visitSaying n reply (recordAt t i))
+  stays n = rw same
+
+  replies-step : (n : ℕ) (s : Step) → requests.replying reply (stepAt t i n s) ≡ storing t i (stepped n reply (recordAt t i) s)
+  replies-step n (step.Stays m) = stays m
+  replies-step n (step.Becomes next) = refl
+
+  replies-holder : (h : Holder) → requests.replying reply (tellAt t h) ≡ storing t i (holderAnswered reply (recordAt t i) h)
+  replies-holder (holds.Stays m) = stays m
+  replies-holder (holds.Held msisdn) = rw same
+
+  replies : (o : Operation) (e : Erasing) (number : FunctionalNumber)
+      → requests.replying reply (decidesAt o e number requester t i) ≡ storing t i (decides o e number requester reply (recordAt t i))
+  replies Register e number = replies-step 1 (steps.registered number requester (recordAt t i))
+  replies Erase e number = replies-step 2 (erases e requester (recordAt t i))
+  replies Interrogate e number = replies-holder (steps.interrogated (recordAt t i))
+
+  visits : (flags : ℕ) (f : Request) → rowOf t (f .number .0) ≡ At i → erasingSound (f .operation) (f .erasing) ≡ true
+      → requests.asking t flags reply requester f ≡ storing t i (visitRequest flags requester reply (some f) (recordAt t i))
   unfolding decided
-  visits f h =
-      in-order (f .operation) (f .erasing) (f .number) (f .additional) h
-      ∙ ap (λ done. decide (map (requests.negative t reply) (rightChecks flags (f .erasing))) done) (by-record (f .operation) (f .erasing) (f .number))
-      ∙ decide-of outcome (storing t i) (λ n. visitSaying n reply it) stays (rightChecks flags (f .erasing)) (decided f requester reply it)
+  visits flags f e h =
+      ap (λ done. decide (map (requests.negative t reply) (requests.rightChecks flags (f .erasing))) done)
+      (ap (requests.replying reply) (step-visits t requester f i e h) ∙ replies (f .operation) (f .erasing) (f .number))
+      ∙ decide-of (λ n. requests.saying n t reply) (storing t i) (λ n. visitSaying n reply (recordAt t i)) stays (requests.rightChecks flags (f .erasing))
+      (decided f requester reply (recordAt t i))
 
 module _ (list reply : List ℕ) (requester : Msisdn) (scheme : ℕ) (string : List ℕ) where
   abbrev refusals : List (Bool × Answer)
@@ -179,10 +209,10 @@ module _ (list reply : List ℕ) (requester : Msisdn) (scheme : ℕ) (string : L
   -- over a sound table
   module _ (t : List ℕ) (sound : tableSound t ≡ true) where
     abbrev behind : Outcome
-    behind = outcomes t list reply requester (requestOf string) (rowOf t (requests.numberIn (requestOf string) .0))
+    behind = requests.askingFor t (flagsOf list (requester .0)) reply requester (requestOf string)
 
     in-two : requests.requesting t list reply requester scheme string ≡ decide (refusing t reply refusals) behind
-    unfolding requests.requesting requests.requestChecks recordOf
+    unfolding requests.requesting
     in-two = rw sound
 
     any-refuses : anyHolds (refusing t reply refusals) ≡ anyHolds refusals
@@ -195,32 +225,31 @@ module _ (list reply : List ℕ) (requester : Msisdn) (scheme : ℕ) (string : L
         ∙ one-holds (refusing t reply refusals) behind (made (error 36) t reply) (any-refuses ∙ h)
         ∙ decide-of (λ a. made a t reply) (λ a. made a t reply) (λ a. a) (λ a. refl) refusals (error 36)
 
-    goes-on : anyHolds refusals ≡ false → requests.requesting t list reply requester scheme string ≡ behind
-    goes-on h = in-two ∙ none-holds (refusing t reply refusals) behind (any-refuses ∙ h)
-
     module _ (f : Request) (passed : anyHolds refusals ≡ false) (reads : requestOf string ≡ some f) where
-      at-place : (place : Found) → rowOf t (f .number .0) ≡ place
-          → requests.requesting t list reply requester scheme string ≡ outcomes t list reply requester (some f) place
-      at-place place e =
-          goes-on passed
-          ∙ ap (λ q. outcomes t list reply requester q (rowOf t (requests.numberIn q .0))) reads
-          ∙ ap (outcomes t list reply requester (some f)) e
+      -- none refuses it: its requester's flags and its steps decide
+      pub request-asks : requests.requesting t list reply requester scheme string ≡ requests.asking t (flagsOf list (requester .0)) reply requester f
+      request-asks =
+          in-two
+          ∙ none-holds (refusing t reply refusals) behind (any-refuses ∙ passed)
+          ∙ ap (requests.askingFor t (flagsOf list (requester .0)) reply requester) reads
 
       -- the number is in row i: that row's record decides
       pub request-visits : (i : ℕ) → rowOf t (f .number .0) ≡ At i
           → requests.requesting t list reply requester scheme string
           ≡ storing t i (visitRequest (flagsOf list (requester .0)) requester reply (some f) (recordAt t i))
       request-visits i e =
-          at-place (At i) e
-          ∙ visits t i (stored-back t (f .number .0) i sound e) list requester reply f (read-sound string f reads)
+          request-asks
+          ∙ visits t i (stored-back t (f .number .0) i sound e) requester reply (flagsOf list (requester .0)) f e (read-sound string f reads)
 
       -- the number is not in the table
       pub request-misses : rowOf t (f .number .0) ≡ Nothing
           → requests.requesting t list reply requester scheme string ≡ leaving t (missedRequest (flagsOf list (requester .0)) reply (some f))
       request-misses e =
-          at-place Nothing e
+          request-asks
+          ∙ ap (λ done. decide (map (requests.negative t reply) (requests.rightChecks (flagsOf list (requester .0)) (f .erasing))) (requests.replying reply done))
+          (step-misses t requester f e)
           ∙ decide-of (λ n. requests.saying n t reply) (leaving t) (λ n. replySaying n reply) (λ n. refl)
-          (rightChecks (flagsOf list (requester .0)) (f .erasing)) (replySaying 41 reply)
+          (requests.rightChecks (flagsOf list (requester .0)) (f .erasing)) (replySaying 41 reply)
 
 -- ---- sendings
 

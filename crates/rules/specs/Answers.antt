@@ -101,8 +101,11 @@ abbrev pub isOutcome : ℕ → Answer → Bool
 isOutcome n a = isOf outcomeClass a && eqb (numbersOf a .number) n
 
 -- a negative outcome: none of 01, 02 and 03
+abbrev pub isNegativeNumber : ℕ → Bool
+isNegativeNumber n = not (eqb n 1 || eqb n 2 || eqb n interrogationNumber)
+
 abbrev pub isNegative : Answer → Bool
-isNegative a = isOf outcomeClass a && not (isOutcome 1 a || isOutcome 2 a || isOutcome interrogationNumber a)
+isNegative a = isOf outcomeClass a && isNegativeNumber (numbersOf a .number)
 
 -- the addressee and the octet count: the sending succeeded
 abbrev pub isSent : Answer → Bool

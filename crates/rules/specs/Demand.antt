@@ -5,10 +5,11 @@ use mathlib.Core.Option.{Option, none, some}
 use mathlib.Core.List.{List}
 use Prim.Native.Nat.{ℕ, _<_}
 use lib.ListN.{length, getElem?}
+use Rattle.strings.specs.Text.{Request}
 use Rattle.strings.specs.Outcomes.{requestOf}
 use Rattle.tables.specs.Tables.{recordOf}
 use Rattle.rules.specs.Answers.{numbersOf, outcomeClass, isOf, isRefusal, isError, isOutcome, isNegative, twoDigits, packedOver}
-use Rattle.rules.specs.Requests.{isRegistration, holderIn}
+use Rattle.rules.specs.Requests.{isRegister, holderIn}
 use Rattle.rules.specs.Run.{only, last, end, log, Rearranged}
 use Rattle.rules.specs.Calls.{Call, request, sending, result, bufferOf, Reply, call, nameOf, names, alone}
 
@@ -34,8 +35,12 @@ abbrev pub holderOf : List ℕ → ℕ → ℕ
 holderOf table k = holderIn (recordOf table k) .0
 
 -- the call is a request whose string reads as a registration
+abbrev pub registersAs : Option Request → Bool
+registersAs none = false
+registersAs (some f) = isRegister (f .operation)
+
 abbrev pub registers : Call → Bool
-registers (request requester scheme string reply) = isRegistration (requestOf string)
+registers (request requester scheme string reply) = registersAs (requestOf string)
 registers (sending now number buffer) = false
 registers (result now number kind) = false
 

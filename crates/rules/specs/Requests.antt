@@ -2,12 +2,11 @@
 use Prim.Native.Nat.{ℕ, _/_, _%_}
 use mathlib.Core.Bool.{Bool, true, false, cond, not, _&&_, _||_}
 use mathlib.Core.Option.{Option, none, some}
-use mathlib.Core.List.{List, [], _∷_, _++_, map}
+use mathlib.Core.List.{List, [], _∷_, map}
 use lib.ListN.{length}
 use lib.Dec.{eqb, ltb}
 use Rattle.answers.specs.Checks.{decide, isNone}
 use Rattle.numbers.specs.Numbers.{isNumber}
-use Rattle.numbers.specs.declared.FunctionalNumber.{FunctionalNumber}
 use Rattle.numbers.specs.declared.Msisdn.{Msisdn}
 use Rattle.strings.specs.declared.Operation.{Operation}
 use Rattle.strings.specs.declared.Operation.the-variants.{Register, Erase, Interrogate}
@@ -32,7 +31,7 @@ hasFollowMe flags = eqb (flags % 2) 1
 abbrev pub isSupervisor : ℕ → Bool
 isSupervisor flags = eqb (flags / 2 % 2) 1
 
--- what a string that reads asks for; one that does not asks for nothing
+-- what is asked for
 abbrev pub isRegister : Operation → Bool
 isRegister Register = true
 isRegister Erase = false
@@ -52,35 +51,10 @@ abbrev pub isForced : Erasing → Bool
 isForced Empty = false
 isForced (Forced named) = true
 
-abbrev pub isRegistration : Option Request → Bool
-isRegistration none = false
-isRegistration (some f) = isRegister (f .operation)
-
-abbrev pub isInterrogation : Option Request → Bool
-isInterrogation none = false
-isInterrogation (some f) = isInterrogate (f .operation)
-
-abbrev pub isErasure : Option Request → Bool
-isErasure none = false
-isErasure (some f) = isErase (f .operation)
-
-abbrev pub isForcedErasure : Option Request → Bool
-isForcedErasure none = false
-isForcedErasure (some f) = isForced (f .erasing)
-
--- the functional number in the string
-abbrev pub numberIn : Option Request → FunctionalNumber
-numberIn none = record { 0 = 0 }
-numberIn (some f) = f .number
-
 -- the holder that an erasure has to have: the MSISDN named by a forced one, the requester of a plain one
 abbrev pub named : Msisdn → Erasing → Msisdn
 named requester Empty = requester
 named requester (Forced msisdn) = msisdn
-
-abbrev pub wanted : Msisdn → Option Request → Msisdn
-wanted requester none = requester
-wanted requester (some f) = named requester (f .erasing)
 
 -- the holder in a record, and whether its notice is absent (phase 0)
 abbrev pub holderIn : Option Record → Msisdn
@@ -117,38 +91,58 @@ refusalChecks soundTable list reply requester scheme string =
     ∷ (ltb mostStringOctets (length string) || isNone (requestOf string), error 36)
     ∷ []
 
--- the rows with an outcome: the requester's flags, the string's fields, and the record of its number
-abbrev pub outcomeChecks : ℕ → Msisdn → Option Request → Option Record → List (Bool × ℕ)
-outcomeChecks flags requester f r =
-    (not (hasFollowMe flags), 42)
-    ∷ (isForcedErasure f && not (isSupervisor flags), 22)
-    ∷ (isNone r, 41)
-    ∷ (isRegistration f && eqb (numberIn f .0) (requester .0), 67)
-    ∷ (isRegistration f && (not (isNobody (holderIn r)) && not (same (holderIn r) requester)), 61)
-    ∷ ((isErasure f || isInterrogation f) && isNobody (holderIn r), 62)
-    ∷ (isErasure f && not (same (holderIn r) (wanted requester f)), 63)
-    ∷ (isForcedErasure f && (not (same (holderIn r) requester) && not (noNotice r)), 68)
+-- the rows with an outcome, the first two by the requester's flags
+abbrev pub rightChecks : ℕ → Erasing → List (Bool × ℕ)
+rightChecks flags erasing = (not (hasFollowMe flags), 42) ∷ (isForced erasing && not (isSupervisor flags), 22) ∷ []
+
+-- the others by the record of the number: what a single step meets
+abbrev pub stepChecks : Msisdn → Request → Option Record → List (Bool × ℕ)
+stepChecks requester f r =
+    (isNone r, 41)
+    ∷ (isRegister (f .operation) && eqb (f .number .0) (requester .0), 67)
+    ∷ (isRegister (f .operation) && (not (isNobody (holderIn r)) && not (same (holderIn r) requester)), 61)
+    ∷ ((isErase (f .operation) || isInterrogate (f .operation)) && isNobody (holderIn r), 62)
+    ∷ (isErase (f .operation) && not (same (holderIn r) (named requester (f .erasing))), 63)
+    ∷ (isForced (f .erasing) && (not (same (holderIn r) requester) && not (noNotice r)), 68)
     ∷ []
 
--- ---- what is done where no check holds
+-- ---- a single step
+
+-- what a step says: an outcome by its number, or 03 with the holder's MSISDN
+pub data Verdict : Type 0 where
+  says : ℕ → Verdict
+  tells : ℕ → Verdict
+
+-- what it comes to: what it says, and the table afterwards
+pub record Stepping : Type 0 where
+  pub verdict : Verdict
+  pub table : List ℕ
+
+abbrev pub comesTo : Verdict → List ℕ → Stepping
+comesTo v t = record { verdict = v; table = t }
+
+-- a negative outcome changes no table
+abbrev pub staying : List ℕ → Bool × ℕ → Bool × Stepping
+staying table check = (check .0, comesTo (says (check .1)) table)
 
 -- the record that an erasure leaves: "A forced erasure …; if supervisor and holder differ, the phase becomes 1 with addressee and supervisor set"
 abbrev pub afterErasure : Msisdn → Erasing → Record → Record
 afterErasure requester Empty r = heldBy nobody r
 afterErasure requester (Forced msisdn) r = cond (same (r .holder) requester) (heldBy nobody r) (forcedOff requester r)
 
--- "registration answers 01 and the requester holds the number … Erasure answers 02 and nobody holds it … Interrogation answers 03"
-abbrev pub carriedOut : Operation → Erasing → Msisdn → List ℕ → ℕ → List ℕ → Outcome
-carriedOut Register erasing requester table i reply = saying 1 (stored table i (heldBy requester (recordAt table i))) reply
-carriedOut Erase erasing requester table i reply = saying 2 (stored table i (afterErasure requester erasing (recordAt table i))) reply
-carriedOut Interrogate erasing requester table i reply =
-    let msisdn = recordAt table i .holder .0 in
-    made (holderIs msisdn (octetCount (holderText msisdn))) table (packedOver (holderText msisdn) reply)
+-- where no check holds: "registration answers 01 and the requester holds the number … Erasure answers 02 and nobody holds it … Interrogation answers 03"
+abbrev pub carriedOut : Operation → Erasing → Msisdn → List ℕ → ℕ → Stepping
+carriedOut Register erasing requester table i = comesTo (says 1) (stored table i (heldBy requester (recordAt table i)))
+carriedOut Erase erasing requester table i = comesTo (says 2) (stored table i (afterErasure requester erasing (recordAt table i)))
+carriedOut Interrogate erasing requester table i = comesTo (tells (recordAt table i .holder .0)) table
 
-abbrev pub carriedOutAt : Option Request → Found → Msisdn → List ℕ → List ℕ → Outcome
-carriedOutAt none place requester table reply = made (error 36) table reply
-carriedOutAt (some f) Nothing requester table reply = saying 41 table reply
-carriedOutAt (some f) (At i) requester table reply = carriedOut (f .operation) (f .erasing) requester table i reply
+abbrev pub carriedOutAt : Request → Found → Msisdn → List ℕ → Stepping
+carriedOutAt f Nothing requester table = comesTo (says 41) table
+carriedOutAt f (At i) requester table = carriedOut (f .operation) (f .erasing) requester table i
+
+unfoldable pub step : List ℕ → Msisdn → Request → Stepping
+step table requester f =
+    decide (map (staying table) (stepChecks requester f (recordOf table (f .number .0)))) (carriedOutAt f (rowOf table (f .number .0)) requester table)
 
 -- ---- a request
 
@@ -156,14 +150,25 @@ carriedOutAt (some f) (At i) requester table reply = carriedOut (f .operation) (
 abbrev pub negative : List ℕ → List ℕ → Bool × ℕ → Bool × Outcome
 negative table reply check = (check .0, saying (check .1) table reply)
 
--- every row of the table, in its order
-unfoldable pub requestChecks : List ℕ → List ℕ → List ℕ → Msisdn → ℕ → List ℕ → List (Bool × Outcome)
-requestChecks table list reply requester scheme string =
-    refusing table reply (refusalChecks (tableSound table) list reply requester scheme string)
-    ++ map (negative table reply)
-    (outcomeChecks (flagsOf list (requester .0)) requester (requestOf string) (recordOf table (numberIn (requestOf string) .0)))
+-- the answer to a single request, with the reply
+abbrev pub answered : List ℕ → Verdict → List ℕ → Outcome
+answered reply (says n) table = saying n table reply
+answered reply (tells msisdn) table = made (holderIs msisdn (octetCount (holderText msisdn))) table (packedOver (holderText msisdn) reply)
 
+abbrev pub replying : List ℕ → Stepping → Outcome
+replying reply s = answered reply (s .verdict) (s .table)
+
+-- a request whose string reads as f, by the requester's flags
+abbrev pub asking : List ℕ → ℕ → List ℕ → Msisdn → Request → Outcome
+asking table flags reply requester f = decide (map (negative table reply) (rightChecks flags (f .erasing))) (replying reply (step table requester f))
+
+-- one whose string does not read has ended with error 36 before this
+abbrev pub askingFor : List ℕ → ℕ → List ℕ → Msisdn → Option Request → Outcome
+askingFor table flags reply requester none = made (error 36) table reply
+askingFor table flags reply requester (some f) = asking table flags reply requester f
+
+-- every row of the table, in its order
 unfoldable pub requesting : List ℕ → List ℕ → List ℕ → Msisdn → ℕ → List ℕ → Outcome
 requesting table list reply requester scheme string =
-    decide (requestChecks table list reply requester scheme string)
-    (carriedOutAt (requestOf string) (rowOf table (numberIn (requestOf string) .0)) requester table reply)
+    decide (refusing table reply (refusalChecks (tableSound table) list reply requester scheme string))
+    (askingFor table (flagsOf list (requester .0)) reply requester (requestOf string))

@@ -16,7 +16,7 @@ use Rattle.strings.specs.Outcomes.{requestOf}
 use Rattle.records.specs.Steps.{same}
 use Rattle.tables.specs.Tables.{recordOf, listSound, flagsOf}
 use Rattle.rules.specs.Answers.{sentTo, isOutcome, bufferRoom, packedOver, octetCount}
-use Rattle.rules.specs.Requests.{isErasure, noNotice, codingScheme, mostStringOctets}
+use Rattle.rules.specs.Requests.{isErase, noNotice, codingScheme, mostStringOctets}
 use Rattle.rules.specs.Calls.{Call, request, sending, result, Reply, names}
 use Rattle.rules.specs.Demand.{registers, requesterOf, holderOf}
 
@@ -33,7 +33,7 @@ erasesHold h phase0 requester flags (Forced named) = same named h && (same reque
 
 abbrev pub erasesHoldIn : Msisdn → Bool → Msisdn → ℕ → Option Request → Bool
 erasesHoldIn h phase0 requester flags none = false
-erasesHoldIn h phase0 requester flags (some f) = isErasure (some f) && erasesHold h phase0 requester flags (f .erasing)
+erasesHoldIn h phase0 requester flags (some f) = isErase (f .operation) && erasesHold h phase0 requester flags (f .erasing)
 
 -- the call is a request whose string reads as such an erasure
 abbrev pub mayEndHold : List ℕ → Msisdn → Bool → Call → Bool

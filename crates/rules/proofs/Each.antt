@@ -1,0 +1,63 @@
+-- What each answer that a request can get has, the request's answer has: one law for all that goes by the answers. Assumes nothing.
+use mathlib.Core.Path.{_≡_, refl}
+use mathlib.Core.Bool.{true}
+use mathlib.Core.Option.{Option, none, some}
+use mathlib.Core.List.{List, map}
+use Prim.Native.Nat.{ℕ, _<_}
+use native.Mathlib.Omega.{arith}
+use Rattle.answers.proofs.Decide.{decide-each}
+use Rattle.numbers.specs.declared.Msisdn.{Msisdn}
+use Rattle.strings.specs.declared.Operation.{Operation}
+use Rattle.strings.specs.declared.Operation.the-variants.{Register, Erase, Interrogate}
+use Rattle.strings.specs.declared.Erasing.{Erasing}
+use Rattle.strings.specs.Text.{Request}
+use Rattle.strings.specs.Outcomes.{requestOf}
+use Rattle.tables.specs.declared.Found.{Found}
+use Rattle.tables.specs.declared.Found.the-variants.{At, Nothing}
+use Rattle.tables.specs.Tables.{tableSound, rowOf, recordOf, flagsOf}
+use Rattle.rules.specs.Answers.{refusal, error, Outcome, made, isNegativeNumber, refusing}
+use Rattle.rules.specs.Requests.{saying, refusalChecks, rightChecks, stepChecks, Stepping, tells, staying, carriedOut, carriedOutAt, step, negative, answered, replying, askingFor, requesting}
+
+module _ (t reply : List ℕ) (P : Outcome → Type 0) (refused : (n : ℕ) → P (made (refusal n) t reply)) (erred : (n : ℕ) → P (made (error n) t reply))
+    (denied : (n : ℕ) → n < 100 → isNegativeNumber n ≡ true → P (saying n t reply))
+    (registered : (new : List ℕ) → P (saying 1 new reply)) (erased : (new : List ℕ) → P (saying 2 new reply))
+    (told : (msisdn : ℕ) → P (answered reply (tells msisdn) t)) where
+  abbrev Replied : Stepping → Type 0
+  Replied s = P (replying reply s)
+
+  done-each : (o : Operation) (e : Erasing) (requester : Msisdn) (i : ℕ) → Replied (carriedOut o e requester t i)
+  done-each Register e requester i = registered _
+  done-each Erase e requester i = erased _
+  done-each Interrogate e requester i = told _
+
+  done-at-each : (f : Request) (place : Found) (requester : Msisdn) → Replied (carriedOutAt f place requester t)
+  done-at-each f Nothing requester = denied 41 (omega arith) refl
+  done-at-each f (At i) requester = done-each (f .operation) (f .erasing) requester i
+
+  step-each : (requester : Msisdn) (f : Request) → Replied (step t requester f)
+  unfolding step
+  step-each requester f =
+      decide-each Replied (map (staying t) (stepChecks requester f (recordOf t (f .number .0)))) _ (
+        denied 41 (omega arith) refl,
+        (
+          denied 67 (omega arith) refl,
+          (
+            denied 61 (omega arith) refl,
+            (denied 62 (omega arith) refl, (denied 63 (omega arith) refl, (denied 68 (omega arith) refl, tt))),
+          ),
+        ),
+      )
+      (done-at-each f (rowOf t (f .number .0)) requester)
+
+  asking-each : (flags : ℕ) (requester : Msisdn) (read : Option Request) → P (askingFor t flags reply requester read)
+  asking-each flags requester none = erred 36
+  asking-each flags requester (some f) =
+      decide-each P (map (negative t reply) (rightChecks flags (f .erasing))) _ (denied 42 (omega arith) refl, (denied 22 (omega arith) refl, tt))
+      (step-each requester f)
+
+  pub request-each : (list : List ℕ) (requester : Msisdn) (scheme : ℕ) (string : List ℕ) → P (requesting t list reply requester scheme string)
+  unfolding requesting
+  request-each list requester scheme string =
+      decide-each P (refusing t reply (refusalChecks (tableSound t) list reply requester scheme string)) _
+      (refused 1, (refused 8, (refused 2, (erred 35, (erred 71, (erred 35, (erred 36, tt)))))))
+      (asking-each (flagsOf list (requester .0)) requester (requestOf string))
