@@ -12,9 +12,9 @@ ghost use lib.ListN.{length};
 ghost use Rattle.answers.specs.Ascii.{ascii};
 ghost use Rattle.answers.specs.Writing.{Stands};
 ghost use Rattle.packing.specs.Packing.{charsIn, readable, unpacked};
-ghost use Rattle.numbers.specs.Numbers.{isNumber, digitsOf};
+ghost use Rattle.numbers.specs.Numbers.{isNumber, digitsOf, numeral};
 ghost use Rattle.visits.specs.Said.{saidRequest, saidSending, saidResult};
-ghost use Rattle.replies.specs.Replies.{numeral, behindLetter, Printable, answerRoom};
+ghost use Rattle.replies.specs.Replies.{behindLetter, Printable, answerRoom};
 
 // Writes the number of an error or a refusal.
 fn put_numeral(n: u8, out: &mut [u8]) -> usize

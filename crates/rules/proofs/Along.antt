@@ -32,11 +32,13 @@ use Rattle.rules.specs.Requests as requests
 use Rattle.rules.specs.Notices as notices
 use Rattle.rules.specs.Requests.{hasFollowMe, isSupervisor, isForced, afterErasure, rightChecks}
 use Rattle.rules.specs.Run.{end, log}
-use Rattle.rules.specs.Calls.{Call, request, sending, result, Reply, replied, call, clockReading, nameOf, names}
+use Rattle.rules.specs.Calls.{Call, request, sending, result, Reply, replied, clockReading, nameOf, namesOne}
 use Rattle.rules.specs.Visits.{Visited, visited, visitSaying, stepped, holderAnswered, decides, decided, sentStep, resultStep, visitRequest, visit, replySaying, missedRequest, missed}
 use Rattle.rules.specs.Pending.{never}
+use Rattle.rules.proofs.Once.{single}
+use Rattle.rules.proofs.Unsound.{unsound-single}
 use Rattle.rules.proofs.Visits.{recordChecks, sentChecks}
-use Rattle.rules.proofs.Sound.{call-own, call-absent, call-other}
+use Rattle.rules.proofs.Sound.{single-own, single-absent, single-other}
 use Rattle.rules.proofs.Local.{named-some}
 
 -- ---- what a visit may do to the record r
@@ -145,7 +147,7 @@ does list delay (result now number kind) r =
 
 -- the call c got the reply a and did not come to a record of k
 pub data Passed (list : List ℕ) (k : ℕ) (c : Call) : Reply → Type 0 where
-  unnamed : {a : Reply} → names list c k ≡ false → Passed list k c a
+  unnamed : {a : Reply} → namesOne list c k ≡ false → Passed list k c a
   -- k is not in the table
   missing : Passed list k c (missed list c)
   -- the table is unsound
@@ -155,58 +157,34 @@ pub data Passed (list : List ℕ) (k : ℕ) (c : Call) : Reply → Type 0 where
 pub data Along (list : List ℕ) (k : ℕ) : Option Record → List (Call × Reply) → Option Record → Type 0 where
   ends : {o : Option Record} → Along list k o [] o
   passes : {o p : Option Record} {c : Call} {a : Reply} {l : List (Call × Reply)} → Passed list k c a → Along list k o l p → Along list k o ((c, a) ∷ l) p
-  visits : {p : Option Record} {c : Call} {r : Record} {v : Visited} {l : List (Call × Reply)} → names list c k ≡ true → Does list r c v
+  visits : {p : Option Record} {c : Call} {r : Record} {v : Visited} {l : List (Call × Reply)} → namesOne list c k ≡ true → Does list r c v
       → Along list k (some (v .next)) l p → Along list k (some r) ((c, v .reply) ∷ l) p
-
--- over an unsound table every call is refused
-module _ (t : List ℕ) (unsound : tableSound t ≡ false) where
-  abbrev RefusedAt : Outcome → Type 0
-  RefusedAt o = (n : ℕ) × (buffer : List ℕ) × (replied o ≡ (record { answer = refusal n; buffer = buffer }, t))
-
-  request-refused : (list reply : List ℕ) (requester : Msisdn) (scheme : ℕ) (string : List ℕ) → RefusedAt (requests.requesting t list reply requester scheme string)
-  unfolding requests.requesting
-  request-refused list reply requester scheme string =
-      rw unsound (decide-each RefusedAt (refusing t reply ((ltb (length reply) bufferRoom, refusal 1) ∷ (not (listSound list), refusal 8) ∷ []))
-      (made (refusal 2) t reply) ((1, reply, refl), ((8, reply, refl), tt)) (2, reply, refl))
-
-  sending-refused : (buffer : List ℕ) (number : FunctionalNumber) (delay clock : ℕ) → RefusedAt (notices.sendingNotice t buffer number delay clock)
-  unfolding notices.sendingNotice
-  sending-refused buffer number delay clock =
-      rw unsound (decide-each RefusedAt (refusing t buffer ((ltb (length buffer) bufferRoom, refusal 1) ∷ []))
-      (made (refusal 2) t buffer) ((1, buffer, refl), tt) (2, buffer, refl))
-
-  unsound-refused : (list : List ℕ) (delay : ℕ) (c : Call)
-      → (n : ℕ) × (buffer : List ℕ) × (call list delay c t ≡ (record { answer = refusal n; buffer = buffer }, t))
-  unfolding notices.takingResult
-  unsound-refused list delay (request requester scheme string reply) = request-refused list reply requester scheme string
-  unsound-refused list delay (sending now number buffer) = sending-refused buffer number delay (clockReading now)
-  unsound-refused list delay (result now number kind) = rw unsound (2, [], refl)
 
 module _ (list : List ℕ) (delay k : ℕ) where
   -- one call more at the front
   ahead : (c : Call) (t : List ℕ) {l : List (Call × Reply)} {p : Option Record}
-      → Along list k (recordOf ((call list delay c t) .1) k) l p → Along list k (recordOf t k) ((c, (call list delay c t) .0) ∷ l) p
+      → Along list k (recordOf ((single list delay c t) .1) k) l p → Along list k (recordOf t k) ((c, (single list delay c t) .0) ∷ l) p
   ahead c t {l} {p} rest = by-table (tableSound t) refl
     where
-      by-record : tableSound t ≡ true → (b : Bool) (o : Option Record) → names list c k ≡ b → recordOf t k ≡ o → Along list k o ((c, (call list delay c t) .0) ∷ l) p
-      by-record sound false o n e = passes (unnamed n) (rw (call-other list delay c t sound k n ∙ e) at rest)
+      by-record : tableSound t ≡ true → (b : Bool) (o : Option Record) → namesOne list c k ≡ b → recordOf t k ≡ o → Along list k o ((c, (single list delay c t) .0) ∷ l) p
+      by-record sound false o n e = passes (unnamed n) (rw (single-other list delay c t sound k n ∙ e) at rest)
       by-record sound true none n e =
-          let m = call-absent list delay c t sound k (named-some (nameOf list c) k n) e in
+          let m = single-absent list delay c t sound k (named-some (nameOf list c) k n) e in
           rw m (passes missing (rw (m, e) at rest))
       by-record sound true (some r) n e =
-          let m = call-own list delay c t sound k r (named-some (nameOf list c) k n) e in
+          let m = single-own list delay c t sound k r (named-some (nameOf list c) k n) e in
           rw (m .0) (visits n (does list delay c r) (rw (m .1) at rest))
 
-      by-table : (b : Bool) → tableSound t ≡ b → Along list k (recordOf t k) ((c, (call list delay c t) .0) ∷ l) p
-      by-table true e = by-record e (names list c k) (recordOf t k) refl refl
+      by-table : (b : Bool) → tableSound t ≡ b → Along list k (recordOf t k) ((c, (single list delay c t) .0) ∷ l) p
+      by-table true e = by-record e (namesOne list c k) (recordOf t k) refl refl
       by-table false e =
-          let (n, buffer, m) = unsound-refused t e list delay c in
+          let (n, buffer, m) = unsound-single t e list delay c in
           rw m (passes refused (rw m at rest))
 
   -- any list of calls over any table is such a walk
-  pub along : (cs : List Call) (t : List ℕ) → Along list k (recordOf t k) (log (call list delay) cs t) (recordOf (end (call list delay) cs t) k)
+  pub along : (cs : List Call) (t : List ℕ) → Along list k (recordOf t k) (log (single list delay) cs t) (recordOf (end (single list delay) cs t) k)
   along [] t = ends
-  along (c ∷ cs) t = ahead c t (along cs ((call list delay c t) .1))
+  along (c ∷ cs) t = ahead c t (along cs ((single list delay c t) .1))
 
 -- ---- a call that names k and is answered 02 has visited its record
 
@@ -226,7 +204,7 @@ missed-negative list (sending now number buffer) =
     (refl, tt) refl
 missed-negative list (result now number kind) = refl
 
-pub answered-02 : {list : List ℕ} {k : ℕ} {o p : Option Record} {c : Call} {a : Reply} → Along list k o ((c, a) ∷ []) p → names list c k ≡ true
+pub answered-02 : {list : List ℕ} {k : ℕ} {o p : Option Record} {c : Call} {a : Reply} → Along list k o ((c, a) ∷ []) p → namesOne list c k ≡ true
     → isOutcome 2 (a .answer) ≡ true → (r : Record) × (v : Visited) × Does list r c v × (p ≡ some (v .next)) × (isOutcome 2 (v .reply .answer) ≡ true)
 answered-02 (passes (unnamed n) ends) m u = no-path (sym n ∙ m)
 answered-02 {list} {c = c} (passes missing ends) m u = no-path (sym (missed-negative list c) ∙ u)

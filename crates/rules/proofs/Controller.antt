@@ -25,12 +25,13 @@ use Rattle.tables.specs.Tables.{tableSound, rowOf, recordOf, flagsOf}
 use Rattle.tables.proofs.Stored.{record-found, record-missing}
 use Rattle.rules.specs.Answers.{bufferRoom, isOutcome}
 use Rattle.rules.specs.Requests.{hasFollowMe, holderIn, codingScheme, mostStringOctets, afterErasure}
-use Rattle.rules.specs.Calls.{Call, request, call, nameOf, names}
+use Rattle.rules.specs.Calls.{Call, request, nameOf, namesOne}
 use Rattle.rules.specs.Visits.{Visited, visitSaying, replySaying, decided, visit}
 use Rattle.rules.specs.Demand.{holderOf}
 use Rattle.rules.specs.Users.{bothFlags, WellFormed}
-use Rattle.rules.proofs.Visits.{found-sound, call-visits}
-use Rattle.rules.proofs.Sound.{call-keeps, call-own}
+use Rattle.rules.proofs.Once.{single}
+use Rattle.rules.proofs.Visits.{found-sound, single-visits}
+use Rattle.rules.proofs.Sound.{single-keeps, single-own}
 use Rattle.rules.proofs.Along.{negative, registration, erasure, own, forced, Does, asks, unsent, sends, untaken, clears, goes-on, delivers, drops, along, answered-02, one-same, not-same}
 
 -- a well-formed request names the number in its string
@@ -52,21 +53,21 @@ form-names list requester scheme string reply f form =
 
 module _ (list : List ℕ) (delay : ℕ) (c : Call) (t : List ℕ) (k : ℕ) (r : Record) (v : Visited) (sound : tableSound t ≡ true)
     (named : nameOf list c ≡ some k) (known : recordOf t k ≡ some r) (does : visit list delay c r ≡ v) where
-  visit-gets : ((call list delay c t) .0 ≡ v .reply) × (holderOf ((call list delay c t) .1) k ≡ v .next .holder .0)
+  visit-gets : ((single list delay c t) .0 ≡ v .reply) × (holderOf ((single list delay c t) .1) k ≡ v .next .holder .0)
   visit-gets =
-      let d = call-own list delay c t sound k r named known in
+      let d = single-own list delay c t sound k r named known in
       (d .0 ∙ ap (λ (x : Visited). x .reply) does, ap (λ o. holderIn o .0) (d .1) ∙ ap (λ (x : Visited). x .next .holder .0) does)
 
   -- it leaves the record, and so the table
-  visit-leaves : v .next ≡ r → call list delay c t ≡ (v .reply, t)
+  visit-leaves : v .next ≡ r → single list delay c t ≡ (v .reply, t)
   visit-leaves stays = go (rowOf t k) refl
     where
-      go : (place : Found) → rowOf t k ≡ place → call list delay c t ≡ (v .reply, t)
+      go : (place : Found) → rowOf t k ≡ place → single list delay c t ≡ (v .reply, t)
       go Nothing e = not-some (sym (record-missing t k e) ∙ known)
       go (At i) e =
           let it : recordAt t i ≡ r = cc (record-found t k i e) in
           let same-table = ap (stored t i) (stays ∙ sym it) ∙ words-stored t i (found-sound t k i sound e) in
-          call-visits list delay t sound c k i named e ∙ rw (it, does, same-table) refl
+          single-visits list delay t sound c k i named e ∙ rw (it, does, same-table) refl
 
 -- ---- the controller
 
@@ -99,14 +100,14 @@ module _ (list : List ℕ) (delay : ℕ) (table : List ℕ) (s : Msisdn) (scheme
 
   -- at phase 0, or where s is the holder: 02 in that call, and nobody holds the number
   pub frees-at-once : (isAbsent (r .notice) ≡ true) ⊎ (s ≡ r .holder)
-      → ((call list delay asked table) .0 ≡ replySaying 2 reply) × (holderOf ((call list delay asked table) .1) number ≡ 0)
+      → ((single list delay asked table) .0 ≡ replySaying 2 reply) × (holderOf ((single list delay asked table) .1) number ≡ 0)
   frees-at-once may =
       let goes : waits ≡ false = ⊎-elim (λ a. and-no (not (same (r .holder) s)) _ (ap not a)) (λ e. rw (one-same (r .holder) s (sym e)) refl) may in
       let d = visit-gets list delay asked table number r _ sound (form-names list s scheme string reply f form) known (visit-frees goes) in
       (d .0, d .1 ∙ erased-nobody (same (r .holder) s))
 
   -- otherwise 68, and the table is as it was
-  pub waits-for-the-notice : isAbsent (r .notice) ≡ false → (s ≡ r .holder → ⊥) → call list delay asked table ≡ (replySaying 68 reply, table)
+  pub waits-for-the-notice : isAbsent (r .notice) ≡ false → (s ≡ r .holder → ⊥) → single list delay asked table ≡ (replySaying 68 reply, table)
   waits-for-the-notice pending other =
       let stops : waits ≡ true = rw (not-same (r .holder) s (λ e. other (sym e)), pending) refl in
       visit-leaves list delay asked table number r _ sound (form-names list s scheme string reply f form) known (visit-waits stops) refl
@@ -137,11 +138,11 @@ module _ (list : List ℕ) (delay : ℕ) (m : Msisdn) (scheme : ℕ) (string rep
   visit-registers r free = rw (form .reads, flag, registers, plain, ne-eqb (f .number .0) (m .0) other, free) refl
 
   -- right after any call that names the number and is answered 02: 01, and m holds it
-  pub next-registers : (c : Call) (table : List ℕ) → tableSound table ≡ true → names list c (f .number .0) ≡ true
-      → isOutcome 2 ((call list delay c table) .0 .answer) ≡ true
-      → let after = (call list delay c table) .1 in
-      ((call list delay asks-for after) .0 ≡ replySaying 1 reply) × (holderOf ((call list delay asks-for after) .1) (f .number .0) ≡ m .0)
+  pub next-registers : (c : Call) (table : List ℕ) → tableSound table ≡ true → namesOne list c (f .number .0) ≡ true
+      → isOutcome 2 ((single list delay c table) .0 .answer) ≡ true
+      → let after = (single list delay c table) .1 in
+      ((single list delay asks-for after) .0 ≡ replySaying 1 reply) × (holderOf ((single list delay asks-for after) .1) (f .number .0) ≡ m .0)
   next-registers c table sound named answered =
       let (r, v, d, known, u) = answered-02 (along list delay (f .number .0) (c ∷ []) table) named answered in
-      visit-gets list delay asks-for ((call list delay c table) .1) (f .number .0) (v .next) _ (call-keeps list delay c table sound .sound)
+      visit-gets list delay asks-for ((single list delay c table) .1) (f .number .0) (v .next) _ (single-keeps list delay c table sound .sound)
       (form-names list m scheme string reply f form) known (visit-registers (v .next) (erasure-frees d u))

@@ -1,8 +1,8 @@
 -- Demand 3 holds of every sound table. It asks nothing of the subscriber list and the delay: it holds also where the list is unsound or the delay is not permitted. Assumes nothing.
 use mathlib.Core.Path.{_≡_, refl, sym, ap, _∙_}
-use mathlib.Core.Bool.{true}
+use mathlib.Core.Bool.{Bool, true, false, cond}
 use mathlib.Core.Option.{Option}
-use mathlib.Core.List.{List}
+use mathlib.Core.List.{List, [], _∷_}
 use Prim.Native.Nat.{ℕ, _<_}
 use Rattle.records.specs.declared.Record.{Record}
 use Rattle.rows.specs.Rows.{numberAt, recordAt}
@@ -12,13 +12,16 @@ use Rattle.tables.specs.Tables.{tableSound, rowOf, recordOf, rowsIn}
 use Rattle.tables.proofs.Sound.{empty-table}
 use Rattle.tables.proofs.Stored.{row-found, row-at, record-found, record-missing, empty-record, same-table}
 use Rattle.tables.proofs.Alone.{alone-sound, alone-own}
-use Rattle.rules.specs.Run.{end, log, Rearranged}
-use Rattle.rules.specs.Calls.{Call, Reply, call, names, rowAlone, alone}
-use Rattle.rules.specs.Demand.{callsOf, gotBy, Demand3}
+use Rattle.rules.specs.Run.{only, last, end, log, Rearranged}
+use Rattle.rules.specs.Calls.{Call, Reply, call, namesOne, names, steps, rowAlone, alone}
+use Rattle.rules.specs.Demand.{decidesHolder, holderAfter, holderOf, callsOf, gotBy, Demand3}
 use Rattle.rules.proofs.Rearrange.{rearranged-answers, rearranged-records}
 use Rattle.rules.proofs.Alone.{run-alone}
 use Rattle.rules.proofs.Sound.{Kept, end-keeps}
-use Rattle.rules.proofs.Local.{one-name, calls-local}
+use Rattle.rules.proofs.Once.{single}
+use Rattle.rules.proofs.Local.{one-name, singles-local}
+use Rattle.rules.proofs.Steps.{AllSingle, singles-end, singles-log}
+use Rattle.rules.proofs.Calls.{calls-local, all-steps-single, steps-end}
 use Rattle.rules.proofs.Holder.{held}
 
 -- ---- two tables kept from one, with the same records, are the same words
@@ -55,26 +58,72 @@ module _ (list : List ℕ) (delay : ℕ) (table : List ℕ) (sound : tableSound 
   abbrev look : ℕ → List ℕ → Option Record
   look k t = recordOf t k
 
-  abbrev go : Call → List ℕ → Reply × List ℕ
-  go = call list delay
+  abbrev run : Call → List ℕ → Reply × List ℕ
+  run = call list delay
 
-  same-end : (cs ds : List Call) → Rearranged (names list) cs ds → end go ds table ≡ end go cs table
+  abbrev singly : Call → List ℕ → Reply × List ℕ
+  singly = single list delay
+
+  -- the end of the calls is that of their single steps
+  singly-end : (cs : List Call) → end run cs table ≡ end singly (steps list cs) table
+  singly-end cs = steps-end list delay cs table ∙ singles-end list delay (steps list cs) table (all-steps-single list delay cs)
+
+  kept-end : (cs : List Call) → Kept table (end run cs table)
+  kept-end cs = rw (singly-end cs) (end-keeps list delay (steps list cs) table sound)
+
+  same-end : (cs ds : List Call) → Rearranged (names list) cs ds → end run ds table ≡ end run cs table
   same-end cs ds r =
-      same-words table (end go ds table) (end go cs table) (end-keeps list delay ds table sound) (end-keeps list delay cs table sound)
-      (rearranged-records go (names list) look Sound (calls-local list delay) cs ds table sound r)
+      same-words table (end run ds table) (end run cs table) (kept-end ds) (kept-end cs)
+      (rearranged-records run (names list) look Sound (calls-local list delay) cs ds table sound r)
 
-  as-alone : (k : ℕ) (cs : List Call)
-      → (gotBy list k (log go cs table) ≡ log go (callsOf list k cs) (alone table k))
-      × (recordOf (end go cs table) k ≡ recordOf (end go (callsOf list k cs) (alone table k)) k)
-  as-alone k cs =
-      let a = row-alone table k sound (rowOf table k) refl in
-      run-alone go (names list) look Sound (calls-local list delay) (one-name list) k cs table (alone table k) sound (a .0) (a .1)
+  -- ---- the single steps of a list of calls
+
+  module _ (k : ℕ) (cs : List Call) where
+    abbrev ds : List Call
+    ds = steps list cs
+
+    all : AllSingle ds
+    all = all-steps-single list delay cs
+
+    some-single : (es : List Call) → AllSingle es → AllSingle (callsOf list k es)
+    some-single [] a = tt
+    some-single (e ∷ es) (s, a) = go (namesOne list e k) (some-single es a)
+      where
+        go : (b : Bool) → AllSingle (callsOf list k es) → AllSingle (cond b (e ∷ callsOf list k es) (callsOf list k es))
+        go true rest = (s, rest)
+        go false rest = rest
+
+    as-alone :
+        (gotBy list k (log singly ds table) ≡ log singly (callsOf list k ds) (alone table k))
+        × (recordOf (end singly ds table) k ≡ recordOf (end singly (callsOf list k ds) (alone table k)) k)
+    as-alone =
+        let a = row-alone table k sound (rowOf table k) refl in
+        run-alone singly (namesOne list) look Sound (singles-local list delay) (one-name list) k ds table (alone table k) sound (a .0) (a .1)
+
+    alone-answers : gotBy list k (log run ds table) ≡ log run (callsOf list k ds) (alone table k)
+    alone-answers =
+        ap (gotBy list k) (singles-log list delay ds table all)
+        ∙ as-alone .0
+        ∙ sym (singles-log list delay (callsOf list k ds) (alone table k) (some-single ds all))
+
+    alone-record : recordOf (end run cs table) k ≡ recordOf (end run (callsOf list k ds) (alone table k)) k
+    alone-record =
+        ap (look k) (singly-end cs)
+        ∙ as-alone .1
+        ∙ ap (look k) (sym (singles-end list delay (callsOf list k ds) (alone table k) (some-single ds all)))
+
+    held-by : holderOf (end run cs table) k ≡ holderAfter (last (only (decidesHolder list k) (log run ds table))) (holderOf table k)
+    held-by =
+        ap (λ t. holderOf t k) (singly-end cs)
+        ∙ held list delay k ds table sound
+        ∙ ap (λ l. holderAfter (last (only (decidesHolder list k) l)) (holderOf table k)) (sym (singles-log list delay ds table all))
 
   pub demand3 : Demand3 list delay table
   demand3 = record {
-    answers = λ cs ds r. rearranged-answers go (names list) look Sound (calls-local list delay) cs ds table sound r;
+    answers = λ cs ds r. rearranged-answers run (names list) look Sound (calls-local list delay) cs ds table sound r;
     end-table = same-end;
-    alone-answers = λ k cs. as-alone k cs .0;
-    alone-record = λ k cs. as-alone k cs .1;
-    held = λ k cs. held list delay k cs table sound;
+    steps-table = λ cs. steps-end list delay cs table;
+    alone-answers = alone-answers;
+    alone-record = alone-record;
+    held = held-by;
   }

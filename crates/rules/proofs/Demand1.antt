@@ -1,11 +1,12 @@
 -- Demand 1 holds of every call, over any words and octets: each check's answer and what is done where none holds. Assumes nothing.
 use mathlib.Core.Path.{_≡_, refl, sym, ap, _∙_}
 use mathlib.Core.Bool.{Bool, true, false, cond, _||_}
-use mathlib.Core.Option.{some}
+use mathlib.Core.Option.{none, some}
 use mathlib.Core.List.{List, [], map}
 use Prim.Native.Nat.{ℕ}
 use lib.Dec.{eqb}
 use borrow.Author.Tests.{not-false}
+use Rattle.numbers.specs.Numbers.{twoDigits}
 use Rattle.answers.proofs.Tests.{no-path, and-left}
 use Rattle.answers.proofs.Decide.{decide-by, decide-each}
 use Rattle.numbers.specs.declared.FunctionalNumber.{FunctionalNumber}
@@ -22,14 +23,19 @@ use Rattle.tables.specs.declared.Found.{Found}
 use Rattle.tables.specs.declared.Found.the-variants.{At, Nothing}
 use Rattle.tables.specs.Tables.{tableSound, rowOf, recordOf, flagsOf}
 use Rattle.tables.proofs.Stored.{record-found}
-use Rattle.rules.specs.Answers.{Answer, refusal, error, delivered, dropped, again as sendAgain, Outcome, made, outcomeClass, numbersOf, isOf, isRefusal, isError, isOutcome, isNegative, twoDigits, packedOver, refusing}
+use Rattle.rules.specs.Answers.{Answer, refusal, error, delivered, dropped, again as sendAgain, Outcome, made, outcomeClass, numbersOf, isOf, isRefusal, isError, isOutcome, isNegative, packedOver, refusing}
 use Rattle.rules.specs.Requests as requests
+use Rattle.rules.specs.Crews.{crewNumber, Walk, crewOutcome, requesting}
 use Rattle.rules.specs.Requests.{Verdict, says, tells, Stepping}
 use Rattle.rules.specs.Notices as notices
-use Rattle.rules.specs.Calls.{Call, request, sending, result, bufferOf, clockReading, call, nameOf}
-use Rattle.rules.specs.Demand.{Demand1, registersAs, registers, requesterOf, holderOf}
+use Rattle.rules.specs.Calls.{Call, request, sending, result, bufferOf, clockReading, call, nameOf, codesOf}
+use Rattle.rules.specs.Demand.{isCrewOutcome, mayChange, Demand1, registersAs, registers, requesterOf, holderOf}
+use Rattle.rules.proofs.Once.{requestingOnce}
 use Rattle.rules.proofs.Visits.{found-sound, naming}
 use Rattle.rules.proofs.Each.{request-each}
+use Rattle.rules.proofs.Steps.{call-single}
+use Rattle.rules.proofs.Calls.{step-end}
+use Rattle.rules.proofs.Unsound.{unsound-call}
 
 -- ---- what an outcome says of the memory
 
@@ -37,7 +43,7 @@ module _ (table buffer : List ℕ) where
   record Leaves (o : Outcome) : Type 0 where
     refused : (isRefusal (o .answer) || isError (o .answer)) ≡ true → (o .table ≡ table) × (o .buffer ≡ buffer)
     negative : isNegative (o .answer) ≡ true → (o .table ≡ table) × (o .buffer ≡ packedOver (twoDigits (numbersOf (o .answer) .number)) buffer)
-    others : isOf outcomeClass (o .answer) ≡ true → (isOutcome 1 (o .answer) || isOutcome 2 (o .answer)) ≡ false → o .table ≡ table
+    others : isOf outcomeClass (o .answer) ≡ true → mayChange (o .answer) ≡ false → o .table ≡ table
 
   -- a refusal, an error: nothing is written
   silent : (a : Answer) → (isOf outcomeClass a ≡ false) → Leaves (record { answer = a; table = table; buffer = buffer })
@@ -56,17 +62,23 @@ module _ (table buffer : List ℕ) where
   denies n = record { refused = λ e. no-path e; negative = λ e. (refl, refl); others = λ e f. refl }
 
   -- 01 and 02
-  changes : (n : ℕ) (new : List ℕ) → (isOutcome 1 (requests.saying n new buffer .answer) || isOutcome 2 (requests.saying n new buffer .answer)) ≡ true
+  changes : (n : ℕ) (new : List ℕ) → mayChange (requests.saying n new buffer .answer) ≡ true
       → isNegative (requests.saying n new buffer .answer) ≡ false → Leaves (requests.saying n new buffer)
   changes n new d p = record { refused = λ e. no-path e; negative = λ e. no-path (sym p ∙ e); others = λ e f. no-path (sym f ∙ d) }
 
   tells-holder : (msisdn : ℕ) → Leaves (requests.answered buffer (tells msisdn) table)
   tells-holder msisdn = record { refused = λ e. no-path e; negative = λ e. no-path e; others = λ e f. refl }
 
-  request-leaves : (list : List ℕ) (requester : Msisdn) (scheme : ℕ) (string : List ℕ) → Leaves (requests.requesting table list buffer requester scheme string)
+  -- a crew's
+  crew-changes : (o : Operation) (w : Walk) → Leaves (crewOutcome (crewNumber o) buffer w)
+  crew-changes Register w = record { refused = λ e. no-path e; negative = λ e. no-path e; others = λ e f. no-path (sym f) }
+  crew-changes Erase w = record { refused = λ e. no-path e; negative = λ e. no-path e; others = λ e f. no-path (sym f) }
+  crew-changes Interrogate w = record { refused = λ e. no-path e; negative = λ e. no-path e; others = λ e f. no-path (sym f) }
+
+  request-leaves : (list : List ℕ) (requester : Msisdn) (scheme : ℕ) (string : List ℕ) → Leaves (requesting table list buffer requester scheme string)
   request-leaves list requester scheme string =
       request-each table buffer Leaves (λ n. silent (refusal n) refl) (λ n. silent (error n) refl) (λ n l e. denies n) (λ new. changes 1 new refl refl)
-      (λ new. changes 2 new refl refl) tells-holder list requester scheme string
+      (λ new. changes 2 new refl refl) tells-holder crew-changes list requester scheme string
 
   sent-leaves : (number : FunctionalNumber) (place : Found) → Leaves (notices.sentAt number place table buffer)
   sent-leaves number Nothing = silent _ refl
@@ -127,14 +139,14 @@ module _ (list reply : List ℕ) (requester : Msisdn) (scheme : ℕ) (string t :
       (requests.carriedOutAt f (rowOf t (f .number .0)) requester t) (refl, (refl, (refl, (refl, (refl, (refl, tt))))))
       (at f register holds sound (rowOf t (f .number .0)) refl)
 
-  asking-stays : (flags : ℕ) (f : Request) → requests.step t requester f .table ≡ t → Stays (requests.asking t flags reply requester f)
+  asking-stays : (flags : ℕ) (f : Request) → requests.step t requester f .table ≡ t → Stays (requests.askingBy (requests.once t reply requester) t flags reply (some f))
   asking-stays flags f e =
       decide-each Stays (map (requests.negative t reply) (requests.rightChecks flags (f .erasing))) (requests.replying reply (requests.step t requester f))
       (refl, (refl, tt)) (replied-table (requests.step t requester f) e)
 
   registers-again : (f : Request) → requestOf string ≡ some f → f .operation ≡ Register → holderOf t (f .number .0) ≡ requester .0
-      → Stays (requests.requesting t list reply requester scheme string)
-  unfolding requests.requesting
+      → Stays (requestingOnce t list reply requester scheme string)
+  unfolding requestingOnce
   registers-again f reads register holds =
       decide-by Stays (refusing t reply (requests.refusalChecks (tableSound t) list reply requester scheme string)) _
       (refl, (refl, (refl, (refl, (refl, (refl, (refl, tt)))))))
@@ -147,14 +159,23 @@ operation-registers Register e = refl
 operation-registers Erase e = no-path e
 operation-registers Interrogate e = no-path e
 
-again : (list : List ℕ) (delay : ℕ) (c : Call) (table : List ℕ) (k : ℕ) → nameOf list c ≡ some k → registers c ≡ true → holderOf table k ≡ requesterOf c
-    → call list delay c table .1 ≡ table
-again list delay (request requester scheme string reply) table k named registration holds =
+again : (list : List ℕ) (delay : ℕ) (c : Call) (table : List ℕ) (k : ℕ) → nameOf list c ≡ some k → codesOf c ≡ none → registers c ≡ true
+    → holderOf table k ≡ requesterOf c → call list delay c table .1 ≡ table
+again list delay (request requester scheme string reply) table k named alone registration holds =
     let x = naming list reply requester scheme string k named in
-    registers-again list reply requester scheme string table (x .fields) (x .reads)
+    ap (λ r. r .1) (call-single list delay (request requester scheme string reply) table alone)
+    ∙ registers-again list reply requester scheme string table (x .fields) (x .reads)
     (operation-registers (x .fields .operation) (sym (ap registersAs (x .reads)) ∙ registration)) (rw (x .names) holds)
-again list delay (sending now number buffer) table k named registration holds = no-path registration
-again list delay (result now number kind) table k named registration holds = no-path registration
+again list delay (sending now number buffer) table k named alone registration holds = no-path registration
+again list delay (result now number kind) table k named alone registration holds = no-path registration
+
+-- a crew's outcome comes over a sound table only
+sound-crew : (list : List ℕ) (delay : ℕ) (c : Call) (table : List ℕ) → isCrewOutcome (call list delay c table .0 .answer) ≡ true → tableSound table ≡ true
+sound-crew list delay c table e = go (tableSound table) refl
+  where
+    go : (b : Bool) → tableSound table ≡ b → b ≡ true
+    go true s = refl
+    go false s = let (n, buffer, refused) = unsound-call table s list delay c in no-path (sym (ap (λ r. isCrewOutcome (r .0 .answer)) refused) ∙ e)
 
 leaves : (list : List ℕ) (delay : ℕ) (c : Call) (table : List ℕ)
     → Leaves table (bufferOf c) (record { answer = call list delay c table .0 .answer; table = call list delay c table .1; buffer = call list delay c table .0 .buffer })
@@ -165,4 +186,10 @@ leaves list delay (result now number kind) table = result-leaves table number ki
 pub demand1 : (list : List ℕ) (delay : ℕ) (c : Call) (table : List ℕ) → Demand1 list delay c table
 demand1 list delay c table =
     let l = leaves list delay c table in
-    record { refused = l .refused; negative = l .negative; others = l .others; registered-again = again list delay c table }
+    record {
+      refused = l .refused;
+      negative = l .negative;
+      others = l .others;
+      crew = λ e. step-end list delay c table (sound-crew list delay c table e);
+      registered-again = again list delay c table;
+    }

@@ -16,12 +16,13 @@ use Rattle.tables.specs.Tables.{listSound, recordOf, flagsOf}
 use Rattle.rules.specs.Answers.{isOutcome}
 use Rattle.rules.specs.Run.{end, log}
 use Rattle.rules.specs.Requests.{refusalChecks, hasFollowMe, isSupervisor, holderIn, noNotice}
-use Rattle.rules.specs.Calls.{Call, Reply, request, call, nameOf, names}
+use Rattle.rules.specs.Calls.{Call, Reply, request, nameOf, namesOne}
 use Rattle.rules.specs.Visits.{Visited}
 use Rattle.rules.specs.Pending.{never}
 use Rattle.rules.specs.Users.{isRequest, bothFlags, mayEndHold, endsHold, HoldEnded, HoldBegun}
 use Rattle.rules.specs.Demand.{registers, requesterOf, holderOf}
 use Rattle.tables.proofs.Stored.{flags-small}
+use Rattle.rules.proofs.Once.{single}
 use Rattle.rules.proofs.Visits.{naming}
 use Rattle.rules.proofs.Local.{named-some}
 use Rattle.rules.proofs.Along.{Asked, negative, registration, erasure, own, forced, Does, asks, unsent, sends, untaken, clears, goes-on, Along, ends, passes, visits, along, word, one-msisdn, same-one, one-same, never-first}
@@ -30,7 +31,7 @@ use Rattle.rules.proofs.Along.{Asked, negative, registration, erasure, 
 
 -- a request that names a number was given a sound list
 named-listed : (list : List ℕ) (k : ℕ) (requester : Msisdn) (scheme : ℕ) (string reply : List ℕ)
-    → names list (request requester scheme string reply) k ≡ true → listSound list ≡ true
+    → namesOne list (request requester scheme string reply) k ≡ true → listSound list ≡ true
 named-listed list k requester scheme string reply n =
     let passed = naming list reply requester scheme string k (named-some (nameOf list (request requester scheme string reply)) k n) .passed in
     not-false _ (all-pass (refusalChecks true list reply requester scheme string) passed .1 .0)
@@ -82,7 +83,7 @@ visit-begins (asking (forced p q h m x y z)) e = inl refl
 
 module _ (list : List ℕ) (k : ℕ) (h : Msisdn) (held : isNobody h ≡ false) where
   -- h holds the number still, or an erasure has ended her hold
-  visit-ends : {r : Record} {c : Call} {v : Visited} → Holding list r c v → names list c k ≡ true → r .holder ≡ h
+  visit-ends : {r : Record} {c : Call} {v : Visited} → Holding list r c v → namesOne list c k ≡ true → r .holder ≡ h
       → (v .next .holder ≡ h) ⊎ ((v .next .holder ≡ nobody) × (isOutcome 2 (v .reply .answer) ≡ true)
       × ((b : Bool) → (isAbsent (r .notice) ≡ true → b ≡ true) → mayEndHold list h b c ≡ true))
   visit-ends (keeping s) n e = inl (s ∙ e)
@@ -104,7 +105,7 @@ module _ (list : List ℕ) (k : ℕ) (h : Msisdn) (held : isNobody h ≡ false) 
 
   ended-once : {o p : Option Record} {x : Call × Reply} → Along list k o (x ∷ []) p → holderIn o ≡ h
       → (holderIn p ≡ h)
-      ⊎ ((names list (x .0) k ≡ true) × (mayEndHold list h (noNotice o) (x .0) ≡ true) × (isOutcome 2 (x .1 .answer) ≡ true) × (holderIn p ≡ nobody))
+      ⊎ ((namesOne list (x .0) k ≡ true) × (mayEndHold list h (noNotice o) (x .0) ≡ true) × (isOutcome 2 (x .1 .answer) ≡ true) × (holderIn p ≡ nobody))
   ended-once (passes n ends) e = inl e
   ended-once (visits n d ends) e = ⊎-elim inl (λ (f, a, m). inr (n, m _ (λ x. x), a, f)) (visit-ends (holding d) n e)
 
@@ -116,7 +117,7 @@ module _ (list : List ℕ) (k : ℕ) (h : Msisdn) (held : isNobody h ≡ false) 
       ⊎-elim (λ s. held-along rest s then) (λ (f, a, m). no-path (sym first ∙ rw (n, m true (λ x. refl), a) refl)) (visit-ends (holding d) n e)
 
 begun-once : {list : List ℕ} {k : ℕ} {o p : Option Record} {x : Call × Reply} → Along list k o (x ∷ []) p → holderIn o ≡ nobody
-    → (holderIn p ≡ nobody) ⊎ ((names list (x .0) k ≡ true) × (registers (x .0) ≡ true) × (isOutcome 1 (x .1 .answer) ≡ true) × (holderIn p .0 ≡ requesterOf (x .0)))
+    → (holderIn p ≡ nobody) ⊎ ((namesOne list (x .0) k ≡ true) × (registers (x .0) ≡ true) × (isOutcome 1 (x .1 .answer) ≡ true) × (holderIn p .0 ≡ requesterOf (x .0)))
 begun-once (passes n ends) e = inl e
 begun-once (visits n d ends) e = ⊎-elim inl (λ (m, a, q). inr (n, m, a, q)) (visit-begins (holding d) e)
 
@@ -130,10 +131,10 @@ kept-once (visits n d ends) s = ⊎-elim (unasked-keeps (holding d)) (λ (a, b).
 module _ (list : List ℕ) (delay k : ℕ) where
   module _ (c : Call) (table : List ℕ) where
     abbrev got : Reply
-    got = (call list delay c table) .0
+    got = (single list delay c table) .0
 
     abbrev after : List ℕ
-    after = (call list delay c table) .1
+    after = (single list delay c table) .1
 
     once : Along list k (recordOf table k) ((c, got) ∷ []) (recordOf after k)
     once = along list delay k (c ∷ []) table
@@ -161,6 +162,6 @@ module _ (list : List ℕ) (delay k : ℕ) where
 
   -- over any list of calls with no such erasure in it, h holds k at the end
   pub holds-to-the-end : (calls : List Call) (table : List ℕ) (h : Msisdn) → isNobody h ≡ false → holderOf table k ≡ h .0
-      → never (endsHold list h k) (log (call list delay) calls table) ≡ true → holderOf (end (call list delay) calls table) k ≡ h .0
+      → never (endsHold list h k) (log (single list delay) calls table) ≡ true → holderOf (end (single list delay) calls table) k ≡ h .0
   holds-to-the-end calls table h held e u =
       ap word (held-along list k h held (along list delay k calls table) (one-msisdn (holderIn (recordOf table k)) h e) u)

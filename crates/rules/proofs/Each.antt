@@ -7,6 +7,7 @@ use Prim.Native.Nat.{ℕ, _<_}
 use native.Mathlib.Omega.{arith}
 use Rattle.answers.proofs.Decide.{decide-each}
 use Rattle.numbers.specs.declared.Msisdn.{Msisdn}
+use Rattle.crews.specs.Crews.{crewOf}
 use Rattle.strings.specs.declared.Operation.{Operation}
 use Rattle.strings.specs.declared.Operation.the-variants.{Register, Erase, Interrogate}
 use Rattle.strings.specs.declared.Erasing.{Erasing}
@@ -16,12 +17,13 @@ use Rattle.tables.specs.declared.Found.{Found}
 use Rattle.tables.specs.declared.Found.the-variants.{At, Nothing}
 use Rattle.tables.specs.Tables.{tableSound, rowOf, recordOf, flagsOf}
 use Rattle.rules.specs.Answers.{refusal, error, Outcome, made, isNegativeNumber, refusing}
-use Rattle.rules.specs.Requests.{saying, refusalChecks, rightChecks, stepChecks, Stepping, tells, staying, carriedOut, carriedOutAt, step, negative, answered, replying, askingFor, requesting}
+use Rattle.rules.specs.Requests.{saying, refusalChecks, rightChecks, stepChecks, Stepping, tells, staying, carriedOut, carriedOutAt, step, negative, answered, replying, askingBy}
+use Rattle.rules.specs.Crews.{crewCodes, crewNumber, Walk, walked, setOut, crewOutcome, carriedOutFor, requesting}
 
 module _ (t reply : List ℕ) (P : Outcome → Type 0) (refused : (n : ℕ) → P (made (refusal n) t reply)) (erred : (n : ℕ) → P (made (error n) t reply))
     (denied : (n : ℕ) → n < 100 → isNegativeNumber n ≡ true → P (saying n t reply))
     (registered : (new : List ℕ) → P (saying 1 new reply)) (erased : (new : List ℕ) → P (saying 2 new reply))
-    (told : (msisdn : ℕ) → P (answered reply (tells msisdn) t)) where
+    (told : (msisdn : ℕ) → P (answered reply (tells msisdn) t)) (crew : (o : Operation) (w : Walk) → P (crewOutcome (crewNumber o) reply w)) where
   abbrev Replied : Stepping → Type 0
   Replied s = P (replying reply s)
 
@@ -49,11 +51,16 @@ module _ (t reply : List ℕ) (P : Outcome → Type 0) (refused : (n : ℕ) → 
       )
       (done-at-each f (rowOf t (f .number .0)) requester)
 
-  asking-each : (flags : ℕ) (requester : Msisdn) (read : Option Request) → P (askingFor t flags reply requester read)
+  carried-each : (requester : Msisdn) (f : Request) (codes : Option (List ℕ)) → P (carriedOutFor t reply requester f codes)
+  carried-each requester f none = step-each requester f
+  carried-each requester f (some codes) = crew (f .operation) (walked requester f (crewCodes codes) (setOut t))
+
+  asking-each : (flags : ℕ) (requester : Msisdn) (read : Option Request)
+      → P (askingBy (λ f. carriedOutFor t reply requester f (crewOf (f .additional))) t flags reply read)
   asking-each flags requester none = erred 36
   asking-each flags requester (some f) =
       decide-each P (map (negative t reply) (rightChecks flags (f .erasing))) _ (denied 42 (omega arith) refl, (denied 22 (omega arith) refl, tt))
-      (step-each requester f)
+      (carried-each requester f (crewOf (f .additional)))
 
   pub request-each : (list : List ℕ) (requester : Msisdn) (scheme : ℕ) (string : List ℕ) → P (requesting t list reply requester scheme string)
   unfolding requesting

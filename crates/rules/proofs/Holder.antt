@@ -27,11 +27,12 @@ use Rattle.tables.specs.Tables.{tableSound, recordOf, flagsOf}
 use Rattle.rules.specs.Answers.{Answer, refusal, bufferRoom, isOutcome}
 use Rattle.rules.specs.Requests.{holderIn, afterErasure, rightChecks}
 use Rattle.rules.specs.Run.{only, last, end, log}
-use Rattle.rules.specs.Calls.{Call, request, sending, result, Reply, clockReading, call, nameOf, names}
+use Rattle.rules.specs.Calls.{Call, request, sending, result, Reply, clockReading, nameOf, namesOne}
 use Rattle.rules.specs.Visits.{Visited, visited, visitSaying, stepped, holderAnswered, decides, decided, sentStep, resultStep, visitRequest, visit, replySaying, missedRequest, missed}
 use Rattle.rules.specs.Demand.{requesterOf, decidesHolder, holderAfter, holderOf}
+use Rattle.rules.proofs.Once.{single}
 use Rattle.rules.proofs.Visits.{recordChecks, sentChecks}
-use Rattle.rules.proofs.Sound.{call-keeps, call-own, call-absent, call-other}
+use Rattle.rules.proofs.Sound.{single-keeps, single-own, single-absent, single-other}
 use Rattle.rules.proofs.Local.{named-some}
 
 -- ---- a visit
@@ -118,21 +119,21 @@ missed-says list (result now number kind) q = refl
 
 module _ (list : List ℕ) (delay k : ℕ) where
   -- after a call that names k, its answer says who holds k
-  call-says : (c : Call) (t : List ℕ) → tableSound t ≡ true → names list c k ≡ true
-      → holderOf (call list delay c t .1) k ≡ said (call list delay c t .0 .answer) (requesterOf c) (holderOf t k)
-  call-says c t sound m = go (recordOf t k) refl
+  single-says : (c : Call) (t : List ℕ) → tableSound t ≡ true → namesOne list c k ≡ true
+      → holderOf (single list delay c t .1) k ≡ said (single list delay c t .0 .answer) (requesterOf c) (holderOf t k)
+  single-says c t sound m = go (recordOf t k) refl
     where
       n : nameOf list c ≡ some k
       n = named-some (nameOf list c) k m
 
       go : (o : Option Record) → recordOf t k ≡ o
-          → holderOf (call list delay c t .1) k ≡ said (call list delay c t .0 .answer) (requesterOf c) (holderOf t k)
+          → holderOf (single list delay c t .1) k ≡ said (single list delay c t .0 .answer) (requesterOf c) (holderOf t k)
       go none e =
-          let x = call-absent list delay c t sound k n e in
+          let x = single-absent list delay c t sound k n e in
           let free : holderOf t k ≡ 0 = ap (λ o. holderIn o .0) e in
           ap (λ w. holderOf (w .1) k) x ∙ free ∙ sym (missed-says list c (requesterOf c)) ∙ rw (x, free)
       go (some r) e =
-          let x = call-own list delay c t sound k r n e in
+          let x = single-own list delay c t sound k r n e in
           let before : holderOf t k ≡ r .holder .0 = ap (λ o. holderIn o .0) e in
           ap (λ o. holderIn o .0) (x .1) ∙ visit-says list delay c r ∙ rw (x .0, before)
 
@@ -162,19 +163,19 @@ turn c a ps h = go (isOutcome 1 (a .answer)) refl (isOutcome 2 (a .answer))
 
 -- the holder at the end is said by the last call that names k and was answered 01 or 02
 pub held : (list : List ℕ) (delay k : ℕ) (cs : List Call) (t : List ℕ) → tableSound t ≡ true
-    → holderOf (end (call list delay) cs t) k ≡ holderAfter (last (only (decidesHolder list k) (log (call list delay) cs t))) (holderOf t k)
+    → holderOf (end (single list delay) cs t) k ≡ holderAfter (last (only (decidesHolder list k) (log (single list delay) cs t))) (holderOf t k)
 held list delay k [] t sound = refl
 held list delay k (c ∷ cs) t sound =
-    held list delay k cs (call list delay c t .1) (call-keeps list delay c t sound .sound) ∙ pass (names list c k) refl
+    held list delay k cs (single list delay c t .1) (single-keeps list delay c t sound .sound) ∙ pass (namesOne list c k) refl
   where
     a : Reply
-    a = call list delay c t .0
+    a = single list delay c t .0
 
     rest : List (Call × Reply)
-    rest = only (decidesHolder list k) (log (call list delay) cs (call list delay c t .1))
+    rest = only (decidesHolder list k) (log (single list delay) cs (single list delay c t .1))
 
-    pass : (b : Bool) → names list c k ≡ b
-        → holderAfter (last rest) (holderOf (call list delay c t .1) k)
+    pass : (b : Bool) → namesOne list c k ≡ b
+        → holderAfter (last rest) (holderOf (single list delay c t .1) k)
         ≡ holderAfter (last (cond (b && (isOutcome 1 (a .answer) || isOutcome 2 (a .answer))) ((c, a) ∷ rest) rest)) (holderOf t k)
-    pass true m = ap (holderAfter (last rest)) (call-says list delay k c t sound m) ∙ turn c a rest (holderOf t k)
-    pass false m = ap (λ o. holderAfter (last rest) (holderIn o .0)) (call-other list delay c t sound k m)
+    pass true m = ap (holderAfter (last rest)) (single-says list delay k c t sound m) ∙ turn c a rest (holderOf t k)
+    pass false m = ap (λ o. holderAfter (last rest) (holderIn o .0)) (single-other list delay c t sound k m)

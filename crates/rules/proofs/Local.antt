@@ -1,4 +1,4 @@
--- Requests, sendings and results over a sound table are local: each reads and writes the record of the number that it names, and no other. Assumes nothing.
+-- Single requests, sendings and results over a sound table are local: each reads and writes the record of the number that it names, and no other. Assumes nothing.
 use mathlib.Core.Path.{_≡_, refl, sym, ap, _∙_}
 use mathlib.Core.Bool.{true}
 use mathlib.Core.Option.{Option, none, some}
@@ -9,9 +9,10 @@ use Rattle.answers.proofs.Tests.{no-path}
 use Rattle.records.specs.declared.Record.{Record}
 use Rattle.tables.specs.Tables.{tableSound, recordOf}
 use Rattle.rules.specs.Run.{Local}
-use Rattle.rules.specs.Calls.{Call, call, nameOf, isNamed, names}
-use Rattle.rules.proofs.Visits.{call-stops}
-use Rattle.rules.proofs.Sound.{call-keeps, call-own, call-absent, call-other}
+use Rattle.rules.specs.Calls.{Call, nameOf, isNamed, namesOne}
+use Rattle.rules.proofs.Once.{single}
+use Rattle.rules.proofs.Visits.{single-stops}
+use Rattle.rules.proofs.Sound.{single-keeps, single-own, single-absent, single-other}
 
 -- ---- the number that a call names
 
@@ -20,39 +21,39 @@ named-some none k e = no-path e
 named-some (some j) k e = ap some (eqb-true j k e)
 
 -- a call names one number at most
-pub one-name : (list : List ℕ) (c : Call) (j k : ℕ) → names list c k ≡ true → names list c j ≡ true → j ≡ k
+pub one-name : (list : List ℕ) (c : Call) (j k : ℕ) → namesOne list c k ≡ true → namesOne list c j ≡ true → j ≡ k
 one-name list c j k p q = let x = named-some (nameOf list c) k p in let y = named-some (nameOf list c) j q in cc
 
 -- ---- two tables with the same record of that number
 
 module _ (list : List ℕ) (delay : ℕ) (c : Call) (t u : List ℕ) (st : tableSound t ≡ true) (su : tableSound u ≡ true)
-    (same : (k : ℕ) → names list c k ≡ true → recordOf t k ≡ recordOf u k) where
+    (same : (k : ℕ) → namesOne list c k ≡ true → recordOf t k ≡ recordOf u k) where
   -- the call gets the same, and leaves the same record of the number
   abbrev Alike : Type 0
   Alike =
-      (call list delay c t .0 ≡ call list delay c u .0)
-      × ((k : ℕ) → names list c k ≡ true → recordOf (call list delay c t .1) k ≡ recordOf (call list delay c u .1) k)
+      (single list delay c t .0 ≡ single list delay c u .0)
+      × ((k : ℕ) → namesOne list c k ≡ true → recordOf (single list delay c t .1) k ≡ recordOf (single list delay c u .1) k)
 
   alike-none : nameOf list c ≡ none → Alike
   alike-none n = (
-    ap (λ x. x .0) (call-stops list delay t st c n) ∙ sym (ap (λ x. x .0) (call-stops list delay u su c n)),
+    ap (λ x. x .0) (single-stops list delay t st c n) ∙ sym (ap (λ x. x .0) (single-stops list delay u su c n)),
     λ k m. no-path (ap (λ o. isNamed o k) (sym n) ∙ m),
   )
 
   module _ (k : ℕ) (n : nameOf list c ≡ some k) where
     alike-absent : recordOf t k ≡ none → recordOf u k ≡ none → Alike
     alike-absent p q =
-        let x = call-absent list delay c t st k n p in
-        let y = call-absent list delay c u su k n q in
+        let x = single-absent list delay c t st k n p in
+        let y = single-absent list delay c u su k n q in
         (ap (λ z. z .0) x ∙ sym (ap (λ z. z .0) y), λ j m. ap (λ z. recordOf (z .1) j) x ∙ same j m ∙ sym (ap (λ z. recordOf (z .1) j) y))
 
     alike-there : (r : Record) → recordOf t k ≡ some r → recordOf u k ≡ some r → Alike
     alike-there r p q =
-        let x = call-own list delay c t st k r n p in
-        let y = call-own list delay c u su k r n q in
+        let x = single-own list delay c t st k r n p in
+        let y = single-own list delay c u su k r n q in
         (x .0 ∙ sym (y .0), λ j m. rw (named-one j m) (x .1 ∙ sym (y .1)))
       where
-        named-one : (j : ℕ) → names list c j ≡ true → j ≡ k
+        named-one : (j : ℕ) → namesOne list c j ≡ true → j ≡ k
         named-one j m = let e = named-some (nameOf list c) j m in cc
 
     alike-at : (o : Option Record) → recordOf t k ≡ o → recordOf u k ≡ o → Alike
@@ -66,10 +67,10 @@ module _ (list : List ℕ) (delay : ℕ) (c : Call) (t u : List ℕ) (st : table
       go none n = alike-none n
       go (some k) n = alike-at k n (recordOf t k) refl (sym (same k (ap (λ o. isNamed o k) n ∙ eq-eqb k k refl)))
 
-pub calls-local : (list : List ℕ) (delay : ℕ) → Local (call list delay) (names list) (λ k t. recordOf t k) (λ t. tableSound t ≡ true)
-calls-local list delay = record {
-  keep = λ c t s. call-keeps list delay c t s .sound;
-  other = λ c t k s n. call-other list delay c t s k n;
+pub singles-local : (list : List ℕ) (delay : ℕ) → Local (single list delay) (namesOne list) (λ k t. recordOf t k) (λ t. tableSound t ≡ true)
+singles-local list delay = record {
+  keep = λ c t s. single-keeps list delay c t s .sound;
+  other = λ c t k s n. single-other list delay c t s k n;
   answer = λ c t u s v h. alike list delay c t u s v h .0;
   own = λ c t u k s v h n. alike list delay c t u s v h .1 k n;
 }

@@ -24,9 +24,10 @@ use Rattle.tables.proofs.Stored.{record-found, record-missing}
 use Rattle.rules.specs.Answers.{refusal, bufferRoom, isSent}
 use Rattle.rules.specs.Run.{only, end, log}
 use Rattle.rules.specs.Notices.{noticeIn}
-use Rattle.rules.specs.Calls.{Call, Reply, request, sending, result, call, names}
+use Rattle.rules.specs.Calls.{Call, Reply, request, sending, result, namesOne}
 use Rattle.rules.specs.Visits.{Visited}
 use Rattle.rules.specs.Pending.{noticeFor, never, holdsAt, isSendingOf, isResultOf, sendingDone, resultTaken, ResultBetween, noticeCleared}
+use Rattle.rules.proofs.Once.{single}
 use Rattle.rules.proofs.Visits.{found-sound}
 use Rattle.rules.proofs.Sound.{end-keeps}
 use Rattle.rules.proofs.Along.{Asked, negative, registration, erasure, own, forced, Does, asks, unsent, sends, untaken, clears, goes-on, delivers, drops, Passed, unnamed, missing, refused, Along, ends, passes, visits, along, never-first}
@@ -107,7 +108,7 @@ module _ (list : List ℕ) (k : ℕ) where
   sent-flies (goes-on p) s = no-path s
 
   -- a notice in flight stays in flight, up to a result that is not refused
-  flying-on : {r : Record} {c : Call} {v : Visited} → names list c k ≡ true → Does list r c v → isInFlight (r .notice) ≡ true
+  flying-on : {r : Record} {c : Call} {v : Visited} → namesOne list c k ≡ true → Does list r c v → isInFlight (r .notice) ≡ true
       → resultTaken k (c, v .reply) ≡ false → isInFlight (v .next .notice) ≡ true
   flying-on {r} n (asks d) f u = rw (asked-keeps d (flies-pending (r .notice) f)) f
   flying-on n unsent f u = f
@@ -118,7 +119,7 @@ module _ (list : List ℕ) (k : ℕ) where
   flying-on n (goes-on p) f u = no-path (sym (rw n at u))
 
   -- a pending notice is pending still, up to the result that clears it
-  pub still-pending : {r : Record} {c : Call} {v : Visited} → names list c k ≡ true → Does list r c v → isAbsent (r .notice) ≡ false
+  pub still-pending : {r : Record} {c : Call} {v : Visited} → namesOne list c k ≡ true → Does list r c v → isAbsent (r .notice) ≡ false
       → noticeCleared k (c, v .reply) ≡ false → StillPending k r (c, v .reply) (v .next)
   still-pending n (asks d) a u = rw (asked-keeps d a) (record { pending = a; addressee = refl; supervisor = refl; done = omega arith })
   still-pending n unsent a u = record { pending = a; addressee = refl; supervisor = refl; done = rw n (omega arith) }
@@ -195,15 +196,15 @@ table-most table k sound = go (rowOf table k) refl
 
 -- a result naming k that is not refused, with five sendings done, of whatever kind, leaves k's phase 0
 pub fifth-result-ends : (list : List ℕ) (delay k : ℕ) (c : Call) (table : List ℕ) → sendingsDone (noticeFor table k) ≡ mostSendings
-    → resultTaken k (c, (call list delay c table) .0) ≡ true → noticeFor ((call list delay c table) .1) k ≡ Absent
+    → resultTaken k (c, (single list delay c table) .0) ≡ true → noticeFor ((single list delay c table) .1) k ≡ Absent
 fifth-result-ends list delay k c table m u = fifth-ends list k (along list delay k (c ∷ []) table) m u
 
 module _ (list : List ℕ) (delay k : ℕ) (calls : List Call) (table : List ℕ) where
   abbrev got : List (Call × Reply)
-  got = log (call list delay) calls table
+  got = log (single list delay) calls table
 
   abbrev after : List ℕ
-  after = end (call list delay) calls table
+  after = end (single list delay) calls table
 
   -- between two sendings of k that succeed stands a result naming k that was not refused
   pub between-two-sendings : (i j : ℕ) → i < j → holdsAt (sendingDone k) got i ≡ true → holdsAt (sendingDone k) got j ≡ true → ResultBetween k got i j
@@ -221,5 +222,5 @@ module _ (list : List ℕ) (delay k : ℕ) (calls : List Call) (table : List ℕ
 
     -- and a result that is taken after the fifth ends it
     pub ends-after-five : sendingsDone (noticeFor table k) + length (only (sendingDone k) got) ≡ mostSendings
-        → (c : Call) → resultTaken k (c, (call list delay c after) .0) ≡ true → noticeFor ((call list delay c after) .1) k ≡ Absent
+        → (c : Call) → resultTaken k (c, (single list delay c after) .0) ≡ true → noticeFor ((single list delay c after) .1) k ≡ Absent
     ends-after-five five c u = fifth-result-ends list delay k c after (sendings-counted ∙ five) u

@@ -39,9 +39,10 @@ use Rattle.tables.proofs.Stored.{row-found, own-record, other-record, table-sto
 use Rattle.rules.specs.Answers.{refusal, bufferRoom}
 use Rattle.rules.specs.Requests.{rightChecks}
 use Rattle.rules.specs.Run.{end}
-use Rattle.rules.specs.Calls.{Call, request, sending, result, Reply, clockReading, call, nameOf, isNamed, names}
+use Rattle.rules.specs.Calls.{Call, request, sending, result, Reply, clockReading, nameOf, isNamed, namesOne}
 use Rattle.rules.specs.Visits.{Visited, visited, visitSaying, stepped, holderAnswered, decides, decided, sentStep, resultStep, visitRequest, visit, missed}
-use Rattle.rules.proofs.Visits.{found-sound, requester-number, call-visits, call-misses, call-stops}
+use Rattle.rules.proofs.Once.{single}
+use Rattle.rules.proofs.Visits.{found-sound, requester-number, single-visits, single-misses, single-stops}
 
 -- ---- a visit leaves a sound record
 
@@ -129,54 +130,54 @@ no-place t k e = go (rowOf t k) refl e
 
 module _ (list : List ℕ) (delay : ℕ) (c : Call) (t : List ℕ) (sound : tableSound t ≡ true) where
   abbrev went : Reply × List ℕ
-  went = call list delay c t
+  went = single list delay c t
 
   at-row : (k i : ℕ) → nameOf list c ≡ some k → rowOf t k ≡ At i → recordSound (visit list delay c (recordAt t i) .next) ≡ true
   at-row k i n e = visit-sound (recordAt t i) (record-sound t i (found-sound t k i sound e)) list delay c k n
 
   -- a sound table is left, with the same numbers in the same rows
-  pub call-keeps : Kept t (went .1)
-  call-keeps = named (nameOf list c) refl
+  pub single-keeps : Kept t (went .1)
+  single-keeps = named (nameOf list c) refl
     where
       placed : (k : ℕ) → nameOf list c ≡ some k → (place : Found) → rowOf t k ≡ place → Kept t (went .1)
-      placed k n Nothing e = rw (call-misses list delay t sound c k n e) (kept-same t sound)
-      placed k n (At i) e = rw (call-visits list delay t sound c k i n e) (kept-stored t i _ sound (row-found t k i e .0) (at-row k i n e))
+      placed k n Nothing e = rw (single-misses list delay t sound c k n e) (kept-same t sound)
+      placed k n (At i) e = rw (single-visits list delay t sound c k i n e) (kept-stored t i _ sound (row-found t k i e .0) (at-row k i n e))
 
       named : (n : Option ℕ) → nameOf list c ≡ n → Kept t (went .1)
-      named none n = rw (call-stops list delay t sound c n) (kept-same t sound)
+      named none n = rw (single-stops list delay t sound c n) (kept-same t sound)
       named (some k) n = placed k n (rowOf t k) refl
 
   -- the record of the number that the call names decides, and becomes the next one
-  pub call-own : (k : ℕ) (r : Record) → nameOf list c ≡ some k → recordOf t k ≡ some r
+  pub single-own : (k : ℕ) (r : Record) → nameOf list c ≡ some k → recordOf t k ≡ some r
       → (went .0 ≡ visit list delay c r .reply) × (recordOf (went .1) k ≡ some (visit list delay c r .next))
-  call-own k r n e =
+  single-own k r n e =
       let (i, p, q) = record-place t k r e in
-      let v = call-visits list delay t sound c k i n p in (
+      let v = single-visits list delay t sound c k i n p in (
         ap (λ x. x .0) v ∙ ap (λ r. visit list delay c r .reply) q,
         ap (λ x. recordOf (x .1) k) v ∙ own-record t i _ k p (at-row k i n p) ∙ ap (λ r. some (visit list delay c r .next)) q,
       )
 
   -- it is not in the table, and nothing changes
-  pub call-absent : (k : ℕ) → nameOf list c ≡ some k → recordOf t k ≡ none → went ≡ (missed list c, t)
-  call-absent k n e = call-misses list delay t sound c k n (no-place t k e)
+  pub single-absent : (k : ℕ) → nameOf list c ≡ some k → recordOf t k ≡ none → went ≡ (missed list c, t)
+  single-absent k n e = single-misses list delay t sound c k n (no-place t k e)
 
   -- the record of any other number stays
-  pub call-other : (k : ℕ) → names list c k ≡ false → recordOf (went .1) k ≡ recordOf t k
-  call-other k m = named (nameOf list c) refl
+  pub single-other : (k : ℕ) → namesOne list c k ≡ false → recordOf (went .1) k ≡ recordOf t k
+  single-other k m = named (nameOf list c) refl
     where
       placed : (j : ℕ) → nameOf list c ≡ some j → (place : Found) → rowOf t j ≡ place → recordOf (went .1) k ≡ recordOf t k
-      placed j n Nothing e = rw (call-misses list delay t sound c j n e)
+      placed j n Nothing e = rw (single-misses list delay t sound c j n e)
       placed j n (At i) e =
-          ap (λ x. recordOf (x .1) k) (call-visits list delay t sound c j i n e)
+          ap (λ x. recordOf (x .1) k) (single-visits list delay t sound c j i n e)
           ∙ other-record t i _ j e k (λ q. eqb-false j k (ap (λ o. isNamed o k) (sym n) ∙ m) (sym q))
 
       named : (n : Option ℕ) → nameOf list c ≡ n → recordOf (went .1) k ≡ recordOf t k
-      named none n = rw (call-stops list delay t sound c n)
+      named none n = rw (single-stops list delay t sound c n)
       named (some j) n = placed j n (rowOf t j) refl
 
 -- a list of calls leaves a sound table, with the same numbers in the same rows
-pub end-keeps : (list : List ℕ) (delay : ℕ) (cs : List Call) (t : List ℕ) → tableSound t ≡ true → Kept t (end (call list delay) cs t)
+pub end-keeps : (list : List ℕ) (delay : ℕ) (cs : List Call) (t : List ℕ) → tableSound t ≡ true → Kept t (end (single list delay) cs t)
 end-keeps list delay [] t sound = kept-same t sound
 end-keeps list delay (c ∷ cs) t sound =
-    let k = call-keeps list delay c t sound in
-    kept-twice t (call list delay c t .1) _ k (end-keeps list delay cs (call list delay c t .1) (k .sound))
+    let k = single-keeps list delay c t sound in
+    kept-twice t (single list delay c t .1) _ k (end-keeps list delay cs (single list delay c t .1) (k .sound))

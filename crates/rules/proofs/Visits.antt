@@ -44,8 +44,9 @@ use Rattle.rules.specs.Answers.{Answer, refusal, error, delivered, dropp
 use Rattle.rules.specs.Requests as requests
 use Rattle.rules.specs.Requests.{Stepping, comesTo, says, tells}
 use Rattle.rules.specs.Notices as notices
-use Rattle.rules.specs.Calls.{Call, request, sending, result, replied, clockReading, call, numberRead, nameOf}
+use Rattle.rules.specs.Calls.{Call, request, sending, result, replied, clockReading, numberRead, nameOf}
 use Rattle.rules.specs.Visits.{visited, storing, leaving, visitSaying, stepped, holderAnswered, erases, decides, decided, sentStep, resultStep, visitSending, visitResult, visitRequest, visit, replySaying, missedSending, missedResult, missedRequest, missed, stopped}
+use Rattle.rules.proofs.Once.{requestingOnce, single}
 
 -- ---- the row of a number in a sound table
 
@@ -164,7 +165,7 @@ module _ (t : List ℕ) (i : ℕ) (same : stored t i (recordAt t i) ≡ t) (requ
   replies Interrogate e number = replies-holder (steps.interrogated (recordAt t i))
 
   visits : (flags : ℕ) (f : Request) → rowOf t (f .number .0) ≡ At i → erasingSound (f .operation) (f .erasing) ≡ true
-      → requests.asking t flags reply requester f ≡ storing t i (visitRequest flags requester reply (some f) (recordAt t i))
+      → requests.askingBy (requests.once t reply requester) t flags reply (some f) ≡ storing t i (visitRequest flags requester reply (some f) (recordAt t i))
   unfolding decided
   visits flags f e h =
       ap (λ done. decide (map (requests.negative t reply) (requests.rightChecks flags (f .erasing))) done)
@@ -208,34 +209,47 @@ module _ (list reply : List ℕ) (requester : Msisdn) (scheme : ℕ) (string : L
 
   -- over a sound table
   module _ (t : List ℕ) (sound : tableSound t ≡ true) where
-    abbrev behind : Outcome
-    behind = requests.askingFor t (flagsOf list (requester .0)) reply requester (requestOf string)
+    -- whatever is done where no check holds
+    module _ (done : Request → Outcome) where
+      abbrev asked : Outcome
+      asked = requests.requestingBy done t list reply requester scheme string
 
-    in-two : requests.requesting t list reply requester scheme string ≡ decide (refusing t reply refusals) behind
-    unfolding requests.requesting
-    in-two = rw sound
+      abbrev behind : Outcome
+      behind = requests.askingBy done t (flagsOf list (requester .0)) reply (requestOf string)
 
-    any-refuses : anyHolds (refusing t reply refusals) ≡ anyHolds refusals
-    any-refuses = any-answering (λ a. made a t reply) refusals
+      in-two : asked ≡ decide (refusing t reply refusals) behind
+      in-two = rw sound
 
-    -- one is refused before it names a number
-    pub request-stops : anyHolds refusals ≡ true → requests.requesting t list reply requester scheme string ≡ made (decide refusals (error 36)) t reply
-    request-stops h =
-        in-two
-        ∙ one-holds (refusing t reply refusals) behind (made (error 36) t reply) (any-refuses ∙ h)
-        ∙ decide-of (λ a. made a t reply) (λ a. made a t reply) (λ a. a) (λ a. refl) refusals (error 36)
+      any-refuses : anyHolds (refusing t reply refusals) ≡ anyHolds refusals
+      any-refuses = any-answering (λ a. made a t reply) refusals
 
-    module _ (f : Request) (passed : anyHolds refusals ≡ false) (reads : requestOf string ≡ some f) where
-      -- none refuses it: its requester's flags and its steps decide
-      pub request-asks : requests.requesting t list reply requester scheme string ≡ requests.asking t (flagsOf list (requester .0)) reply requester f
-      request-asks =
+      -- one is refused before it names a number
+      pub by-stops : anyHolds refusals ≡ true → asked ≡ made (decide refusals (error 36)) t reply
+      by-stops h =
+          in-two
+          ∙ one-holds (refusing t reply refusals) behind (made (error 36) t reply) (any-refuses ∙ h)
+          ∙ decide-of (λ a. made a t reply) (λ a. made a t reply) (λ a. a) (λ a. refl) refusals (error 36)
+
+      -- none refuses it: its requester's flags and what is done decide
+      pub by-asks : (f : Request) → anyHolds refusals ≡ false → requestOf string ≡ some f
+          → asked ≡ requests.askingBy done t (flagsOf list (requester .0)) reply (some f)
+      by-asks f passed reads =
           in-two
           ∙ none-holds (refusing t reply refusals) behind (any-refuses ∙ passed)
-          ∙ ap (requests.askingFor t (flagsOf list (requester .0)) reply requester) reads
+          ∙ ap (requests.askingBy done t (flagsOf list (requester .0)) reply) reads
+
+    request-stops : anyHolds refusals ≡ true → requestingOnce t list reply requester scheme string ≡ made (decide refusals (error 36)) t reply
+    unfolding requestingOnce
+    request-stops = by-stops (requests.once t reply requester)
+
+    module _ (f : Request) (passed : anyHolds refusals ≡ false) (reads : requestOf string ≡ some f) where
+      pub request-asks : requestingOnce t list reply requester scheme string ≡ requests.askingBy (requests.once t reply requester) t (flagsOf list (requester .0)) reply (some f)
+      unfolding requestingOnce
+      request-asks = by-asks (requests.once t reply requester) f passed reads
 
       -- the number is in row i: that row's record decides
       pub request-visits : (i : ℕ) → rowOf t (f .number .0) ≡ At i
-          → requests.requesting t list reply requester scheme string
+          → requestingOnce t list reply requester scheme string
           ≡ storing t i (visitRequest (flagsOf list (requester .0)) requester reply (some f) (recordAt t i))
       request-visits i e =
           request-asks
@@ -243,7 +257,7 @@ module _ (list reply : List ℕ) (requester : Msisdn) (scheme : ℕ) (string : L
 
       -- the number is not in the table
       pub request-misses : rowOf t (f .number .0) ≡ Nothing
-          → requests.requesting t list reply requester scheme string ≡ leaving t (missedRequest (flagsOf list (requester .0)) reply (some f))
+          → requestingOnce t list reply requester scheme string ≡ leaving t (missedRequest (flagsOf list (requester .0)) reply (some f))
       request-misses e =
           request-asks
           ∙ ap (λ done. decide (map (requests.negative t reply) (requests.rightChecks (flagsOf list (requester .0)) (f .erasing))) (requests.replying reply done))
@@ -345,25 +359,25 @@ module _ (t : List ℕ) (number : FunctionalNumber) (kind clock : ℕ) (sound : 
 
 module _ (list : List ℕ) (delay : ℕ) (t : List ℕ) (sound : tableSound t ≡ true) where
   -- the number that the call names is in row i: that row's record decides
-  pub call-visits : (c : Call) (k i : ℕ) → nameOf list c ≡ some k → rowOf t k ≡ At i
-      → call list delay c t ≡ (visit list delay c (recordAt t i) .reply, stored t i (visit list delay c (recordAt t i) .next))
-  call-visits (request requester scheme string reply) k i n e =
+  pub single-visits : (c : Call) (k i : ℕ) → nameOf list c ≡ some k → rowOf t k ≡ At i
+      → single list delay c t ≡ (visit list delay c (recordAt t i) .reply, stored t i (visit list delay c (recordAt t i) .next))
+  single-visits (request requester scheme string reply) k i n e =
       let x = naming list reply requester scheme string k n in
       ap replied (request-visits list reply requester scheme string t sound (x .fields) (x .passed) (x .reads) i (rw (x .names) e) ∙ rw (x .reads))
-  call-visits (sending now number buffer) k i n e = ap replied (sending-visits t buffer number delay (clockReading now) sound i (cc))
-  call-visits (result now number kind) k i n e = ap replied (result-visits t number kind (clockReading now) sound i (cc))
+  single-visits (sending now number buffer) k i n e = ap replied (sending-visits t buffer number delay (clockReading now) sound i (cc))
+  single-visits (result now number kind) k i n e = ap replied (result-visits t number kind (clockReading now) sound i (cc))
 
   -- it is not in the table
-  pub call-misses : (c : Call) (k : ℕ) → nameOf list c ≡ some k → rowOf t k ≡ Nothing → call list delay c t ≡ (missed list c, t)
-  call-misses (request requester scheme string reply) k n e =
+  pub single-misses : (c : Call) (k : ℕ) → nameOf list c ≡ some k → rowOf t k ≡ Nothing → single list delay c t ≡ (missed list c, t)
+  single-misses (request requester scheme string reply) k n e =
       let x = naming list reply requester scheme string k n in
       ap replied (request-misses list reply requester scheme string t sound (x .fields) (x .passed) (x .reads) (rw (x .names) e) ∙ rw (x .reads))
-  call-misses (sending now number buffer) k n e = ap replied (sending-misses t buffer number delay (clockReading now) sound (cc))
-  call-misses (result now number kind) k n e = ap replied (result-misses t number kind (clockReading now) sound (cc))
+  single-misses (sending now number buffer) k n e = ap replied (sending-misses t buffer number delay (clockReading now) sound (cc))
+  single-misses (result now number kind) k n e = ap replied (result-misses t number kind (clockReading now) sound (cc))
 
   -- the call names none
-  pub call-stops : (c : Call) → nameOf list c ≡ none → call list delay c t ≡ (stopped list c, t)
-  call-stops (request requester scheme string reply) n =
+  pub single-stops : (c : Call) → nameOf list c ≡ none → single list delay c t ≡ (stopped list c, t)
+  single-stops (request requester scheme string reply) n =
       ap replied (request-stops list reply requester scheme string t sound (unnamed list reply requester scheme string n))
-  call-stops (sending now number buffer) n = not-some (sym n)
-  call-stops (result now number kind) n = not-some (sym n)
+  single-stops (sending now number buffer) n = not-some (sym n)
+  single-stops (result now number kind) n = not-some (sym n)

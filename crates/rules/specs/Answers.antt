@@ -6,7 +6,7 @@ use lib.ListN.{length}
 use lib.Dec.{eqb}
 use Rattle.answers.specs.Writing.{over}
 use Rattle.packing.specs.Packing.{packed}
-use Rattle.numbers.specs.Numbers.{digitsOf}
+use Rattle.numbers.specs.Numbers.{digitsOf, twoDigits}
 
 -- "Refusals, errors and outcomes are numbered apart"
 pub data Answer : Type 0 where
@@ -64,6 +64,13 @@ againNumber = 2
 abbrev pub interrogationNumber : ℕ
 interrogationNumber = 3
 
+-- "The reply is 11 or 12": of a crew's registration, of its erasure
+abbrev pub crewRegistered : ℕ
+crewRegistered = 11
+
+abbrev pub crewErased : ℕ
+crewErased = 12
+
 -- the octet count, and the MSISDN of the holder or the addressee or the number found; 0 where an answer has none
 pub record Numbers : Type 0 where
   pub class : ℕ
@@ -100,9 +107,9 @@ isError a = isOf errorClass a
 abbrev pub isOutcome : ℕ → Answer → Bool
 isOutcome n a = isOf outcomeClass a && eqb (numbersOf a .number) n
 
--- a negative outcome: none of 01, 02 and 03
+-- a negative outcome: none of 01, 02 and 03, and none of a crew's, 11 and 12
 abbrev pub isNegativeNumber : ℕ → Bool
-isNegativeNumber n = not (eqb n 1 || eqb n 2 || eqb n interrogationNumber)
+isNegativeNumber n = not (eqb n 1 || eqb n 2 || eqb n interrogationNumber || eqb n crewRegistered || eqb n crewErased)
 
 abbrev pub isNegative : Answer → Bool
 isNegative a = isOf outcomeClass a && isNegativeNumber (numbersOf a .number)
@@ -128,10 +135,6 @@ made a t b = record { answer = a; table = t; buffer = b }
 -- the reply and notice buffers: "under 80 octets" is refusal 1
 abbrev pub bufferRoom : ℕ
 bufferRoom = 80
-
--- an outcome's two characters
-abbrev pub twoDigits : ℕ → List ℕ
-twoDigits n = (48 + n / 10) ∷ (48 + n % 10) ∷ []
 
 -- "Interrogation answers 03, and the MSISDN is written into the reply text after the code and the space"
 abbrev pub holderText : ℕ → List ℕ

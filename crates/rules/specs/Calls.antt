@@ -1,21 +1,24 @@
--- Requests, sendings and results as calls over one table, with one subscriber list and one delay; and the number that a call names. Assumes nothing.
+-- Requests, sendings and results as calls over one table, with one subscriber list and one delay; the numbers that a call names; and its single steps. Assumes nothing.
 use Prim.Native.Nat.{ℕ, _*_, _%_, _^_}
-use mathlib.Core.Bool.{Bool, true, false, cond}
+use mathlib.Core.Bool.{Bool, true, false, cond, not, _||_}
 use mathlib.Core.Option.{Option, none, some}
-use mathlib.Core.List.{List, []}
+use mathlib.Core.List.{List, [], _∷_, _++_, map}
 use lib.ListN.{take, drop}
 use lib.Dec.{eqb}
 use Rattle.answers.specs.Checks.{anyHolds}
+use Rattle.packing.specs.Packing.{packed}
 use Rattle.numbers.specs.declared.FunctionalNumber.{FunctionalNumber}
 use Rattle.numbers.specs.declared.Msisdn.{Msisdn}
-use Rattle.strings.specs.Text.{Request}
+use Rattle.crews.specs.Crews.{isIn, crewOf}
+use Rattle.strings.specs.Text.{Request, textOf}
 use Rattle.strings.specs.Outcomes.{requestOf}
 use Rattle.rows.specs.Rows.{rowWords}
 use Rattle.tables.specs.declared.Found.{Found}
 use Rattle.tables.specs.declared.Found.the-variants.{At, Nothing}
-use Rattle.tables.specs.Tables.{rowOf}
+use Rattle.tables.specs.Tables.{rowOf, flagsOf}
 use Rattle.rules.specs.Answers.{Answer, Outcome}
-use Rattle.rules.specs.Requests as requests
+use Rattle.rules.specs.Requests.{hasFollowMe, refusalChecks}
+use Rattle.rules.specs.Crews.{withCode, memberOf, crewCodes, requesting}
 use Rattle.rules.specs.Notices as notices
 
 -- a call, with its own clock and buffer
@@ -47,7 +50,7 @@ clockReading now = now % 2 ^ 32
 
 -- one call over the table
 abbrev pub call : List ℕ → ℕ → Call → List ℕ → Reply × List ℕ
-call list delay (request requester scheme string reply) table = replied (requests.requesting table list reply requester scheme string)
+call list delay (request requester scheme string reply) table = replied (requesting table list reply requester scheme string)
 call list delay (sending now number buffer) table = replied (notices.sendingNotice table buffer number delay (clockReading now))
 call list delay (result now number kind) table = replied (notices.takingResult table number kind (clockReading now))
 
@@ -59,7 +62,7 @@ numberRead (some f) = some (f .number .0)
 -- The table is sound here, as it is before each call of demand 3's lists. A sending or a result names the number that it is given
 abbrev pub nameOf : List ℕ → Call → Option ℕ
 nameOf list (request requester scheme string reply) =
-    cond (anyHolds (requests.refusalChecks true list reply requester scheme string)) none (numberRead (requestOf string))
+    cond (anyHolds (refusalChecks true list reply requester scheme string)) none (numberRead (requestOf string))
 nameOf list (sending now number buffer) = some (number .0)
 nameOf list (result now number kind) = some (number .0)
 
@@ -67,8 +70,58 @@ abbrev pub isNamed : Option ℕ → ℕ → Bool
 isNamed none k = false
 isNamed (some n) k = eqb n k
 
+-- a single step names k
+abbrev pub namesOne : List ℕ → Call → ℕ → Bool
+namesOne list c k = isNamed (nameOf list c) k
+
+-- ---- crews
+
+-- the codes of a crew's request; no other call has any
+abbrev pub codesRead : Option Request → Option (List ℕ)
+codesRead none = none
+codesRead (some f) = crewOf (f .additional)
+
+abbrev pub codesOf : Call → Option (List ℕ)
+codesOf (request requester scheme string reply) = codesRead (requestOf string)
+codesOf (sending now number buffer) = none
+codesOf (result now number kind) = none
+
+-- "In demand 3 such a call names all its numbers"; any other names one at most
+abbrev pub allNamed : Option ℕ → Option (List ℕ) → List ℕ
+allNamed none codes = []
+allNamed (some k) none = k ∷ []
+allNamed (some k) (some codes) = map (withCode k) (crewCodes codes)
+
 abbrev pub names : List ℕ → Call → ℕ → Bool
-names list c k = isNamed (nameOf list c) k
+names list c k = isIn k (allNamed (nameOf list c) (codesOf c))
+
+-- a crew's single requests, each with the same requester, scheme and buffer, its string as the request writer makes it
+abbrev pub singleCalls : Msisdn → ℕ → List ℕ → Request → List ℕ → List Call
+singleCalls requester scheme reply f codes = map (λ code. request requester scheme (packed (textOf (memberOf f code))) reply) (crewCodes codes)
+
+-- a crew's request that is refused, in error or answered 42 has no step; any other call is its own step
+abbrev pub stepsFor : Call → Bool → Msisdn → ℕ → List ℕ → Request → Option (List ℕ) → List Call
+stepsFor c stops requester scheme reply f none = c ∷ []
+stepsFor c stops requester scheme reply f (some codes) = cond stops [] (singleCalls requester scheme reply f codes)
+
+abbrev pub stepsRead : Call → Bool → Msisdn → ℕ → List ℕ → Option Request → List Call
+stepsRead c stops requester scheme reply none = c ∷ []
+stepsRead c stops requester scheme reply (some f) = stepsFor c stops requester scheme reply f (crewOf (f .additional))
+
+abbrev pub stepsOf : List ℕ → Call → List Call
+stepsOf list (request requester scheme string reply) =
+    stepsRead (request requester scheme string reply)
+    (anyHolds (refusalChecks true list reply requester scheme string) || not (hasFollowMe (flagsOf list (requester .0))))
+    requester scheme reply (requestOf string)
+stepsOf list (sending now number buffer) = sending now number buffer ∷ []
+stepsOf list (result now number kind) = result now number kind ∷ []
+
+-- the single steps of a list of calls, in their order
+abbrev pub steps : List ℕ → List Call → List Call
+steps list [] = []
+steps list (c ∷ cs) = stepsOf list c ++ steps list cs
+
+-- ---- a number alone
 
 -- the row of a number alone; the empty table where it has none
 abbrev pub rowAlone : List ℕ → Found → List ℕ

@@ -5,13 +5,14 @@ use mathlib.Core.Option.{Option, none, some}
 use mathlib.Core.List.{List}
 use Prim.Native.Nat.{ℕ, _<_}
 use lib.ListN.{length, getElem?}
+use Rattle.numbers.specs.Numbers.{twoDigits}
 use Rattle.strings.specs.Text.{Request}
 use Rattle.strings.specs.Outcomes.{requestOf}
 use Rattle.tables.specs.Tables.{recordOf}
-use Rattle.rules.specs.Answers.{numbersOf, outcomeClass, isOf, isRefusal, isError, isOutcome, isNegative, twoDigits, packedOver}
+use Rattle.rules.specs.Answers.{Answer, numbersOf, outcomeClass, crewRegistered, crewErased, isOf, isRefusal, isError, isOutcome, isNegative, packedOver}
 use Rattle.rules.specs.Requests.{isRegister, holderIn}
 use Rattle.rules.specs.Run.{only, last, end, log, Rearranged}
-use Rattle.rules.specs.Calls.{Call, request, sending, result, bufferOf, Reply, call, nameOf, names, alone}
+use Rattle.rules.specs.Calls.{Call, request, sending, result, bufferOf, Reply, call, nameOf, namesOne, codesOf, names, stepsOf, steps, alone}
 
 -- ---- who holds a number
 
@@ -21,11 +22,11 @@ requesterOf (request requester scheme string reply) = requester .0
 requesterOf (sending now number buffer) = 0
 requesterOf (result now number kind) = 0
 
--- a call that names k and was answered 01 or 02
+-- a step that names k and was answered 01 or 02
 abbrev pub decidesHolder : List ℕ → ℕ → Call × Reply → Bool
-decidesHolder list k p = names list (p .0) k && (isOutcome 1 (p .1 .answer) || isOutcome 2 (p .1 .answer))
+decidesHolder list k p = namesOne list (p .0) k && (isOutcome 1 (p .1 .answer) || isOutcome 2 (p .1 .answer))
 
--- the holder after the last such call: its requester if it was answered 01, nobody if it was 02, the starting holder if there is none
+-- the holder after the last such step: its requester if it was answered 01, nobody if it was 02, the starting holder if there is none
 abbrev pub holderAfter : Option (Call × Reply) → ℕ → ℕ
 holderAfter none start = start
 holderAfter (some p) start = cond (isOutcome 1 (p .1 .answer)) (requesterOf (p .0)) 0
@@ -46,6 +47,14 @@ registers (result now number kind) = false
 
 -- ---- demand 1
 
+-- 11 or 12
+abbrev pub isCrewOutcome : Answer → Bool
+isCrewOutcome a = isOutcome crewRegistered a || isOutcome crewErased a
+
+-- 01 or 02, or a crew's
+abbrev pub mayChange : Answer → Bool
+mayChange a = isOutcome 1 a || isOutcome 2 a || isCrewOutcome a
+
 module _ (list : List ℕ) (delay : ℕ) (c : Call) (table : List ℕ) where
   abbrev got : Reply
   got = call list delay c table .0
@@ -60,19 +69,20 @@ module _ (list : List ℕ) (delay : ℕ) (c : Call) (table : List ℕ) where
     -- a negative outcome writes its two characters and changes no table
     pub negative :
         isNegative (got .answer) ≡ true → (after ≡ table) × (got .buffer ≡ packedOver (twoDigits (numbersOf (got .answer) .number)) (bufferOf c))
-    -- "outcomes other than a changing 01 or 02 leave the table"
-    pub others : isOf outcomeClass (got .answer) ≡ true → (isOutcome 1 (got .answer) || isOutcome 2 (got .answer)) ≡ false → after ≡ table
+    -- "outcomes other than a changing 01 or 02 leave the table", each step of a crew read as a call
+    pub others : isOf outcomeClass (got .answer) ≡ true → mayChange (got .answer) ≡ false → after ≡ table
+    pub crew : isCrewOutcome (got .answer) ≡ true → after ≡ end (call list delay) (stepsOf list c) table
     -- 01 is "no change if already so": a holder who registers again changes nothing
-    pub registered-again : (k : ℕ) → nameOf list c ≡ some k → registers c ≡ true → holderOf table k ≡ requesterOf c → after ≡ table
+    pub registered-again : (k : ℕ) → nameOf list c ≡ some k → codesOf c ≡ none → registers c ≡ true → holderOf table k ≡ requesterOf c → after ≡ table
 
 -- ---- demand 3: for one sound table, list and permitted delay, any list of requests, sendings and results, each with its own clock and buffer
 
--- the calls that name k, and what calls that name k got, in their order
+-- the steps that name k, and what steps that name k got, in their order
 abbrev pub callsOf : List ℕ → ℕ → List Call → List Call
-callsOf list k cs = only (λ c. names list c k) cs
+callsOf list k cs = only (λ c. namesOne list c k) cs
 
 abbrev pub gotBy : List ℕ → ℕ → List (Call × Reply) → List (Call × Reply)
-gotBy list k ps = only (λ p. names list (p .0) k) ps
+gotBy list k ps = only (λ p. namesOne list (p .0) k) ps
 
 module _ (list : List ℕ) (delay : ℕ) (table : List ℕ) where
   abbrev run : Call → List ℕ → Reply × List ℕ
@@ -85,11 +95,13 @@ module _ (list : List ℕ) (delay : ℕ) (table : List ℕ) where
         → getElem? (log run ds table) (r .to i) ≡ getElem? (log run cs table) i
     -- and the end table is the same, word for word
     pub end-table : (cs ds : List Call) → Rearranged (names list) cs ds → end run ds table ≡ end run cs table
-    -- each number's answers and octets are those of the calls naming it, in their order, run on its row alone, on the empty table if it has none
-    pub alone-answers : (k : ℕ) (cs : List Call) → gotBy list k (log run cs table) ≡ log run (callsOf list k cs) (alone table k)
+    -- the last two sentences "read each single step as a call": the single steps leave the same table
+    pub steps-table : (cs : List Call) → end run cs table ≡ end run (steps list cs) table
+    -- each number's answers and octets are those of the steps naming it, in their order, run on its row alone, on the empty table if it has none
+    pub alone-answers : (k : ℕ) (cs : List Call) → gotBy list k (log run (steps list cs) table) ≡ log run (callsOf list k (steps list cs)) (alone table k)
     -- and so is its record at the end; if it is not in the table, there is none on either side
-    pub alone-record : (k : ℕ) (cs : List Call) → recordOf (end run cs table) k ≡ recordOf (end run (callsOf list k cs) (alone table k)) k
-    -- its holder at the end is the requester of its last call answered 01 or 02 if that was 01, nobody if it was 02, else the starting holder
+    pub alone-record : (k : ℕ) (cs : List Call) → recordOf (end run cs table) k ≡ recordOf (end run (callsOf list k (steps list cs)) (alone table k)) k
+    -- its holder at the end is the requester of its last step answered 01 or 02 if that was 01, nobody if it was 02, else the starting holder
     pub held :
         (k : ℕ) (cs : List Call)
-        → holderOf (end run cs table) k ≡ holderAfter (last (only (decidesHolder list k) (log run cs table))) (holderOf table k)
+        → holderOf (end run cs table) k ≡ holderAfter (last (only (decidesHolder list k) (log run (steps list cs) table))) (holderOf table k)

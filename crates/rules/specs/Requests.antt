@@ -6,7 +6,7 @@ use mathlib.Core.List.{List, [], _∷_, map}
 use lib.ListN.{length}
 use lib.Dec.{eqb, ltb}
 use Rattle.answers.specs.Checks.{decide, isNone}
-use Rattle.numbers.specs.Numbers.{isNumber}
+use Rattle.numbers.specs.Numbers.{isNumber, twoDigits}
 use Rattle.numbers.specs.declared.Msisdn.{Msisdn}
 use Rattle.strings.specs.declared.Operation.{Operation}
 use Rattle.strings.specs.declared.Operation.the-variants.{Register, Erase, Interrogate}
@@ -20,7 +20,7 @@ use Rattle.rows.specs.Rows.{stored, recordAt}
 use Rattle.tables.specs.declared.Found.{Found}
 use Rattle.tables.specs.declared.Found.the-variants.{At, Nothing}
 use Rattle.tables.specs.Tables.{tableSound, listSound, rowOf, recordOf, flagsOf}
-use Rattle.rules.specs.Answers.{Answer, refusal, error, outcome, holderIs, Outcome, made, bufferRoom, twoDigits, holderText, packedOver, octetCount, refusing}
+use Rattle.rules.specs.Answers.{Answer, refusal, error, outcome, holderIs, Outcome, made, bufferRoom, holderText, packedOver, octetCount, refusing}
 
 -- ---- what the checks look at
 
@@ -158,17 +158,17 @@ answered reply (tells msisdn) table = made (holderIs msisdn (octetCount (holderT
 abbrev pub replying : List ℕ → Stepping → Outcome
 replying reply s = answered reply (s .verdict) (s .table)
 
--- a request whose string reads as f, by the requester's flags
-abbrev pub asking : List ℕ → ℕ → List ℕ → Msisdn → Request → Outcome
-asking table flags reply requester f = decide (map (negative table reply) (rightChecks flags (f .erasing))) (replying reply (step table requester f))
+-- a single request, where no check of the requester's rights holds
+abbrev pub once : List ℕ → List ℕ → Msisdn → Request → Outcome
+once table reply requester f = replying reply (step table requester f)
 
--- one whose string does not read has ended with error 36 before this
-abbrev pub askingFor : List ℕ → ℕ → List ℕ → Msisdn → Option Request → Outcome
-askingFor table flags reply requester none = made (error 36) table reply
-askingFor table flags reply requester (some f) = asking table flags reply requester f
+-- by what the string reads as, and what is then done; one that does not read has ended with error 36 before this
+abbrev pub askingBy : (Request → Outcome) → List ℕ → ℕ → List ℕ → Option Request → Outcome
+askingBy done table flags reply none = made (error 36) table reply
+askingBy done table flags reply (some f) = decide (map (negative table reply) (rightChecks flags (f .erasing))) (done f)
 
 -- every row of the table, in its order
-unfoldable pub requesting : List ℕ → List ℕ → List ℕ → Msisdn → ℕ → List ℕ → Outcome
-requesting table list reply requester scheme string =
+abbrev pub requestingBy : (Request → Outcome) → List ℕ → List ℕ → List ℕ → Msisdn → ℕ → List ℕ → Outcome
+requestingBy done table list reply requester scheme string =
     decide (refusing table reply (refusalChecks (tableSound table) list reply requester scheme string))
-    (askingFor table (flagsOf list (requester .0)) reply requester (requestOf string))
+    (askingBy done table (flagsOf list (requester .0)) reply (requestOf string))

@@ -17,7 +17,7 @@ use Rattle.records.specs.Steps.{same}
 use Rattle.tables.specs.Tables.{recordOf, listSound, flagsOf}
 use Rattle.rules.specs.Answers.{sentTo, isOutcome, bufferRoom, packedOver, octetCount}
 use Rattle.rules.specs.Requests.{isErase, noNotice, codingScheme, mostStringOctets}
-use Rattle.rules.specs.Calls.{Call, request, sending, result, Reply, names}
+use Rattle.rules.specs.Calls.{Call, request, sending, result, Reply, namesOne}
 use Rattle.rules.specs.Demand.{registers, requesterOf, holderOf}
 
 -- ---- the driver
@@ -48,21 +48,21 @@ isRequest (result now number kind) = false
 
 -- of the call c over a table, that got the reply a and left the table `after`: it has ended h's hold of k
 pub record HoldEnded (list : List ℕ) (h : Msisdn) (k : ℕ) (c : Call) (table : List ℕ) (a : Reply) (after : List ℕ) : Type 0 where
-  pub named : names list c k ≡ true
+  pub named : namesOne list c k ≡ true
   pub erasure : mayEndHold list h (noNotice (recordOf table k)) c ≡ true
   pub answered : isOutcome 2 (a .answer) ≡ true
   pub nobody : holderOf after k ≡ 0
 
 -- it has given k to its requester
 pub record HoldBegun (list : List ℕ) (k : ℕ) (c : Call) (a : Reply) (after : List ℕ) : Type 0 where
-  pub named : names list c k ≡ true
+  pub named : namesOne list c k ≡ true
   pub registration : registers c ≡ true
   pub answered : isOutcome 1 (a .answer) ≡ true
   pub requester : holderOf after k ≡ requesterOf c
 
 -- an entry of a log that may have ended h's hold of k: it names k, is such an erasure, and was answered 02 (so at phase 0, where it has to be)
 abbrev pub endsHold : List ℕ → Msisdn → ℕ → Call × Reply → Bool
-endsHold list h k entry = names list (entry .0) k && mayEndHold list h true (entry .0) && isOutcome 2 (entry .1 .answer)
+endsHold list h k entry = namesOne list (entry .0) k && mayEndHold list h true (entry .0) && isOutcome 2 (entry .1 .answer)
 
 -- ---- the controller
 

@@ -5,6 +5,7 @@ use mathlib.Core.Option.{Option, none, some}
 use mathlib.Core.List.{List, [], _∷_}
 use lib.ListN.{length}
 use lib.Dec.{ltb}
+use Rattle.numbers.specs.Numbers.{twoDigits}
 use Rattle.answers.specs.Checks.{decide}
 use Rattle.numbers.specs.declared.FunctionalNumber.{FunctionalNumber}
 use Rattle.numbers.specs.declared.Msisdn.{Msisdn}
@@ -26,7 +27,7 @@ use Rattle.records.specs.declared.Resulted.the-variants.{Refused, Delivered, Dr
 use Rattle.records.specs.Steps as steps
 use Rattle.rows.specs.Rows.{stored}
 use Rattle.tables.specs.Tables.{flagsOf}
-use Rattle.rules.specs.Answers.{Answer, refusal, error, outcome, holderIs, sentTo, delivered, dropped, again, Outcome, made, bufferRoom, twoDigits, holderText, packedOver, octetCount}
+use Rattle.rules.specs.Answers.{Answer, refusal, error, outcome, holderIs, sentTo, delivered, dropped, again, Outcome, made, bufferRoom, holderText, packedOver, octetCount}
 use Rattle.rules.specs.Requests.{hasFollowMe, isSupervisor, isForced, refusalChecks}
 use Rattle.rules.specs.Calls.{Call, request, sending, result, Reply, clockReading}
 

@@ -1,0 +1,198 @@
+-- Every call is local, a crew's too: it reads and writes the records of the numbers that it names. And its single steps leave the table that it leaves. Assumes nothing.
+use mathlib.Core.Path.{_≡_, refl, sym, ap, _∙_}
+use mathlib.Core.Bool.{Bool, true, false, not, _||_}
+use mathlib.Core.Option.{Option, none, some}
+use mathlib.Core.List.{List, [], _∷_, _++_, map}
+use Prim.Native.Nat.{ℕ}
+use lib.Dec.{eqb}
+use Rattle.numbers.specs.declared.Msisdn.{Msisdn}
+use Rattle.crews.specs.Crews.{isIn}
+use Rattle.records.specs.declared.Record.{Record}
+use Rattle.tables.specs.Tables.{tableSound, recordOf}
+use Rattle.rules.specs.Crews.{crewCodes, crewNumber, Walk, crewOutcome}
+use Rattle.rules.specs.Run.{end, log, Local}
+use Rattle.rules.specs.Calls.{Call, request, Reply, replied, call, nameOf, isNamed, namesOne, codesOf, allNamed, names, stepsOf, steps}
+use Rattle.rules.specs.Singles.{succeeds, codesWhere}
+use Rattle.rules.proofs.Once.{single}
+use Rattle.rules.proofs.Unsound.{unsound-call, unsound-end}
+use Rattle.rules.proofs.Rearrange.{end-inv}
+use Rattle.rules.proofs.Runs.{anyNames, runs-other, runs-log, runs-own}
+use Rattle.rules.proofs.Local.{singles-local}
+use Rattle.rules.proofs.Steps.{call-single, AllSingle, singles-end, Goes, goes-room, goes-walks, walk, View, own, stops, goes, view, singly, small, singly-single, singly-walks, names-in}
+
+abbrev look : ℕ → List ℕ → Option Record
+look k t = recordOf t k
+
+abbrev Sound : List ℕ → Type 0
+Sound t = tableSound t ≡ true
+
+-- ---- what a call names
+
+-- one that is no crew's names one number at most
+pub names-own : (list : List ℕ) (c : Call) (k : ℕ) → codesOf c ≡ none → names list c k ≡ namesOne list c k
+unfolding isIn
+names-own list c k e = ap (λ codes. isIn k (allNamed (nameOf list c) codes)) e ∙ go (nameOf list c)
+  where
+    no-other : (b : Bool) → (b || false) ≡ b
+    no-other true = refl
+    no-other false = refl
+
+    go : (n : Option ℕ) → isIn k (allNamed n none) ≡ isNamed n k
+    go none = refl
+    go (some j) = no-other (eqb j k)
+
+-- ---- a crew that goes
+
+-- the reply has the codes, and no table
+reply-same : (n : ℕ) (reply : List ℕ) (w v : Walk) → w .successes ≡ v .successes → w .failures ≡ v .failures
+    → replied (crewOutcome n reply w) .0 ≡ replied (crewOutcome n reply v) .0
+reply-same n reply w v p q = rw (p, q) refl
+
+module _ (list : List ℕ) (delay : ℕ) (requester : Msisdn) (scheme : ℕ) (string reply : List ℕ) (g : Goes list requester scheme string reply) where
+  abbrev it : Call
+  it = request requester scheme string reply
+
+  abbrev its : List Call
+  its = singly list delay requester scheme string reply g (λ code. reply) (λ code. goes-room list requester scheme string reply g)
+
+  abbrev n : ℕ
+  n = crewNumber (g .fields .operation)
+
+  walking : (t : List ℕ) → tableSound t ≡ true → call list delay it t ≡ replied (crewOutcome n reply (walk list requester scheme string reply g t))
+  walking t sound = ap replied (goes-walks list requester scheme string reply g t sound)
+
+  pub goes-table : (t : List ℕ) → tableSound t ≡ true → call list delay it t .1 ≡ end (single list delay) its t
+  goes-table t sound =
+      ap (λ r. r .1) (walking t sound)
+      ∙ singly-walks list delay requester scheme string reply g (λ code. reply) (λ code. goes-room list requester scheme string reply g) t sound .table
+
+  goes-names : (k : ℕ) → names list it k ≡ anyNames (namesOne list) its k
+  goes-names k =
+      rw (g .passed, g .reads, g .crew) refl
+      ∙ sym (names-in list delay requester scheme string reply g (λ code. reply) (λ code. goes-room list requester scheme string reply g) (crewCodes (g .codes)) k
+      (small list delay requester scheme string reply g (λ code. reply) (λ code. goes-room list requester scheme string reply g)))
+
+  module _ (t u : List ℕ) (st : tableSound t ≡ true) (su : tableSound u ≡ true) (same : (k : ℕ) → names list it k ≡ true → look k t ≡ look k u) where
+    same-singly : (k : ℕ) → anyNames (namesOne list) its k ≡ true → look k t ≡ look k u
+    same-singly k m = same k (goes-names k ∙ m)
+
+    same-got : log (single list delay) its t ≡ log (single list delay) its u
+    same-got = runs-log (single list delay) (namesOne list) look Sound (singles-local list delay) its t u st su same-singly
+
+    goes-answer : call list delay it t .0 ≡ call list delay it u .0
+    goes-answer =
+        let x = singly-walks list delay requester scheme string reply g (λ code. reply) (λ code. goes-room list requester scheme string reply g) t st in
+        let y = singly-walks list delay requester scheme string reply g (λ code. reply) (λ code. goes-room list requester scheme string reply g) u su in
+        ap (λ r. r .0) (walking t st)
+        ∙ reply-same n reply (walk list requester scheme string reply g t) (walk list requester scheme string reply g u)
+        (x .successes ∙ ap (codesWhere succeeds (crewCodes (g .codes))) same-got ∙ sym (y .successes))
+        (x .failures ∙ ap (codesWhere (λ a. not (succeeds a)) (crewCodes (g .codes))) same-got ∙ sym (y .failures))
+        ∙ sym (ap (λ r. r .0) (walking u su))
+
+    goes-own : (k : ℕ) → names list it k ≡ true → look k (call list delay it t .1) ≡ look k (call list delay it u .1)
+    goes-own k m =
+        ap (look k) (goes-table t st)
+        ∙ runs-own (single list delay) (namesOne list) look Sound (singles-local list delay) its t u k st su same-singly (sym (goes-names k) ∙ m)
+        ∙ sym (ap (look k) (goes-table u su))
+
+  goes-keeps : (t : List ℕ) → tableSound t ≡ true → tableSound (call list delay it t .1) ≡ true
+  goes-keeps t sound =
+      ap tableSound (goes-table t sound) ∙ end-inv (single list delay) (namesOne list) look Sound (singles-local list delay) its t sound
+
+  goes-other : (t : List ℕ) (k : ℕ) → tableSound t ≡ true → names list it k ≡ false → look k (call list delay it t .1) ≡ look k t
+  goes-other t k sound m =
+      ap (look k) (goes-table t sound)
+      ∙ runs-other (single list delay) (namesOne list) look Sound (singles-local list delay) its t k sound (sym (goes-names k) ∙ m)
+
+-- ---- every call
+
+module _ (list : List ℕ) (delay : ℕ) where
+  abbrev locally : Local (single list delay) (namesOne list) look Sound
+  locally = singles-local list delay
+
+  keep : {c : Call} → View list delay c → (t : List ℕ) → Sound t → Sound (call list delay c t .1)
+  keep (own c e s) t sound = rw (call-single list delay c t e) (locally .keep c t sound)
+  keep (stops c r f s) t sound = rw (f t sound) sound
+  keep (goes {requester = requester} {scheme = scheme} {string = string} {reply = reply} g s) t sound =
+      goes-keeps list delay requester scheme string reply g t sound
+
+  other : {c : Call} → View list delay c → (t : List ℕ) (k : ℕ) → Sound t → names list c k ≡ false → look k (call list delay c t .1) ≡ look k t
+  other (own c e s) t k sound m = rw (call-single list delay c t e) (locally .other c t k sound (sym (names-own list c k e) ∙ m))
+  other (stops c r f s) t k sound m = rw (f t sound) refl
+  other (goes {requester = requester} {scheme = scheme} {string = string} {reply = reply} g s) t k sound m =
+      goes-other list delay requester scheme string reply g t k sound m
+
+  answer : {c : Call} → View list delay c → (t u : List ℕ) → Sound t → Sound u → ((k : ℕ) → names list c k ≡ true → look k t ≡ look k u)
+      → call list delay c t .0 ≡ call list delay c u .0
+  answer (own c e s) t u st su same =
+      ap (λ r. r .0) (call-single list delay c t e)
+      ∙ locally .answer c t u st su (λ k m. same k (names-own list c k e ∙ m))
+      ∙ sym (ap (λ r. r .0) (call-single list delay c u e))
+  answer (stops c r f s) t u st su same = ap (λ x. x .0) (f t st) ∙ sym (ap (λ x. x .0) (f u su))
+  answer (goes {requester = requester} {scheme = scheme} {string = string} {reply = reply} g s) t u st su same =
+      goes-answer list delay requester scheme string reply g t u st su same
+
+  mine : {c : Call} → View list delay c → (t u : List ℕ) (k : ℕ) → Sound t → Sound u → ((j : ℕ) → names list c j ≡ true → look j t ≡ look j u)
+      → names list c k ≡ true → look k (call list delay c t .1) ≡ look k (call list delay c u .1)
+  mine (own c e s) t u k st su same m =
+      ap (λ r. look k (r .1)) (call-single list delay c t e)
+      ∙ locally .own c t u k st su (λ j q. same j (names-own list c j e ∙ q)) (sym (names-own list c k e) ∙ m)
+      ∙ sym (ap (λ r. look k (r .1)) (call-single list delay c u e))
+  mine (stops c r f s) t u k st su same m = ap (λ x. look k (x .1)) (f t st) ∙ same k m ∙ sym (ap (λ x. look k (x .1)) (f u su))
+  mine (goes {requester = requester} {scheme = scheme} {string = string} {reply = reply} g s) t u k st su same m =
+      goes-own list delay requester scheme string reply g t u st su same k m
+
+  pub calls-local : Local (call list delay) (names list) look Sound
+  calls-local = record {
+    keep = λ c t s. keep (view list delay c) t s;
+    other = λ c t k s m. other (view list delay c) t k s m;
+    answer = λ c t u s v h. answer (view list delay c) t u s v h;
+    own = λ c t u k s v h m. mine (view list delay c) t u k s v h m;
+  }
+
+  -- ---- its single steps
+
+  -- they are single
+  steps-single : {c : Call} → View list delay c → AllSingle (stepsOf list c)
+  steps-single (own c e s) = rw s (e, tt)
+  steps-single (stops c r f s) = rw s tt
+  steps-single (goes {requester = requester} {scheme = scheme} {string = string} {reply = reply} g s) =
+      rw s (singly-single list delay requester scheme string reply g (λ code. reply) (λ code. goes-room list requester scheme string reply g))
+
+  both-single : (cs ds : List Call) → AllSingle cs → AllSingle ds → AllSingle (cs ++ ds)
+  both-single [] ds a b = b
+  both-single (c ∷ cs) ds (e, a) b = (e, both-single cs ds a b)
+
+  pub all-steps-single : (cs : List Call) → AllSingle (steps list cs)
+  all-steps-single [] = tt
+  all-steps-single (c ∷ cs) = both-single (stepsOf list c) (steps list cs) (steps-single (view list delay c)) (all-steps-single cs)
+
+  -- they leave the table that the call leaves
+  step-table : {c : Call} → View list delay c → (t : List ℕ) → Sound t → call list delay c t .1 ≡ end (call list delay) (stepsOf list c) t
+  step-table (own c e s) t sound = rw s refl
+  step-table (stops c r f s) t sound = rw (f t sound, s) refl
+  step-table (goes {requester = requester} {scheme = scheme} {string = string} {reply = reply} g s) t sound =
+      goes-table list delay requester scheme string reply g t sound
+      ∙ sym (singles-end list delay (singly list delay requester scheme string reply g (λ code. reply) (λ code. goes-room list requester scheme string reply g)) t
+      (singly-single list delay requester scheme string reply g (λ code. reply) (λ code. goes-room list requester scheme string reply g)))
+      ∙ ap (λ cs. end (call list delay) cs t) (sym s)
+
+  pub step-end : (c : Call) (t : List ℕ) → Sound t → call list delay c t .1 ≡ end (call list delay) (stepsOf list c) t
+  step-end c = step-table (view list delay c)
+
+  end-behind : (cs ds : List Call) (t : List ℕ) → end (call list delay) (cs ++ ds) t ≡ end (call list delay) ds (end (call list delay) cs t)
+  end-behind [] ds t = refl
+  end-behind (c ∷ cs) ds t = end-behind cs ds (call list delay c t .1)
+
+  -- whatever the table: an unsound one stays
+  pub steps-end : (cs : List Call) (t : List ℕ) → end (call list delay) cs t ≡ end (call list delay) (steps list cs) t
+  steps-end [] t = refl
+  steps-end (c ∷ cs) t =
+      steps-end cs (call list delay c t .1)
+      ∙ ap (end (call list delay) (steps list cs)) (by-table (tableSound t) refl)
+      ∙ sym (end-behind (stepsOf list c) (steps list cs) t)
+    where
+      by-table : (b : Bool) → tableSound t ≡ b → call list delay c t .1 ≡ end (call list delay) (stepsOf list c) t
+      by-table true sound = step-end c t sound
+      by-table false unsound =
+          let (n, buffer, e) = unsound-call t unsound list delay c in ap (λ r. r .1) e ∙ sym (unsound-end t unsound list delay (stepsOf list c))

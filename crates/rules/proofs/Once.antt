@@ -1,0 +1,16 @@
+-- Calls in which every request is a single one. A crew's request is a list of these; every other call is one of them. Assumes nothing.
+use mathlib.Core.List.{List}
+use Prim.Native.Nat.{ℕ}
+use Rattle.numbers.specs.declared.Msisdn.{Msisdn}
+use Rattle.rules.specs.Answers.{Outcome}
+use Rattle.rules.specs.Requests.{once, requestingBy}
+use Rattle.rules.specs.Notices.{sendingNotice, takingResult}
+use Rattle.rules.specs.Calls.{Call, request, sending, result, Reply, replied, clockReading}
+
+unfoldable pub requestingOnce : List ℕ → List ℕ → List ℕ → Msisdn → ℕ → List ℕ → Outcome
+requestingOnce table list reply requester scheme string = requestingBy (once table reply requester) table list reply requester scheme string
+
+abbrev pub single : List ℕ → ℕ → Call → List ℕ → Reply × List ℕ
+single list delay (request requester scheme string reply) table = replied (requestingOnce table list reply requester scheme string)
+single list delay (sending now number buffer) table = replied (sendingNotice table buffer number delay (clockReading now))
+single list delay (result now number kind) table = replied (takingResult table number kind (clockReading now))
