@@ -1,12 +1,13 @@
 -- Document 01, "The program": its whole input and its whole output, computed. Assumes nothing.
 use mathlib.Core.Path.{_≡_, refl}
 use Prim.Native.String.{String}
+use Rattle.answers.specs.Begins.{begins}
 use Rattle.answers.specs.Leading.{each, leading}
 use Rattle.answers.specs.Ascii.{ascii}
 use Rattle.packing.specs.Packing.{valueOf, digits, octetsFor, charsIn, taken, padded, packed, characters, readable, filled, kept, unpacked}
 use Rattle.numbers.specs.Numbers.{isDigit, pushed, storedForm, isNumber, digitsUpTo, digitsOf, leadingNumber}
 use Rattle.strings.specs.Text.{isAdditional, textOf, noticeFields}
-use Rattle.strings.specs.Reader.{begins, operationAt, serviceAt, numberFieldAt, forcedAt, erasingAt, additionalAt, fieldsOf}
+use Rattle.strings.specs.Reader.{operationAt, serviceAt, numberFieldAt, forcedAt, erasingAt, additionalAt, fieldsOf}
 use Rattle.strings.specs.Outcomes.{requestOf}
 use Rattle.records.specs.Steps.{elapsed, delayOf, delayAllowed}
 use Rattle.rows.specs.Rows as rows

@@ -18,7 +18,7 @@ use Rattle.packing.specs.Packing.{octetsFor, taken, takes, packed}
 use Rattle.answers.proofs.Leading.{each-append}
 use Rattle.packing.proofs.Laws.{length-packed, takes-cons}
 use Rattle.packing.proofs.RoundTrip.{packed-reads}
-use Rattle.numbers.specs.Numbers.{isNumber, digitsUpTo, digitsOf}
+use Rattle.numbers.specs.Numbers.{isNumber, digitsUpTo, digitsOf, twoDigits}
 use Rattle.numbers.specs.declared.FunctionalNumber.{FunctionalNumber}
 use Rattle.numbers.specs.declared.Msisdn.{Msisdn}
 use Rattle.strings.specs.declared.Operation.{Operation}
@@ -35,7 +35,7 @@ use Rattle.rows.proofs.Rows.{record-sound}
 use Rattle.rows.proofs.Kept.{pending-words}
 use Rattle.tables.specs.Tables.{tableSound, rowOf, recordOf}
 use Rattle.tables.proofs.Stored.{record-found}
-use Rattle.rules.specs.Answers.{Answer, refusal, error, outcome, holderIs, sentTo, delivered, dropped, again, found, noneDue, Outcome, made, twoDigits, holderText, packedOver, octetCount, refusing}
+use Rattle.rules.specs.Answers.{Answer, refusal, error, outcome, holderIs, sentTo, delivered, dropped, again, found, noneDue, Outcome, made, holderText, packedOver, octetCount, refusing}
 use Rattle.rules.specs.Requests as requests
 use Rattle.rules.specs.Notices as notices
 use Rattle.rules.proofs.Visits.{found-sound, found-number}

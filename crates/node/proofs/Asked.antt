@@ -7,6 +7,7 @@ use mathlib.Core.Option.{Option, none, some}
 use native.Mathlib.Omega.{arith}
 use Rattle.answers.specs.Checks.{anyHolds}
 use Rattle.numbers.specs.declared.Msisdn.{Msisdn}
+use Rattle.numbers.specs.Numbers.{twoDigits}
 use Rattle.strings.specs.Text.{Request}
 use Rattle.strings.specs.declared.Fields.{Fields}
 use Rattle.strings.specs.declared.Reading.the-variants.{Read, Unreadable}
@@ -17,7 +18,7 @@ use Rattle.rows.proofs.Rows.{words-stored}
 use Rattle.tables.specs.Tables.{tableSound, rowOf, flagsOf}
 use Rattle.tables.specs.declared.Found.{Found}
 use Rattle.tables.specs.declared.Found.the-variants.{At, Nothing}
-use Rattle.rules.specs.Answers.{Answer, outcome, made, packedOver, octetCount, twoDigits}
+use Rattle.rules.specs.Answers.{Answer, outcome, made, packedOver, octetCount}
 use Rattle.rules.specs.Requests.{hasFollowMe, isForced, isSupervisor, refusalChecks, requesting}
 use Rattle.rules.proofs.Visits.{request-visits, request-misses}
 use Rattle.rules.specs.Visits.{storing, decided}

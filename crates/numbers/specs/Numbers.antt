@@ -51,6 +51,10 @@ digitsUpTo (suc room) w = cond (ltb w 10) [] (digitsUpTo room (w / 10) ++ ((48 +
 unfoldable pub digitsOf : ℕ → List ℕ
 digitsOf w = digitsUpTo mostDigits w
 
+-- the two digits of a number below 100
+abbrev pub twoDigits : ℕ → List ℕ
+twoDigits n = (48 + n / 10) ∷ (48 + n % 10) ∷ []
+
 -- how many digits stand at the front of a string
 abbrev pub leadingDigits : List ℕ → ℕ
 leadingDigits s = leading isDigit s

@@ -20,8 +20,7 @@ use Rattle.packing.specs.Packing.{charsIn, readable, unpacked}
 use Rattle.packing.specs.Outcomes.{unpacking}
 use Rattle.packing.proofs.Laws.{length-unpacked-le}
 use Rattle.packing.proofs.Outcomes.{unpacking-good}
-use Rattle.numbers.specs.Numbers.{mostDigits, isNumber, digitsOf, writingDigits}
-use Rattle.rules.specs.Answers.{twoDigits}
+use Rattle.numbers.specs.Numbers.{mostDigits, isNumber, digitsOf, writingDigits, twoDigits}
 use Rattle.visits.proofs.Texts.{counts-only}
 use Rattle.replies.specs.Replies.{numeral, Text}
 

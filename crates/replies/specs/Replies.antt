@@ -7,8 +7,8 @@ use lib.ListN.{length, take}
 use lib.Dec.{ltb}
 use Rattle.answers.specs.Ascii.{ascii}
 use Rattle.packing.specs.Packing.{readable, unpacked}
-use Rattle.numbers.specs.Numbers.{isNumber, digitsOf}
-use Rattle.rules.specs.Answers.{Answer, refusal, error, outcome, holderIs, sentTo, delivered, dropped, again, found, noneDue, twoDigits}
+use Rattle.numbers.specs.Numbers.{isNumber, digitsOf, twoDigits}
+use Rattle.rules.specs.Answers.{Answer, refusal, error, outcome, holderIs, sentTo, delivered, dropped, again, found, noneDue}
 
 -- the number n of `error n` (two digits) or `refused n` (one)
 abbrev pub numeral : ℕ → List ℕ

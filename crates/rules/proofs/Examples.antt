@@ -4,13 +4,14 @@ use mathlib.Core.Bool.{Bool, true}
 use mathlib.Core.List.{List, [], _∷_, _++_, map}
 use Prim.Native.Nat.{ℕ}
 use lib.ListN.{replicate}
+use Rattle.answers.specs.Begins.{begins}
 use Rattle.answers.specs.Leading.{leading}
 use Rattle.answers.specs.Ascii.{ascii}
 use Rattle.answers.specs.Writing.{over}
 use Rattle.packing.specs.Packing.{valueOf, digits, octetsFor, charsIn, padded, packed, characters, readable, filled, kept, unpacked}
 use Rattle.numbers.specs.Numbers.{isDigit, pushed, storedForm, isNumber, digitsUpTo, digitsOf, leadingNumber}
 use Rattle.strings.specs.Text.{isAdditional, textOf, noticeFields}
-use Rattle.strings.specs.Reader.{begins, operationAt, serviceAt, numberFieldAt, forcedAt, erasingAt, additionalAt, fieldsOf}
+use Rattle.strings.specs.Reader.{operationAt, serviceAt, numberFieldAt, forcedAt, erasingAt, additionalAt, fieldsOf}
 use Rattle.strings.specs.Outcomes.{requestOf}
 use Rattle.records.specs.Steps.{elapsed, delayOf, delayAllowed}
 use Rattle.rows.specs.Rows as rows

@@ -1,12 +1,12 @@
 -- Answers in document 01's words and numbers, the texts that they write, and what a call comes to: the answer, the table afterwards and the buffer afterwards. Assumes nothing.
-use Prim.Native.Nat.{ℕ, _+_, _/_, _%_}
+use Prim.Native.Nat.{ℕ}
 use mathlib.Core.Bool.{Bool, not, _&&_, _||_}
-use mathlib.Core.List.{List, [], _∷_, _++_, map}
+use mathlib.Core.List.{List, _∷_, _++_, map}
 use lib.ListN.{length}
 use lib.Dec.{eqb}
 use Rattle.answers.specs.Writing.{over}
 use Rattle.packing.specs.Packing.{packed}
-use Rattle.numbers.specs.Numbers.{digitsOf}
+use Rattle.numbers.specs.Numbers.{digitsOf, twoDigits}
 
 -- "Refusals, errors and outcomes are numbered apart"
 pub data Answer : Type 0 where
@@ -125,10 +125,6 @@ made a t b = record { answer = a; table = t; buffer = b }
 -- the reply and notice buffers: "under 80 octets" is refusal 1
 abbrev pub bufferRoom : ℕ
 bufferRoom = 80
-
--- an outcome's two characters
-abbrev pub twoDigits : ℕ → List ℕ
-twoDigits n = (48 + n / 10) ∷ (48 + n % 10) ∷ []
 
 -- "Interrogation answers 03, and the MSISDN is written into the reply text after the code and the space"
 abbrev pub holderText : ℕ → List ℕ

@@ -5,9 +5,10 @@ use mathlib.Core.Option.{Option, none, some}
 use mathlib.Core.List.{List}
 use Prim.Native.Nat.{ℕ, _<_}
 use lib.ListN.{length, getElem?}
+use Rattle.numbers.specs.Numbers.{twoDigits}
 use Rattle.strings.specs.Outcomes.{requestOf}
 use Rattle.tables.specs.Tables.{recordOf}
-use Rattle.rules.specs.Answers.{numbersOf, outcomeClass, isOf, isRefusal, isError, isOutcome, isNegative, twoDigits, packedOver}
+use Rattle.rules.specs.Answers.{numbersOf, outcomeClass, isOf, isRefusal, isError, isOutcome, isNegative, packedOver}
 use Rattle.rules.specs.Requests.{isRegistration, holderIn}
 use Rattle.rules.specs.Run.{only, last, end, log, Rearranged}
 use Rattle.rules.specs.Calls.{Call, request, sending, result, bufferOf, Reply, call, nameOf, names, alone}

@@ -6,7 +6,7 @@ use mathlib.Core.List.{List, [], _∷_, _++_, map}
 use lib.ListN.{length}
 use lib.Dec.{eqb, ltb}
 use Rattle.answers.specs.Checks.{decide, isNone}
-use Rattle.numbers.specs.Numbers.{isNumber}
+use Rattle.numbers.specs.Numbers.{isNumber, twoDigits}
 use Rattle.numbers.specs.declared.FunctionalNumber.{FunctionalNumber}
 use Rattle.numbers.specs.declared.Msisdn.{Msisdn}
 use Rattle.strings.specs.declared.Operation.{Operation}
@@ -21,7 +21,7 @@ use Rattle.rows.specs.Rows.{stored, recordAt}
 use Rattle.tables.specs.declared.Found.{Found}
 use Rattle.tables.specs.declared.Found.the-variants.{At, Nothing}
 use Rattle.tables.specs.Tables.{tableSound, listSound, rowOf, recordOf, flagsOf}
-use Rattle.rules.specs.Answers.{Answer, refusal, error, outcome, holderIs, Outcome, made, bufferRoom, twoDigits, holderText, packedOver, octetCount, refusing}
+use Rattle.rules.specs.Answers.{Answer, refusal, error, outcome, holderIs, Outcome, made, bufferRoom, holderText, packedOver, octetCount, refusing}
 
 -- ---- what the checks look at
 

@@ -8,6 +8,7 @@ use lib.Dec.{ltb}
 use Rattle.answers.specs.Checks.{decide}
 use Rattle.numbers.specs.declared.FunctionalNumber.{FunctionalNumber}
 use Rattle.numbers.specs.declared.Msisdn.{Msisdn}
+use Rattle.numbers.specs.Numbers.{twoDigits}
 use Rattle.strings.specs.declared.Operation.{Operation}
 use Rattle.strings.specs.declared.Operation.the-variants.{Register, Erase, Interrogate}
 use Rattle.strings.specs.declared.Erasing.{Erasing}
@@ -26,7 +27,7 @@ use Rattle.records.specs.declared.Resulted.the-variants.{Refused, Delivered, Dr
 use Rattle.records.specs.Steps as steps
 use Rattle.rows.specs.Rows.{stored}
 use Rattle.tables.specs.Tables.{flagsOf}
-use Rattle.rules.specs.Answers.{Answer, refusal, error, outcome, holderIs, sentTo, delivered, dropped, again, Outcome, made, bufferRoom, twoDigits, holderText, packedOver, octetCount}
+use Rattle.rules.specs.Answers.{Answer, refusal, error, outcome, holderIs, sentTo, delivered, dropped, again, Outcome, made, bufferRoom, holderText, packedOver, octetCount}
 use Rattle.rules.specs.Requests.{hasFollowMe, isSupervisor, isForced, refusalChecks}
 use Rattle.rules.specs.Calls.{Call, request, sending, result, Reply, clockReading}
 

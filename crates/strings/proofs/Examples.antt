@@ -3,6 +3,7 @@ use mathlib.Core.Path.{_≡_, refl}
 use mathlib.Core.List.{List, [], _++_}
 use Prim.Native.Nat.{ℕ, _/_}
 use lib.ListN.{length, getD, replicate}
+use Rattle.answers.specs.Begins.{begins}
 use Rattle.answers.specs.Leading.{leading}
 use Rattle.answers.specs.Ascii.{ascii}
 use Rattle.numbers.specs.Numbers.{isDigit, pushed, storedForm, digitsUpTo, digitsOf, leadingNumber}
@@ -10,7 +11,7 @@ use Rattle.packing.specs.Packing.{valueOf, digits, octetsFor, charsIn, padded, 
 use Rattle.strings.specs.declared.Operation.the-variants.{Register}
 use Rattle.strings.specs.declared.Erasing.the-variants.{Empty}
 use Rattle.strings.specs.Text.{Request, isAdditional, textOf}
-use Rattle.strings.specs.Reader.{begins, operationAt, serviceAt, numberFieldAt, forcedAt, erasingAt, additionalAt, fieldsOf}
+use Rattle.strings.specs.Reader.{operationAt, serviceAt, numberFieldAt, forcedAt, erasingAt, additionalAt, fieldsOf}
 use Rattle.strings.specs.Outcomes.{requestOf, Told, reading}
 use Rattle.strings.specs.Outcomes.Told.{fields, error}
 

@@ -1,11 +1,12 @@
 -- Document 01, "Request string": how the fields are read from a text. "Each field is read from the remaining part of the string; the first field that cannot be read ends the reading." Assumes nothing.
 use Prim.Native.Nat.{ℕ, _+_}
-use mathlib.Core.Bool.{Bool, true, false, _&&_}
+use mathlib.Core.Bool.{_&&_}
 use mathlib.Core.Option.{Option, none, some}
-use mathlib.Core.List.{List, [], _∷_, _++_}
+use mathlib.Core.List.{List, _++_}
 use lib.ListN.{length, take, drop}
 use lib.Dec.{leb, eqb}
 use Rattle.answers.specs.Ascii.{ascii}
+use Rattle.answers.specs.Begins.{begins, behind}
 use Rattle.answers.specs.Leading.{leading}
 use Rattle.answers.specs.Checks.{_>>=_, onlyIf}
 use Rattle.numbers.specs.Numbers.{leadingNumber}
@@ -21,16 +22,6 @@ use Rattle.strings.specs.Text.{Request, mayForce, isAdditional, mostAddi
 pub record Field (X : Type 0) : Type 0 where
   pub got : X
   pub rest : List ℕ
-
--- the string begins with the characters p
-unfoldable pub begins : List ℕ → List ℕ → Bool
-begins [] s = true
-begins (c ∷ p) [] = false
-begins (c ∷ p) (x ∷ s) = eqb x c && begins p s
-
--- what is left behind the characters p, if the string begins with them
-abbrev pub behind : List ℕ → List ℕ → Option (List ℕ)
-behind p s = onlyIf (begins p s) (drop (length p) s)
 
 -- the field x, written as the characters p
 abbrev pub fieldAt : {X : Type 0} → X → List ℕ → List ℕ → Option (Field X)

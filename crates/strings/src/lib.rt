@@ -1,5 +1,6 @@
 // The request string: its fields, and the reader of its packed octets.
 use answers::Written;
+use answers::begins_with;
 use numbers::FunctionalNumber;
 use numbers::Msisdn;
 use numbers::NumberRead;
@@ -7,7 +8,7 @@ ghost use mathlib.Core.Path.{_≡_};
 ghost use mathlib.Core.Bool.{true};
 ghost use Prim.Native.Nat.{_+_, _<_};
 ghost use Rattle.strings.specs.Text.{isAdditional, mayForce};
-ghost use Rattle.strings.specs.Reader.{begins, leadingAdditional, fieldsOf};
+ghost use Rattle.strings.specs.Reader.{leadingAdditional, fieldsOf};
 ghost use Rattle.strings.specs.Found.{OperationIs, ServiceIs, NumberFieldIs, ErasingIs, AdditionalIs};
 ghost use Rattle.strings.specs.Outcomes.{told, tell, madeRead, reading};
 
@@ -75,23 +76,6 @@ enum ErasingRead {
 enum AdditionalRead {
     Read(usize),
     Unreadable,
-}
-
-// Whether a part begins with these characters.
-fn begins_with(part: &[u8], characters: &[u8]) -> bool
-    ensures { λ r. ⌜ r ≡ begins (now (characters .entry)) (now (part .entry)) ⌝ }
-{
-    if part.len() < characters.len() {
-        return false;
-    }
-    let mut i = 0;
-    while i < characters.len() {
-        if part[i] != characters[i] {
-            return false;
-        }
-        i += 1;
-    }
-    true
 }
 
 // The operation.

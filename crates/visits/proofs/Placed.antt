@@ -4,7 +4,7 @@ use mathlib.Core.Bool.{Bool, true, false, not, cond}
 use mathlib.Core.List.{List, [], _∷_}
 use Prim.Native.Nat.{ℕ}
 use native.Mathlib.Omega.{arith}
-use Rattle.numbers.specs.Numbers.{isNumber}
+use Rattle.numbers.specs.Numbers.{isNumber, twoDigits}
 use Rattle.numbers.specs.declared.FunctionalNumber.{FunctionalNumber}
 use Rattle.numbers.specs.declared.Msisdn.{Msisdn}
 use Rattle.strings.specs.declared.Operation.the-variants.{Register, Erase, Interrogate}
@@ -27,7 +27,7 @@ use Rattle.rows.specs.Rows.{rowSound, recordSound, recordAt, stored}
 use Rattle.records.specs.Steps.{isAbsent, isWaiting, isDue, isNobody, withNotice, launched, delayAllowed, registered, interrogated, sent}
 use Rattle.rows.proofs.Rows.{words-stored}
 use Rattle.rows.proofs.Kept.{holder-number, pending-words}
-use Rattle.rules.specs.Answers.{Answer, outcome, refusal, sentTo, delivered, dropped, again, made, packedOver, octetCount, twoDigits}
+use Rattle.rules.specs.Answers.{Answer, outcome, refusal, sentTo, delivered, dropped, again, made, packedOver, octetCount}
 use Rattle.rules.specs.Visits.{Visited, visited, storing, stepped, holderAnswered, erases, decided, sentStep, resultStep}
 
 module _ (t : List ℕ) (i k : ℕ) (b after : List ℕ) (said : Answer) (step : Step) where

@@ -17,9 +17,9 @@ use Rattle.answers.proofs.Written.{the-type}
 use Rattle.answers.specs.declared.Written.{Written}
 use Rattle.answers.specs.declared.Written.the-variants.{Count}
 use Rattle.packing.specs.Packing.{taken, takes, octetsFor}
-use Rattle.numbers.specs.Numbers.{isDigit, isNumber, digitsOf}
+use Rattle.numbers.specs.Numbers.{isDigit, isNumber, digitsOf, twoDigits}
 use Rattle.numbers.proofs.Digits.{digit-range, digits-are, digits-most}
-use Rattle.rules.specs.Answers.{twoDigits, holderText, bufferRoom}
+use Rattle.rules.specs.Answers.{holderText, bufferRoom}
 
 -- a character of digits, as of any octet's two digits, is taken
 taken-low : (c : ℕ) → 48 ≤ c → c < 128 → taken c ≡ true

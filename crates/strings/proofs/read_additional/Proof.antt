@@ -3,9 +3,9 @@ use mathlib.Core.Path.{_≡_, sym, _∙_}
 use mathlib.Core.Bool.{true}
 use Prim.Native.Nat.{_≤_}
 use lib.ListN.{length, drop}
+use Rattle.answers.specs.Begins.{begins}
 use Rattle.answers.proofs.Leading.{leading-front}
 use Rattle.strings.specs.Text.{isAdditional, hash}
-use Rattle.strings.specs.Reader.{begins}
 use native.Mathlib.Omega.{arith}
 use borrow.Author.Needs.{needs}
 use borrow.Author.Tests.{not-true, not-false}
