@@ -16,7 +16,7 @@ use Rattle.strings.specs.declared.Operation.{Operation}
 use Rattle.strings.specs.declared.Operation.the-variants.{Register, Erase, Interrogate}
 use Rattle.strings.specs.declared.Erasing.{Erasing}
 use Rattle.strings.specs.declared.Erasing.the-variants.{Empty, Forced}
-use Rattle.strings.specs.Text.{Request, mayForce, isAdditional, mostAdditional, operationText, serviceText, star, hash}
+use Rattle.strings.specs.Text.{Request, requestFrom, mayForce, crewKept, isAdditional, mostAdditional, operationText, serviceText, star, hash}
 
 -- a field that was read, and what is left of the string
 pub record Field (X : Type 0) : Type 0 where
@@ -72,6 +72,10 @@ additionalAt s =
     let n = leadingAdditional s in
     onlyIf (leb n mostAdditional && begins hash (drop n s) && eqb (length s) (n + 1)) (take n s)
 
+-- "a field starting with `BULK` that breaks this, or stands in another operation, is 36"
+abbrev pub keepingCrew : Request → Option Request
+keepingCrew f = onlyIf (crewKept f) f
+
 -- all fields, in their order
 unfoldable pub fieldsOf : List ℕ → Option Request
 fieldsOf s = do
@@ -80,4 +84,4 @@ fieldsOf s = do
   number ← numberFieldAt rest
   erasing ← erasingAt (operation .got) (number .rest)
   additional ← additionalAt (erasing .rest)
-  some (record { operation = operation .got; number = record { 0 = number .got }; erasing = erasing .got; additional = additional })
+  keepingCrew (requestFrom (operation .got) (record { 0 = number .got }) (erasing .got) additional)
