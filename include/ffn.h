@@ -90,10 +90,12 @@ struct ffn_request_read {
     uint32_t class_;            /* FFN_READ, or FFN_ERROR */
     uint32_t number;            /* 36 with FFN_ERROR, otherwise 0 */
     uint32_t operation;         /* FFN_REGISTER, FFN_ERASE or FFN_INTERROGATE */
+    uint32_t crew;              /* 1 where the additional field is of a crew (BULK), otherwise 0 */
     uint64_t functional_number; /* in stored form */
     uint64_t msisdn;            /* of a forced erasure the MSISDN to erase, in stored form; otherwise 0 */
     size_t start;               /* where the additional field starts in the unpacked string */
     size_t length;              /* and how many characters it has, 0 to 30 */
+    size_t codes;               /* of a crew how many two-digit codes the field ends in, 0 to 9; otherwise 0 */
 };
 
 /*
@@ -116,6 +118,9 @@ struct ffn_answer ffn_unpack(const uint8_t *octets, size_t octets_length, uint8_
  * Writes a request string, packed. operation is FFN_REGISTER, FFN_ERASE or
  * FFN_INTERROGATE; msisdn is 0, or with FFN_ERASE the MSISDN that a forced
  * erasure names; additional has 0 to 30 characters from 0-9, A-Z and space.
+ * An additional field that starts with BULK is of a crew: one digit n, and, if
+ * n is above 0, a space and n two-digit codes, none 01, none twice. It needs a
+ * number that ends in 01, and FFN_REGISTER or FFN_ERASE with msisdn 0.
  * FFN_WRITTEN with the count of octets, at most 63. Refused 1 where out has
  * under 160 octets, then 9 where the fields break these rules.
  */

@@ -21,12 +21,14 @@ _Static_assert(sizeof(struct ffn_answer) == 24, "answer");
 _Static_assert(offsetof(struct ffn_answer, number) == 4, "number");
 _Static_assert(offsetof(struct ffn_answer, count) == 8, "count");
 _Static_assert(offsetof(struct ffn_answer, value) == 16, "value");
-_Static_assert(sizeof(struct ffn_request_read) == 48, "request read");
+_Static_assert(sizeof(struct ffn_request_read) == 56, "request read");
 _Static_assert(offsetof(struct ffn_request_read, operation) == 8, "operation");
+_Static_assert(offsetof(struct ffn_request_read, crew) == 12, "crew");
 _Static_assert(offsetof(struct ffn_request_read, functional_number) == 16, "functional number");
 _Static_assert(offsetof(struct ffn_request_read, msisdn) == 24, "msisdn");
 _Static_assert(offsetof(struct ffn_request_read, start) == 32, "start");
 _Static_assert(offsetof(struct ffn_request_read, length) == 40, "length");
+_Static_assert(offsetof(struct ffn_request_read, codes) == 48, "codes");
 
 /* Document 01's numbers: A has flags 1, B flags 3, C flags 0; F is free. */
 static const uint64_t A = 14915100001, B = 14915100002, C = 14915100003, F = 10492123401;
@@ -210,6 +212,7 @@ static void strings(void)
     struct ffn_request_read read = ffn_read_request(out, written.count, text, 42);
     HOLDS(read.class_ == FFN_READ && read.number == 0 && read.operation == FFN_ERASE);
     HOLDS(read.functional_number == F && read.msisdn == A && read.start == 31 && read.length == 10);
+    HOLDS(read.crew == 0 && read.codes == 0);
     HOLDS(memcmp(text + read.start, field, 10) == 0 && text[41] == '#' && untouched(text, 42, ROOM));
     memset(text, UNTOUCHED, sizeof text);
     read = ffn_read_request(out, written.count, text, 41); /* no room for its 42 characters: the fields alone */
@@ -217,6 +220,7 @@ static void strings(void)
     read = ffn_read_request(out, written.count - 1, text, sizeof text);
     HOLDS(read.class_ == FFN_ERROR && read.number == 36 && read.operation == 0 && read.functional_number == 0);
     HOLDS(read.msisdn == 0 && read.start == 0 && read.length == 0 && untouched(text, 0, ROOM));
+    HOLDS(read.crew == 0 && read.codes == 0);
 
     memset(out, UNTOUCHED, sizeof out);
     HOLDS(is(ffn_write_request(3, F, 0, field, 10, out, 159), FFN_REFUSAL, 1, 0, 0));
@@ -227,6 +231,53 @@ static void strings(void)
     HOLDS(untouched(out, 0, sizeof out));
 }
 
+/* The request of one additional field, written and read back. */
+static struct ffn_request_read read_back(uint32_t operation, uint64_t number, const char *field)
+{
+    uint8_t out[160], none[1];
+    const uint8_t *chars = (const uint8_t *)field;
+    struct ffn_answer written = ffn_write_request(operation, number, 0, chars, strlen(field), out, sizeof out);
+    HOLDS(written.class_ == FFN_WRITTEN);
+    return ffn_read_request(out, written.count, none, 0);
+}
+
+static int breaks_the_rules(uint32_t operation, uint64_t number, uint64_t msisdn, const char *field)
+{
+    uint8_t out[160];
+    const uint8_t *chars = (const uint8_t *)field;
+    return is(ffn_write_request(operation, number, msisdn, chars, strlen(field), out, sizeof out), FFN_REFUSAL, 9, 0, 0);
+}
+
+static int is_error_36(const char *string)
+{
+    uint8_t octets[63], none[1];
+    struct ffn_answer packed = ffn_pack((const uint8_t *)string, strlen(string), octets, sizeof octets);
+    HOLDS(packed.class_ == FFN_WRITTEN);
+    struct ffn_request_read read = ffn_read_request(octets, packed.count, none, 0);
+    return read.class_ == FFN_ERROR && read.number == 36 && read.crew == 0 && read.codes == 0;
+}
+
+static void crews(void)
+{
+    struct ffn_request_read read = read_back(FFN_REGISTER, F, "BULK2 0203");
+    HOLDS(read.class_ == FFN_READ && read.crew == 1 && read.codes == 2 && read.start == 19 && read.length == 10);
+    read = read_back(FFN_ERASE, F, "BULK9 000203040506070809");
+    HOLDS(read.class_ == FFN_READ && read.crew == 1 && read.codes == 9 && read.length == 24);
+    read = read_back(FFN_REGISTER, F, "BULK0");
+    HOLDS(read.class_ == FFN_READ && read.crew == 1 && read.codes == 0);
+    read = read_back(FFN_INTERROGATE, F + 1, " BULK1 02"); /* BULK does not stand at the start */
+    HOLDS(read.class_ == FFN_READ && read.crew == 0 && read.codes == 0);
+
+    HOLDS(breaks_the_rules(FFN_REGISTER, F, 0, "BULKY GOODS"));
+    HOLDS(breaks_the_rules(FFN_REGISTER, F, 0, "BULK1 01") && breaks_the_rules(FFN_REGISTER, F, 0, "BULK2 0202"));
+    HOLDS(breaks_the_rules(FFN_REGISTER, F, 0, "BULK102") && breaks_the_rules(FFN_REGISTER, F, 0, "BULK1 023"));
+    HOLDS(breaks_the_rules(FFN_REGISTER, F + 1, 0, "BULK0"));
+    HOLDS(breaks_the_rules(FFN_INTERROGATE, F, 0, "BULK0") && breaks_the_rules(FFN_ERASE, F, A, "BULK0"));
+
+    HOLDS(is_error_36("**214*0492123401***BULKY GOODS#") && is_error_36("**214*0492123402***BULK0#"));
+    HOLDS(is_error_36("*#214*0492123401***BULK2 0203#") && is_error_36("##214*0492123401*88*4915100001*BULK2 0203#"));
+}
+
 int main(void)
 {
     packing();
@@ -234,6 +285,7 @@ int main(void)
     request_checks();
     notices();
     strings();
+    crews();
     printf("%d facts hold\n", facts);
     return 0;
 }

@@ -22,7 +22,7 @@ use Rattle.ffn_c.specs.Calls.{returning, readingAs, readingInto}
 -- the additional field has as many characters as the code counts
 told-numbers :
     (text s : List ℕ) (f : Fields) (g : Request) → s ≡ textOf g → length s ≤ length text → told (Read f) text ≡ tell s (some g)
-    → ofFields (f .operation) (f .number) (f .erasing) (f .start) (f .count) ≡ ofTold (tell s (some g))
+    → ofFields (f .operation) (f .number) (f .erasing) (f .start) (f .count) (f .crew) ≡ ofTold (tell s (some g))
 told-numbers text s f g t h e =
     let place = told-place text s f g t h e in
     let count : length (take (f .count) (drop (f .start) text)) ≡ f .count = omega (arith, length-take (f .count) (drop (f .start) text), length-drop (f .start) text) in
@@ -43,17 +43,17 @@ module _ (os text : List ℕ) (r : ReadRequest) (done : madeRead r ≡ reading o
     where
       go : (o : Option Request) → told (r .reading) (r .text) ≡ tell (unpacked os) o → returning (ofTold (told Unreadable [])) [] text ≡ readingAs os text o
       go none t = refl
-      go (some g) t = not-error _ _ _ (rw e at (sym t))
+      go (some g) t = not-error _ _ _ _ (rw e at (sym t))
 
   pub reads-fields :
       (f : Fields) → r .reading ≡ Read f
-      → returning (ofFields (f .operation) (f .number) (f .erasing) (f .start) (f .count)) [] (unpacking os text .buffer) ≡ readingInto os text
+      → returning (ofFields (f .operation) (f .number) (f .erasing) (f .start) (f .count) (f .crew)) [] (unpacking os text .buffer) ≡ readingInto os text
   unfolding readingInto
   reads-fields f e = go (requestOf os) refl (rw e at answered)
     where
       go :
           (o : Option Request) → requestOf os ≡ o → told (Read f) (r .text) ≡ tell (unpacked os) o
-          → returning (ofFields (f .operation) (f .number) (f .erasing) (f .start) (f .count)) [] (unpacking os text .buffer) ≡ readingAs os text o
-      go none q t = not-error _ _ _ t
+          → returning (ofFields (f .operation) (f .number) (f .erasing) (f .start) (f .count) (f .crew)) [] (unpacking os text .buffer) ≡ readingAs os text o
+      go none q t = not-error _ _ _ _ t
       go (some g) q t =
           rw (told-numbers (r .text) (unpacked os) f g (read-only (unpacked os) (request-reads os q .1) .1) (rw beside (beside-whole os q)) t)

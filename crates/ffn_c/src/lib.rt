@@ -74,10 +74,12 @@ pub extern "C" fn ffn_read_request(octets: &[u8], text: &mut [u8]) -> RequestRea
             class: ERROR,
             number: 36,
             operation: 0,
+            crew: 0,
             functional_number: 0,
             msisdn: 0,
             start: 0,
             length: 0,
+            codes: 0,
         };
     };
     packing::unpack(octets, text);

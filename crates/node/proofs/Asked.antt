@@ -8,7 +8,9 @@ use native.Mathlib.Omega.{arith}
 use Rattle.numbers.specs.Numbers.{twoDigits}
 use Rattle.answers.specs.Checks.{anyHolds}
 use Rattle.numbers.specs.declared.Msisdn.{Msisdn}
+use Rattle.numbers.specs.Numbers.{twoDigits}
 use Rattle.strings.specs.Text.{Request}
+use Rattle.crews.specs.declared.Crew.{Crew}
 use Rattle.strings.specs.declared.Fields.{Fields}
 use Rattle.strings.specs.declared.Reading.the-variants.{Read, Unreadable}
 use Rattle.strings.specs.declared.ReadRequest.{ReadRequest}
@@ -58,9 +60,9 @@ tell-none : (text : List ℕ) (o : Option Request) → Told.error 36 ≡ tell te
 tell-none text none e = refl
 tell-none text (some f) e = absurd (let z : _≡_ {A = ℕ} 0 1 = cc in omega arith)
 
-tell-some : (text : List ℕ) (o : Option Request) (f : Request) (start : ℕ) → Told.fields f start ≡ tell text o → o ≡ some f
-tell-some text none f start e = absurd (let z : _≡_ {A = ℕ} 0 1 = cc in omega arith)
-tell-some text (some g) f start e = cc
+tell-some : (text : List ℕ) (o : Option Request) (f : Request) (start : ℕ) (crew : Crew) → Told.fields f start crew ≡ tell text o → o ≡ some f
+tell-some text none f start crew e = absurd (let z : _≡_ {A = ℕ} 0 1 = cc in omega arith)
+tell-some text (some g) f start crew e = cc
 
 module _ (os : List ℕ) (r : ReadRequest) (done : madeRead r ≡ reading os) where
   pub not-read : r .reading ≡ Unreadable → requestOf os ≡ none
@@ -69,7 +71,7 @@ module _ (os : List ℕ) (r : ReadRequest) (done : madeRead r ≡ reading os) wh
 
   pub was-read : (f : Fields) → r .reading ≡ Read f → requestOf os ≡ some (requestIn (r .text) f)
   unfolding reading
-  was-read f e = tell-some _ (requestOf os) _ _ (rw e at (ap (λ (o : ReadOutcome). o .answer) done))
+  was-read f e = tell-some _ (requestOf os) _ _ _ (rw e at (ap (λ (o : ReadOutcome). o .answer) done))
 
 -- the additional field's content is ignored
 same-asked : (t : List ℕ) (flags : ℕ) (b : List ℕ) (q : Msisdn) (text : List ℕ) (f : Fields) (found : Found) → askedAt t flags b q (requestIn text f) found ≡ askedAt t flags b q (deciding f) found

@@ -51,6 +51,14 @@ digitsUpTo (suc room) w = cond (ltb w 10) [] (digitsUpTo room (w / 10) ++ ((48 +
 unfoldable pub digitsOf : ℕ → List ℕ
 digitsOf w = digitsUpTo mostDigits w
 
+-- the two digits of a number below 100
+abbrev pub twoDigits : ℕ → List ℕ
+twoDigits n = (48 + n / 10) ∷ (48 + n % 10) ∷ []
+
+-- a number below 100 without leading zero: one character or two
+abbrev pub numeral : ℕ → List ℕ
+numeral n = cond (ltb n 10) ((48 + n) ∷ []) (twoDigits n)
+
 -- how many digits stand at the front of a string
 abbrev pub leadingDigits : List ℕ → ℕ
 leadingDigits s = leading isDigit s

@@ -142,7 +142,7 @@ fn is_digit(c: u8) -> bool
 }
 
 // How many digits stand at the front of a part.
-fn leading_digits(part: &[u8]) -> usize
+pub fn leading_digits(part: &[u8]) -> usize
     ensures { λ r. ⌜ r ≡ leadingDigits (now (part .entry)) ⌝ }
 {
     let mut n = 0;

@@ -21,7 +21,6 @@ use Rattle.packing.specs.Outcomes.{unpacking}
 use Rattle.packing.proofs.Laws.{length-unpacked-le}
 use Rattle.packing.proofs.Outcomes.{unpacking-good}
 use Rattle.numbers.specs.Numbers.{mostDigits, isNumber, digitsOf, writingDigits, twoDigits, numeral}
-
 use Rattle.visits.proofs.Texts.{counts-only}
 use Rattle.replies.specs.Replies.{Text}
 

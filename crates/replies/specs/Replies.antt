@@ -1,13 +1,12 @@
 -- Document 01, "The program": what the program prints behind a line's letter. Assumes nothing.
 use mathlib.Core.Path.{_≡_}
 use Prim.Native.Nat.{ℕ, _+_, _≤_}
-use mathlib.Core.Bool.{true, cond}
-use mathlib.Core.List.{List, [], _∷_, _++_}
+use mathlib.Core.Bool.{true}
+use mathlib.Core.List.{List, [], _++_}
 use lib.ListN.{length, take}
-use lib.Dec.{ltb}
 use Rattle.answers.specs.Ascii.{ascii}
 use Rattle.packing.specs.Packing.{readable, unpacked}
-use Rattle.numbers.specs.Numbers.{isNumber, digitsOf, twoDigits, numeral}
+use Rattle.numbers.specs.Numbers.{isNumber, digitsOf, numeral}
 use Rattle.rules.specs.Answers.{Answer, refusal, error, outcome, holderIs, sentTo, delivered, dropped, again, found, noneDue}
 
 -- the characters that the first octets of a buffer are

@@ -26,13 +26,11 @@ use Rattle.records.specs.declared.Resulted.the-variants.{Refused, Delivered, Dr
 use Rattle.records.specs.declared.Notice.the-variants.{Waiting}
 use Rattle.records.specs.Steps as steps
 use Rattle.records.specs.Steps.{nobody, isNobody, same, heldBy, forcedOff, isAbsent, isWaiting, isInFlight, sendingsDone, launched, withNotice, cleared, mostSendings, lastKind}
-use Rattle.tables.specs.Tables.{tableSound, listSound, recordOf, flagsOf}
-use Rattle.rules.specs.Answers.{Answer, refusal, delivered, dropped, again, Outcome, made, refusing, bufferRoom, isOutcome}
-use Rattle.rules.specs.Requests as requests
-use Rattle.rules.specs.Notices as notices
+use Rattle.tables.specs.Tables.{tableSound, recordOf, flagsOf}
+use Rattle.rules.specs.Answers.{Answer, refusal, delivered, dropped, again, bufferRoom, isOutcome}
 use Rattle.rules.specs.Requests.{hasFollowMe, isSupervisor, isForced, afterErasure, rightChecks}
 use Rattle.rules.specs.Run.{end, log}
-use Rattle.rules.specs.Calls.{Call, request, sending, result, Reply, replied, clockReading, nameOf, namesOne}
+use Rattle.rules.specs.Calls.{Call, request, sending, result, Reply, clockReading, nameOf, namesOne}
 use Rattle.rules.specs.Visits.{Visited, visited, visitSaying, stepped, holderAnswered, decides, decided, sentStep, resultStep, visitRequest, visit, replySaying, missedRequest, missed}
 use Rattle.rules.specs.Pending.{never}
 use Rattle.rules.proofs.Once.{single}

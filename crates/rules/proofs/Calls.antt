@@ -2,7 +2,7 @@
 use mathlib.Core.Path.{_≡_, refl, sym, ap, _∙_}
 use mathlib.Core.Bool.{Bool, true, false, not, _||_}
 use mathlib.Core.Option.{Option, none, some}
-use mathlib.Core.List.{List, [], _∷_, _++_, map}
+use mathlib.Core.List.{List, [], _∷_, _++_}
 use Prim.Native.Nat.{ℕ}
 use lib.Dec.{eqb}
 use Rattle.numbers.specs.declared.Msisdn.{Msisdn}
@@ -11,7 +11,7 @@ use Rattle.records.specs.declared.Record.{Record}
 use Rattle.tables.specs.Tables.{tableSound, recordOf}
 use Rattle.rules.specs.Crews.{crewCodes, crewNumber, Walk, crewOutcome}
 use Rattle.rules.specs.Run.{end, log, Local}
-use Rattle.rules.specs.Calls.{Call, request, Reply, replied, call, nameOf, isNamed, namesOne, codesOf, allNamed, names, stepsOf, steps}
+use Rattle.rules.specs.Calls.{Call, request, replied, call, nameOf, isNamed, namesOne, codesOf, allNamed, names, stepsOf, steps}
 use Rattle.rules.specs.Singles.{succeeds, codesWhere}
 use Rattle.rules.proofs.Once.{single}
 use Rattle.rules.proofs.Unsound.{unsound-call, unsound-end}

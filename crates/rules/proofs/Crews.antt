@@ -1,13 +1,13 @@
 -- A crew's request is its single requests, asked one after the other. Assumes nothing.
 use mathlib.Core.Path.{_≡_, refl, sym, ap, _∙_}
-use mathlib.Core.Bool.{Bool, true, false, cond, not, _||_}
-use mathlib.Core.Option.{Option, none, some}
+use mathlib.Core.Bool.{Bool, true, false, cond, not}
+use mathlib.Core.Option.{some}
 use mathlib.Core.List.{List, [], _∷_, _++_, map, append-assoc, append-nil}
 use Prim.Native.Nat.{ℕ, zero, suc, _+_, _*_, _/_, _^_, _≤_, _<_}
 use native.Mathlib.Nat.{pow-succ'}
 use native.Mathlib.Omega.{arith}
 use lib.ListN.{length, length-append}
-use lib.Dec.{eqb, ltb}
+use lib.Dec.{eqb}
 use borrow.Author.Tests.{le-ltb, ne-eqb}
 use Rattle.answers.specs.Begins.{begins}
 use Rattle.answers.specs.Checks.{anyHolds}
@@ -16,10 +16,10 @@ use Rattle.packing.specs.Packing.{packed, octetsFor}
 use Rattle.packing.proofs.Laws.{length-packed}
 use Rattle.numbers.specs.Numbers.{fewestDigits, isNumber}
 use Rattle.numbers.specs.declared.Msisdn.{Msisdn}
-use Rattle.numbers.proofs.Lengths.{HasLength, length-of, is-number}
-use Rattle.crews.specs.Crews.{crewOf}
+use Rattle.numbers.proofs.Lengths.{length-of, is-number}
+use Rattle.crews.specs.Crews.{countOf}
 use Rattle.strings.specs.declared.Erasing.the-variants.{Empty}
-use Rattle.strings.specs.Text.{Request, requestSound, textOf, mostOctets}
+use Rattle.strings.specs.Text.{Request, requestSound, textOf}
 use Rattle.strings.specs.Outcomes.{requestOf}
 use Rattle.strings.proofs.Text.{rules-sound, beforeAdditional, text-grows, octets-short}
 use Rattle.strings.proofs.Octets.{reads-written}
@@ -107,12 +107,13 @@ module _ (list : List ℕ) (delay : ℕ) (requester : Msisdn) (scheme : ℕ) (f 
 
   module _ (code : ℕ) (small : code < 100) where
     member-sound : requestSound (memberOf f code) ≡ true
-    unfolding begins
+    unfolding begins countOf
     member-sound = rules-sound (memberOf f code) (record {
       number = code-number (f .number .0) code (shared .lead) small;
       erasing = rw (shared .plain);
       few = refl;
       additional = unfold each in refl;
+      crew = refl;
     })
 
     octets : (1 ≤ length (packed (textOf (memberOf f code)))) × (length (packed (textOf (memberOf f code))) ≤ mostStringOctets)

@@ -11,6 +11,7 @@ use Rattle.answers.proofs.Tests.{no-path, and-left}
 use Rattle.answers.proofs.Decide.{decide-by, decide-each}
 use Rattle.numbers.specs.declared.FunctionalNumber.{FunctionalNumber}
 use Rattle.numbers.specs.declared.Msisdn.{Msisdn}
+use Rattle.numbers.specs.Numbers.{twoDigits}
 use Rattle.strings.specs.declared.Operation.{Operation}
 use Rattle.strings.specs.declared.Operation.the-variants.{Register, Erase, Interrogate}
 use Rattle.strings.specs.Text.{Request}
@@ -23,7 +24,7 @@ use Rattle.tables.specs.declared.Found.{Found}
 use Rattle.tables.specs.declared.Found.the-variants.{At, Nothing}
 use Rattle.tables.specs.Tables.{tableSound, rowOf, recordOf, flagsOf}
 use Rattle.tables.proofs.Stored.{record-found}
-use Rattle.rules.specs.Answers.{Answer, refusal, error, delivered, dropped, again as sendAgain, Outcome, made, outcomeClass, numbersOf, isOf, isRefusal, isError, isOutcome, isNegative, packedOver, refusing}
+use Rattle.rules.specs.Answers.{Answer, refusal, error, delivered, dropped, again as sendAgain, Outcome, made, outcomeClass, numbersOf, isOf, isRefusal, isError, isNegative, packedOver, refusing}
 use Rattle.rules.specs.Requests as requests
 use Rattle.rules.specs.Crews.{crewNumber, Walk, crewOutcome, requesting}
 use Rattle.rules.specs.Requests.{Verdict, says, tells, Stepping}

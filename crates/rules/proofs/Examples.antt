@@ -4,13 +4,15 @@ use mathlib.Core.Bool.{Bool, true}
 use mathlib.Core.List.{List, [], _∷_, _++_, map}
 use Prim.Native.Nat.{ℕ}
 use lib.ListN.{replicate}
+use Rattle.answers.specs.Begins.{begins}
 use Rattle.answers.specs.Leading.{leading}
 use Rattle.answers.specs.Ascii.{ascii}
 use Rattle.answers.specs.Writing.{over}
 use Rattle.packing.specs.Packing.{valueOf, digits, octetsFor, charsIn, padded, packed, characters, readable, filled, kept, unpacked}
 use Rattle.numbers.specs.Numbers.{isDigit, pushed, storedForm, isNumber, digitsUpTo, digitsOf, leadingNumber}
+use Rattle.crews.specs.Crews.{crewOf, countOf}
 use Rattle.strings.specs.Text.{isAdditional, textOf, noticeFields}
-use Rattle.strings.specs.Reader.{begins, operationAt, serviceAt, numberFieldAt, forcedAt, erasingAt, additionalAt, fieldsOf}
+use Rattle.strings.specs.Reader.{operationAt, serviceAt, numberFieldAt, forcedAt, erasingAt, additionalAt, fieldsOf}
 use Rattle.strings.specs.Outcomes.{requestOf}
 use Rattle.records.specs.Steps.{elapsed, delayOf, delayAllowed}
 use Rattle.rows.specs.Rows as rows
@@ -18,6 +20,7 @@ use Rattle.tables.specs.Keys.{placeOf}
 use Rattle.tables.specs.Tables.{tableSound, rowOf, recordOf, listSound, flagsOf}
 use Rattle.rules.specs.Answers.{Answer, refusal, error, outcome, sentTo, dropped, again}
 use Rattle.rules.specs.Requests as requests
+use Rattle.rules.specs.Crews as crews
 use Rattle.rules.specs.Notices as notices
 use Rattle.rules.specs.Run.{end, log}
 use Rattle.rules.specs.Calls.{Call, request, sending, result, bufferOf, Reply, call}
@@ -156,6 +159,6 @@ examples =
     ∷ []
 
 pub p1-to-p15 : All examples
-unfolding valueOf digits octetsFor charsIn padded packed characters readable filled kept unpacked isDigit pushed storedForm isNumber digitsUpTo digitsOf leading leadingNumber isAdditional textOf noticeFields begins operationAt serviceAt numberFieldAt forcedAt erasingAt additionalAt fieldsOf requestOf elapsed delayOf delayAllowed rows.noticeBy rows.rowSound rows.noticeOf rows.recordAt rows.stored placeOf tableSound rowOf recordOf listSound flagsOf requests.step requests.requesting notices.sendingNotice notices.takingResult
+unfolding countOf crewOf valueOf digits octetsFor charsIn padded packed characters readable filled kept unpacked isDigit pushed storedForm isNumber digitsUpTo digitsOf leading leadingNumber isAdditional textOf noticeFields begins operationAt serviceAt numberFieldAt forcedAt erasingAt additionalAt fieldsOf requestOf elapsed delayOf delayAllowed rows.noticeBy rows.rowSound rows.noticeOf rows.recordAt rows.stored placeOf tableSound rowOf recordOf listSound flagsOf requests.step crews.requesting notices.sendingNotice notices.takingResult
 p1-to-p15 =
     refl and refl and refl and refl and refl and refl and refl and refl and refl and refl and refl and refl and refl and refl and refl and refl and done

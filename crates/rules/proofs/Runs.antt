@@ -1,11 +1,10 @@
 -- Local calls, run one after the other, are local together: they read and write the records of the numbers that one of them names. Assumes nothing.
-use mathlib.Core.Path.{_≡_, refl, sym, ap, _∙_}
+use mathlib.Core.Path.{_≡_, refl, sym, _∙_}
 use mathlib.Core.Bool.{Bool, true, false, _||_}
 use mathlib.Core.List.{List, [], _∷_}
 use Prim.Native.Nat.{ℕ}
 use Rattle.answers.proofs.Tests.{no-path, or-left, or-right, or-neither}
 use Rattle.rules.specs.Run.{end, log, Local}
-use Rattle.rules.proofs.Rearrange.{end-inv}
 
 -- one of the calls names k
 abbrev pub anyNames : {C : Type 0} → (C → ℕ → Bool) → List C → ℕ → Bool
@@ -41,7 +40,7 @@ module _ {C A S O : Type 0} (step : C → S → A × S) (names : C → ℕ → B
   runs-log [] s u v w same = refl
   runs-log (c ∷ cs) s u v w same =
       let rest = runs-log cs ((step c s) .1) ((step c u) .1) (local .keep c s v) (local .keep c u w)
-          (λ j n. then c cs s u v w same j (or-right (names c j) (anyNames names cs j) n)) in
+      (λ j n. then c cs s u v w same j (or-right (names c j) (anyNames names cs j) n)) in
       λ i. (c, local .answer c s u v w (first c cs s u v w same) i) ∷ rest i
 
   pub runs-own : (cs : List C) (s u : S) (k : ℕ) → Inv s → Inv u → Same cs s u → anyNames names cs k ≡ true → look k (end step cs s) ≡ look k (end step cs u)

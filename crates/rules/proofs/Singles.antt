@@ -1,5 +1,5 @@
 -- "the table afterwards equals theirs": a crew's request leaves the table that its single requests leave, asked one after the other, and has a code among the successes exactly if its single request was answered 01 or 02. Assumes nothing.
-use mathlib.Core.Path.{_≡_, refl, sym, ap, _∙_}
+use mathlib.Core.Path.{_≡_, sym, ap, _∙_}
 use mathlib.Core.Bool.{true, false, not}
 use mathlib.Core.Option.{some}
 use mathlib.Core.List.{List}
@@ -13,7 +13,7 @@ use Rattle.tables.specs.Tables.{tableSound, flagsOf}
 use Rattle.rules.specs.Requests.{hasFollowMe, refusalChecks}
 use Rattle.rules.specs.Crews.{crewCodes, crewNumber, Walk, crewOutcome}
 use Rattle.rules.specs.Run.{end, log}
-use Rattle.rules.specs.Calls.{Call, request, Reply, replied, call}
+use Rattle.rules.specs.Calls.{Call, replied, call}
 use Rattle.rules.specs.Singles.{succeeds, codesWhere, singleRequests, AsSingles, Roomy}
 use Rattle.rules.proofs.Once.{single}
 use Rattle.rules.proofs.Steps.{singles-end, singles-log, Goes, goes-walks, walk, singly-single, singly-walks}
@@ -39,10 +39,10 @@ module _ (list : List ℕ) (delay : ℕ) (requester : Msisdn) (scheme : ℕ) (st
   same-log = sym (singles-log list delay singles table (singly-single list delay requester scheme string reply g buffers roomy))
 
   walked-so : walk list requester scheme string reply g table ≡ record {
-        successes = codesWhere succeeds (crewCodes codes) (log (call list delay) singles table);
-        failures = codesWhere (λ a. not (succeeds a)) (crewCodes codes) (log (call list delay) singles table);
-        table = end (call list delay) singles table;
-      }
+    successes = codesWhere succeeds (crewCodes codes) (log (call list delay) singles table);
+    failures = codesWhere (λ a. not (succeeds a)) (crewCodes codes) (log (call list delay) singles table);
+    table = end (call list delay) singles table;
+  }
   walked-so =
       let w = singly-walks list delay requester scheme string reply g buffers roomy table sound in
       same-walk _ _ (w .successes ∙ ap (codesWhere succeeds (crewCodes codes)) same-log)

@@ -1,35 +1,36 @@
 -- What a call is by its single steps: its own, none, or a crew's single requests. Assumes nothing.
-use mathlib.Core.Path.{_≡_, refl, sym, ap, _∙_}
-use mathlib.Core.Bool.{Bool, true, false, cond, not, _||_}
+use mathlib.Core.Path.{_≡_, refl, ap, _∙_}
+use mathlib.Core.Bool.{Bool, true, false, cond, _&&_}
 use mathlib.Core.Option.{Option, none, some}
-use mathlib.Core.List.{List, [], _∷_, _++_, map}
-use Prim.Native.Nat.{ℕ, _≤_, _<_}
+use mathlib.Core.List.{List, [], _∷_, map}
+use Prim.Native.Nat.{ℕ, _%_, _≤_, _<_}
 use native.Mathlib.Omega.{arith}
-use lib.ListN.{length}
-use lib.Dec.{eqb, ltb}
-use borrow.Author.Tests.{not-false, ltb-false}
+use lib.ListN.{length, drop}
+use borrow.Author.Tests.{not-false, ltb-false, eqb-true}
 use Rattle.answers.specs.Begins.{begins}
-use Rattle.answers.specs.Checks.{anyHolds, decide}
+use Rattle.answers.specs.Checks.{_>>=_, onlyIf, anyHolds, decide}
 use Rattle.answers.specs.Leading.{each}
-use Rattle.answers.proofs.Tests.{and-left, and-right}
+use Rattle.answers.proofs.Tests.{no-path, and-left, and-right}
 use Rattle.answers.proofs.Checks.{not-some}
 use Rattle.answers.proofs.Decide.{all-pass}
 use Rattle.packing.specs.Packing.{packed, unpacked}
-use Rattle.numbers.specs.Numbers.{isNumber}
 use Rattle.numbers.specs.declared.Msisdn.{Msisdn}
-use Rattle.crews.specs.Crews.{isCode, isIn, crewOf}
+use Rattle.crews.specs.declared.Crew.the-variants.{Single, Codes}
+use Rattle.crews.specs.Crews.{leadCode, bulkText, isCode, isIn, countedCodesAt, crewOf, counted, countOf}
 use Rattle.crews.proofs.Codes.{code-below}
 use Rattle.crews.proofs.Crews.{sound-codes, crew-only}
+use Rattle.strings.specs.declared.Operation.{Operation}
+use Rattle.strings.specs.declared.Operation.the-variants.{Register, Erase, Interrogate}
 use Rattle.strings.specs.declared.Erasing.{Erasing}
-use Rattle.strings.specs.declared.Erasing.the-variants.{Empty}
-use Rattle.strings.specs.Text.{Request, requestSound, textOf}
+use Rattle.strings.specs.declared.Erasing.the-variants.{Empty, Forced}
+use Rattle.strings.specs.Text.{Request, mayCarry, isLead, requestSound, textOf}
 use Rattle.strings.specs.Outcomes.{requestOf}
 use Rattle.strings.proofs.Text.{sound-rules}
 use Rattle.strings.proofs.ReadBack.{read-only}
 use Rattle.strings.proofs.Octets.{request-reads}
-use Rattle.tables.specs.Tables.{tableSound, recordOf, flagsOf}
+use Rattle.tables.specs.Tables.{tableSound, flagsOf}
 use Rattle.rules.specs.Answers.{Answer, Outcome, bufferRoom}
-use Rattle.rules.specs.Requests.{hasFollowMe, codingScheme, refusalChecks, rightChecks, negative, once, askingBy, requestingBy, saying}
+use Rattle.rules.specs.Requests.{hasFollowMe, refusalChecks, rightChecks, negative, once, saying}
 use Rattle.rules.specs.Crews.{withCode, memberOf, crewCodes, crewNumber, Walk, walked, setOut, crewOutcome, carriedOutFor, requesting}
 use Rattle.rules.specs.Run.{end, log}
 use Rattle.rules.specs.Calls.{Call, request, sending, result, Reply, replied, call, codesRead, codesOf, namesOne, singleCalls, stepsOf}
@@ -74,9 +75,38 @@ module _ (list : List ℕ) (delay : ℕ) where
 
 -- ---- a crew's request
 
--- it is plain
-crew-plain : (f : Request) {codes : List ℕ} → requestSound f ≡ true → crewOf (f .additional) ≡ some codes → f .erasing ≡ Empty
-crew-plain f h e = ?
+-- its field says how many codes it has
+crew-count : (field : List ℕ) {codes : List ℕ} → crewOf field ≡ some codes → countOf field ≡ Codes (length codes)
+unfolding countOf crewOf
+crew-count field {codes} e = go (begins bulkText field) refl e
+  where
+    go : (b : Bool) → begins bulkText field ≡ b → (onlyIf b (drop (length bulkText) field) >>= countedCodesAt) ≡ some codes
+        → cond b (counted (onlyIf b (drop (length bulkText) field) >>= countedCodesAt)) Single ≡ Codes (length codes)
+    go true q e = ap counted e
+    go false q e = not-some e
+
+carried-plain : (o : Operation) (e : Erasing) → mayCarry o e ≡ true → e ≡ Empty
+carried-plain Register Empty h = refl
+carried-plain Erase Empty h = refl
+carried-plain Interrogate Empty h = refl
+carried-plain Register (Forced m) h = no-path h
+carried-plain Erase (Forced m) h = no-path h
+carried-plain Interrogate (Forced m) h = no-path h
+
+module _ (f : Request) {codes : List ℕ} (sound : requestSound f ≡ true) (crew : crewOf (f .additional) ≡ some codes) where
+  crew-kept : (isLead (f .number) && mayCarry (f .operation) (f .erasing)) ≡ true
+  crew-kept = rw (crew-count (f .additional) crew) at (sound-rules f sound .crew)
+
+  -- it is plain
+  pub crew-plain : f .erasing ≡ Empty
+  crew-plain = carried-plain (f .operation) (f .erasing) (and-right (isLead (f .number)) (mayCarry (f .operation) (f .erasing)) crew-kept)
+
+  -- its lead number is the one with code 01
+  pub lead-number : withCode (f .number .0) leadCode ≡ f .number .0
+  unfolding withCode
+  lead-number =
+      let ends = eqb-true (f .number .0 % 100) leadCode (and-left (isLead (f .number)) (mayCarry (f .operation) (f .erasing)) crew-kept) in
+      omega arith
 
 -- a requester with Follow Me passes the checks of her rights, if she forces nobody
 passes-rights : (t reply : List ℕ) (flags : ℕ) (e : Erasing) (done : Outcome) → hasFollowMe flags ≡ true → e ≡ Empty

@@ -11,7 +11,7 @@ use Rattle.numbers.specs.declared.Msisdn.{Msisdn}
 use Rattle.strings.specs.Text.{Request}
 use Rattle.tables.specs.Tables.{tableSound, listSound}
 use Rattle.rules.specs.Answers.{refusal, Outcome, made, bufferRoom, refusing}
-use Rattle.rules.specs.Requests.{once, requestingBy}
+use Rattle.rules.specs.Requests.{requestingBy}
 use Rattle.rules.specs.Crews.{requesting}
 use Rattle.rules.specs.Notices.{sendingNotice, takingResult}
 use Rattle.rules.specs.Run.{end}

@@ -1,7 +1,7 @@
 -- Answers in document 01's words and numbers, the texts that they write, and what a call comes to: the answer, the table afterwards and the buffer afterwards. Assumes nothing.
-use Prim.Native.Nat.{ℕ, _+_, _/_, _%_}
+use Prim.Native.Nat.{ℕ}
 use mathlib.Core.Bool.{Bool, not, _&&_, _||_}
-use mathlib.Core.List.{List, [], _∷_, _++_, map}
+use mathlib.Core.List.{List, _∷_, _++_, map}
 use lib.ListN.{length}
 use lib.Dec.{eqb}
 use Rattle.answers.specs.Writing.{over}

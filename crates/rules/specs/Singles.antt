@@ -8,7 +8,7 @@ use Rattle.packing.specs.Packing.{packed}
 use Rattle.numbers.specs.declared.Msisdn.{Msisdn}
 use Rattle.strings.specs.Text.{Request, textOf}
 use Rattle.rules.specs.Answers.{Answer, isOutcome, bufferRoom}
-use Rattle.rules.specs.Crews.{memberOf, crewCodes, crewNumber, Walk, crewOutcome}
+use Rattle.rules.specs.Crews.{memberOf, crewCodes, crewNumber, crewOutcome}
 use Rattle.rules.specs.Run.{end, log}
 use Rattle.rules.specs.Calls.{Call, request, Reply, replied, call}
 

@@ -9,6 +9,7 @@ use Rattle.numbers.specs.Numbers.{twoDigits}
 use Rattle.answers.specs.Checks.{decide}
 use Rattle.numbers.specs.declared.FunctionalNumber.{FunctionalNumber}
 use Rattle.numbers.specs.declared.Msisdn.{Msisdn}
+use Rattle.numbers.specs.Numbers.{twoDigits}
 use Rattle.strings.specs.declared.Operation.{Operation}
 use Rattle.strings.specs.declared.Operation.the-variants.{Register, Erase, Interrogate}
 use Rattle.strings.specs.declared.Erasing.{Erasing}

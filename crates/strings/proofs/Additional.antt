@@ -10,13 +10,14 @@ use lib.ListN.{length, take, drop, take-append-drop, length-append, length-drop,
 use lib.Seq.{length-take-le, drop-append-seam, take-append-seam}
 use lib.Dec.{leb, eqb}
 use borrow.Author.Tests.{eqb-true, eq-eqb, ne-eqb, le-leb, lt-leb}
+use Rattle.answers.specs.Begins.{begins}
 use Rattle.answers.proofs.Leading.{leading-stop, leading-front, leading-append}
 use Rattle.answers.proofs.Tests.{and-left, and-right}
 use Rattle.answers.proofs.Checks.{onlyIf-some}
 use Rattle.numbers.specs.Numbers.{isDigit}
 use Rattle.strings.specs.Text.{isAdditional, areAdditional, mostAdditional, hash}
-use Rattle.strings.specs.Reader.{begins, leadingAdditional, additionalAt}
-use Rattle.strings.proofs.Begins.{begins-only}
+use Rattle.strings.specs.Reader.{leadingAdditional, additionalAt}
+use Rattle.answers.proofs.Begins.{begins-only}
 
 -- ---- the field, by the tests in their order
 

@@ -10,6 +10,7 @@ use lib.Seq.{take-append-le, drop-append-le}
 use Rattle.answers.specs.Writing.{madeWrite, Stands}
 use Rattle.answers.specs.declared.Written.the-variants.{Count, TooShort, Unfit}
 use Rattle.answers.proofs.Writing.{wrote-count, no-room, not-fit, all-good}
+use Rattle.crews.specs.declared.Crew.{Crew}
 use Rattle.packing.specs.Packing.{packed, readable, unpacked}
 use Rattle.strings.specs.declared.Fields.{Fields}
 use Rattle.strings.specs.declared.Reading.{Reading}
@@ -25,8 +26,8 @@ use Rattle.strings.proofs.ReadBack.{read-only}
 text-behind : (f : Request) → length (f .additional) < length (textOf f)
 text-behind f = rw (text-fields f) (simp length-append (omega arith))
 
-pub not-error : {A : Type 0} (f : Request) (n m : ℕ) → fields f n ≡ error m → A
-not-error f n m e = absurd (let z : _≡_ {A = ℕ} 0 1 = cc in omega arith)
+pub not-error : {A : Type 0} (f : Request) (n : ℕ) (crew : Crew) (m : ℕ) → fields f n crew ≡ error m → A
+not-error f n crew m e = absurd (let z : _≡_ {A = ℕ} 0 1 = cc in omega arith)
 
 -- what is told of a text s, at the front of another: where its additional field ends, before the last character
 pub told-place :
@@ -42,7 +43,7 @@ told-end : (s : List ℕ) (f : Fields) → told (Read f) s ≡ tell s (fieldsOf 
 told-end s f e = go (fieldsOf s) refl e
   where
     go : (r : Option Request) → fieldsOf s ≡ r → told (Read f) s ≡ tell s r → length s ≡ f .start + f .count + 1
-    go none r d = not-error _ _ _ d
+    go none r d = not-error _ _ _ _ d
     go (some g) r d = told-place s s f g (read-only s r .1) (omega arith) d
 
 -- what stands behind the text does not matter

@@ -38,29 +38,31 @@ beside-whole os e =
     (less-or-not mostCharacters (charsIn (length os)))
 
 -- two sets of fields at one place in a text
-fields-one : (f h : Fields) (text : List ℕ) → requestIn text f ≡ requestIn text h → f .start ≡ h .start → f .count ≡ h .count → f ≡ h
-fields-one f h text e s c = λ i. record {
+fields-one :
+    (f h : Fields) (text : List ℕ) → requestIn text f ≡ requestIn text h → f .start ≡ h .start → f .count ≡ h .count → f .crew ≡ h .crew → f ≡ h
+fields-one f h text e s c k = λ i. record {
   operation = e i .operation;
   number = e i .number;
   erasing = e i .erasing;
   start = s i;
   count = c i;
+  crew = k i;
 }
 
 told-one :
     (text s : List ℕ) (o : Option Request) → ((g : Request) → o ≡ some g → (s ≡ textOf g) × (length s ≤ length text)) → (a b : Reading)
     → told a text ≡ tell s o → told b text ≡ tell s o → a ≡ b
-told-one text s none known (Read f) b p q = not-error _ _ _ p
-told-one text s none known Unreadable (Read h) p q = not-error _ _ _ q
+told-one text s none known (Read f) b p q = not-error _ _ _ _ p
+told-one text s none known Unreadable (Read h) p q = not-error _ _ _ _ q
 told-one text s none known Unreadable Unreadable p q = refl
 told-one text s (some g) known (Read f) (Read h) p q =
     let k = known g refl in
     let d = told-place text s f g (k .0) (k .1) p in
     let e = told-place text s h g (k .0) (k .1) q in
     let start : f .start ≡ h .start = cc in
-    ap Read (fields-one f h text (cc) start (omega arith))
-told-one text s (some g) known (Read f) Unreadable p q = not-error _ _ _ (sym q)
-told-one text s (some g) known Unreadable b p q = not-error _ _ _ (sym p)
+    ap Read (fields-one f h text (cc) start (omega arith) (cc))
+told-one text s (some g) known (Read f) Unreadable p q = not-error _ _ _ _ (sym q)
+told-one text s (some g) known Unreadable b p q = not-error _ _ _ _ (sym p)
 
 pub read-request-one : (os : List ℕ) (a b : ReadRequest) → madeRead a ≡ reading os → madeRead b ≡ reading os → a ≡ b
 unfolding reading

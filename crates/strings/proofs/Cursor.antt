@@ -1,5 +1,6 @@
 -- The fields one behind the other in a text, each read from the rest of it, and the additional field's place. Assumes nothing.
 use mathlib.Core.Path.{_≡_, ap, _∙_}
+use mathlib.Core.Bool.{true, false}
 use mathlib.Core.Option.{Option, none, some}
 use mathlib.Core.List.{List}
 use Prim.Native.Nat.{ℕ, _+_, _-_, _≤_}
@@ -7,10 +8,12 @@ use native.Mathlib.Omega.{arith}
 use lib.ListN.{length, take, drop, length-drop}
 use lib.Seq.{length-take-le, drop-drop}
 use Rattle.answers.proofs.Parts.{rest-of}
+use Rattle.crews.specs.Crews.{countOf}
 use Rattle.strings.specs.declared.Operation.{Operation}
 use Rattle.strings.specs.declared.Erasing.{Erasing}
 use Rattle.strings.specs.declared.Fields.{Fields}
 use Rattle.strings.specs.declared.Reading.the-variants.{Read, Unreadable}
+use Rattle.strings.specs.Text.{requestFrom, crewKept}
 use Rattle.strings.specs.Reader.{Field, operationAt, serviceAt, numberFieldAt, erasingAt, additionalAt, fieldsOf}
 use Rattle.strings.specs.Outcomes.{requestIn, told, tell}
 use Rattle.strings.specs.Outcomes.Told.{fields}
@@ -61,17 +64,21 @@ module _ (s : List ℕ) where
           unfolding fieldsOf
           no-additional e = rw (operation .found, service .found, number .found, erasing .found, e)
 
-          pub all-read :
-              (additional : List ℕ) → additionalAt (drop m s) ≡ some additional
-              → fieldsOf s ≡ some (record { operation = o; number = record { 0 = w }; erasing = x; additional = additional })
-          unfolding fieldsOf
-          all-read additional e = rw (operation .found, service .found, number .found, erasing .found, e)
+          module _ (additional : List ℕ) (found : additionalAt (drop m s) ≡ some additional) where
+            pub no-crew : crewKept (requestFrom o (record { 0 = w }) x additional) ≡ false → fieldsOf s ≡ none
+            unfolding fieldsOf
+            no-crew e = rw (operation .found, service .found, number .found, erasing .found, found, e)
+
+            pub all-read :
+                crewKept (requestFrom o (record { 0 = w }) x additional) ≡ true → fieldsOf s ≡ some (requestFrom o (record { 0 = w }) x additional)
+            unfolding fieldsOf
+            all-read e = rw (operation .found, service .found, number .found, erasing .found, found, e)
 
 -- the additional field stands before the last character
 pub told-read :
     (text : List ℕ) (f : Fields) → fieldsOf text ≡ some (requestIn text f) → length text ≡ f .start + f .count + 1
-    → told (Read f) text ≡ tell text (fieldsOf text)
-told-read text f e l =
+    → f .crew ≡ countOf (requestIn text f .additional) → told (Read f) text ≡ tell text (fieldsOf text)
+told-read text f e l k =
     let rest = drop (f .start) text in
     let c = length-take-le (f .count) rest (omega (arith, length-drop (f .start) text)) in
-    rw e (ap (λ (n : ℕ). fields (requestIn text f) n) (omega arith))
+    rw (e, k) (ap (λ (n : ℕ). fields (requestIn text f) n (countOf (requestIn text f .additional))) (omega arith))

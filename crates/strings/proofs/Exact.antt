@@ -7,6 +7,7 @@ use mathlib.Core.List.{List, _∷_, _++_, append-assoc}
 use Prim.Native.Nat.{ℕ}
 use lib.ListN.{drop}
 use lib.Seq.{drop-append-seam}
+use Rattle.answers.specs.Begins.{begins, behind}
 use Rattle.answers.specs.Ascii.{ascii}
 use Rattle.answers.specs.Checks.{onlyIf}
 use Rattle.answers.proofs.Tests.{and-left, and-right, and-both}
@@ -20,8 +21,8 @@ use Rattle.strings.specs.declared.Operation.the-variants.{Register, Eras
 use Rattle.strings.specs.declared.Erasing.{Erasing}
 use Rattle.strings.specs.declared.Erasing.the-variants.{Empty, Forced}
 use Rattle.strings.specs.Text.{operationText, serviceText, star, supervisorText, msisdnText, mayForce, erasingSound}
-use Rattle.strings.specs.Reader.{Field, begins, behind, fieldAt, orElse, operationAt, serviceAt, starredNumber, numberFieldAt, forcedAt, erasingAt}
-use Rattle.strings.proofs.Begins.{begins-only}
+use Rattle.strings.specs.Reader.{Field, fieldAt, orElse, operationAt, serviceAt, starredNumber, numberFieldAt, forcedAt, erasingAt}
+use Rattle.answers.proofs.Begins.{begins-only, behind-only}
 
 -- a reader reads exactly the texts of what is sound, whatever stands behind them
 pub record Exact {X : Type 0} (reader : List ℕ → Option (Field X)) (text : X → List ℕ) (sound : X → Bool) : Type 0 where
@@ -29,11 +30,6 @@ pub record Exact {X : Type 0} (reader : List ℕ → Option (Field X)) (text : X
   pub only : (s : List ℕ) {f : Field X} → reader s ≡ some f → (sound (f .got) ≡ true) × (s ≡ text (f .got) ++ f .rest)
 
 -- ---- fixed characters
-
-behind-only : (p s : List ℕ) {rest : List ℕ} → behind p s ≡ some rest → s ≡ p ++ rest
-behind-only p s e =
-    let d = onlyIf-some (begins p s) e in
-    begins-only p s (d .0) ∙ ap (λ (l : List ℕ). p ++ l) (d .1)
 
 module _ {X : Type 0} where
   field-only : (x : X) (p s : List ℕ) {f : Field X} → fieldAt x p s ≡ some f → (x ≡ f .got) × (s ≡ p ++ f .rest)

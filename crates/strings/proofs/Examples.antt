@@ -1,22 +1,25 @@
--- Document 01's examples of strings, computed from the definitions. Assumes nothing.
+-- Document 01's examples of strings, and a string of each class of document 02, M-100, computed from the definitions. Assumes nothing.
 use mathlib.Core.Path.{_≡_, refl}
 use mathlib.Core.List.{List, [], _++_}
 use Prim.Native.Nat.{ℕ, _/_}
 use lib.ListN.{length, getD, replicate}
-use Rattle.answers.specs.Leading.{leading}
+use Rattle.answers.specs.Begins.{begins}
+use Rattle.answers.specs.Leading.{each, leading}
 use Rattle.answers.specs.Ascii.{ascii}
 use Rattle.numbers.specs.Numbers.{isDigit, pushed, storedForm, digitsUpTo, digitsOf, leadingNumber}
+use Rattle.crews.specs.Crews.{isCode, isIn, distinct, codesSound, codesIn, codesAt, soundCodesAt, spacedCodesAt, countedCodesAt, crewOf, countOf}
+use Rattle.crews.specs.declared.Crew.the-variants.{Single, Codes}
 use Rattle.packing.specs.Packing.{valueOf, digits, octetsFor, charsIn, padded, packed, characters, readable, filled, kept, unpacked}
 use Rattle.strings.specs.declared.Operation.the-variants.{Register}
 use Rattle.strings.specs.declared.Erasing.the-variants.{Empty}
 use Rattle.strings.specs.Text.{Request, isAdditional, textOf}
-use Rattle.strings.specs.Reader.{begins, operationAt, serviceAt, numberFieldAt, forcedAt, erasingAt, additionalAt, fieldsOf}
+use Rattle.strings.specs.Reader.{operationAt, serviceAt, numberFieldAt, forcedAt, erasingAt, additionalAt, fieldsOf}
 use Rattle.strings.specs.Outcomes.{requestOf, Told, reading}
 use Rattle.strings.specs.Outcomes.Told.{fields, error}
 
 -- what is told of a text, once it is packed
 unfoldable pub toldOf : List ℕ → Told
-unfolding begins operationAt serviceAt numberFieldAt forcedAt erasingAt leading additionalAt fieldsOf requestOf reading isAdditional isDigit pushed storedForm leadingNumber valueOf digits octetsFor charsIn padded packed characters readable filled kept unpacked
+unfolding begins each isCode isIn distinct codesSound codesIn codesAt soundCodesAt spacedCodesAt countedCodesAt crewOf countOf operationAt serviceAt numberFieldAt forcedAt erasingAt leading additionalAt fieldsOf requestOf reading isAdditional isDigit pushed storedForm leadingNumber valueOf digits octetsFor charsIn padded packed characters readable filled kept unpacked
 toldOf text = reading (packed text) .answer
 
 -- the registration of a number, with an additional field
@@ -51,10 +54,37 @@ unfolding textFor octetsOf
 fourteen-digits = (refl, refl)
 
 -- "A 30-character additional field reads, 31 gives 36"
-pub thirty : toldOf (ascii "**214*0492123401***" ++ replicate 30 65 ++ ascii "#") ≡ fields (registering 10492123401 (replicate 30 65)) 19
+pub thirty : toldOf (ascii "**214*0492123401***" ++ replicate 30 65 ++ ascii "#") ≡ fields (registering 10492123401 (replicate 30 65)) 19 Single
 unfolding toldOf
 thirty = refl
 
 pub thirty-one : toldOf (ascii "**214*0492123401***" ++ replicate 31 65 ++ ascii "#") ≡ error 36
 unfolding toldOf
 thirty-one = refl
+
+-- a crew, a field that breaks its rules, and an ordinary field
+pub crew-reads : toldOf (ascii "**214*0492123401***BULK2 0203#") ≡ fields (registering 10492123401 (ascii "BULK2 0203")) 19 (Codes 2)
+unfolding toldOf
+crew-reads = refl
+
+pub other-words : toldOf (ascii "**214*0492123401***BULKY GOODS#") ≡ error 36
+unfolding toldOf
+other-words = refl
+
+pub space-in-front : toldOf (ascii "**214*0492123401*** BULK1 02#") ≡ fields (registering 10492123401 (ascii " BULK1 02")) 19 Single
+unfolding toldOf
+space-in-front = refl
+
+-- "or stands in another operation, is 36"
+pub not-interrogated : toldOf (ascii "*#214*0492123401***BULK2 0203#") ≡ error 36
+unfolding toldOf
+not-interrogated = refl
+
+pub not-forced : toldOf (ascii "##214*0492123401*88*4915100001*BULK0#") ≡ error 36
+unfolding toldOf
+not-forced = refl
+
+-- "The functional number ends in 01"
+pub not-a-lead : toldOf (ascii "**214*0492123402***BULK0#") ≡ error 36
+unfolding toldOf
+not-a-lead = refl

@@ -5,8 +5,8 @@ use mathlib.Core.Bool.{true}
 use mathlib.Core.Option.{some, Option·some-injective}
 use mathlib.Core.List.{List}
 use Prim.Native.Nat.{ℕ}
-use Rattle.answers.proofs.Checks.{bind-some}
-use Rattle.strings.specs.Text.{Request, requestSound, textOf}
+use Rattle.answers.proofs.Checks.{bind-some, onlyIf-some, onlyIf-yes}
+use Rattle.strings.specs.Text.{Request, crewKept, requestSound, textOf}
 use Rattle.strings.specs.Reader.{operationAt, serviceAt, numberFieldAt, erasingAt, additionalAt, fieldsOf}
 use Rattle.strings.proofs.Exact.{operation-exact, service-back, service-only, number-exact, erasing-exact}
 use Rattle.strings.proofs.Additional.{additional-back, additional-only}
@@ -24,6 +24,7 @@ read-back f h =
       erasing-exact (f .operation) .back (f .erasing) _ (r .erasing),
       additional-back (f .additional) (r .few) (r .additional),
     )
+    (onlyIf-yes (crewKept f) f (r .crew))
 
 pub read-only : (s : List ℕ) {f : Request} → fieldsOf s ≡ some f → (requestSound f ≡ true) × (s ≡ textOf f)
 unfolding fieldsOf
@@ -38,8 +39,9 @@ read-only s h =
     let n′ = number-exact .only rest n in
     let e′ = erasing-exact (operation .got) .only (number .rest) e in
     let a′ = additional-only (erasing .rest) a in
-    rw (← (Option·some-injective _ _ ha)) (
-      rules-sound _ (record { number = n′ .0; erasing = e′ .0; few = a′ .0; additional = a′ .1 }),
+    let k = onlyIf-some _ ha in
+    rw (← (k .1)) (
+      rules-sound _ (record { number = n′ .0; erasing = e′ .0; few = a′ .0; additional = a′ .1; crew = k .0 }),
       rw text-fields (cc),
     )
 

@@ -7,15 +7,16 @@ use Prim.Native.Nat.{ℕ, _+_}
 use native.Mathlib.Omega.{arith}
 use lib.ListN.{drop, length-drop}
 use lib.Seq.{drop-drop}
+use Rattle.answers.specs.Begins.{begins}
 use Rattle.answers.specs.Ascii.{ascii}
 use Rattle.numbers.specs.Numbers.{leadingNumber}
 use Rattle.numbers.specs.declared.NumberRead.the-variants.{Number, Unreadable}
 use Rattle.strings.specs.declared.Operation.{Operation}
 use Rattle.strings.specs.declared.Erasing.the-variants.{Empty, Forced}
 use Rattle.strings.specs.Text.{mayForce, star}
-use Rattle.strings.specs.Reader.{begins, numberFieldAt, forcedAt, erasingAt}
+use Rattle.strings.specs.Reader.{numberFieldAt, forcedAt, erasingAt}
 use Rattle.strings.specs.Found.{Found}
-use Rattle.strings.proofs.Begins.{begins-within}
+use Rattle.answers.proofs.Begins.{begins-within}
 
 -- ---- a number and its star
 

@@ -10,19 +10,21 @@ use lib.Dec.{leb, eqb}
 use borrow.Author.Tests.{leb-true, le-leb, lt-leb, eqb-true, lt-ltb, ne-eqb}
 use Rattle.answers.specs.Leading.{each}
 use Rattle.answers.specs.Ascii.{ascii}
+use Rattle.answers.specs.Begins.{begins}
 use Rattle.answers.proofs.Leading.{each-append, each-implies, each-leading}
 use Rattle.answers.proofs.Tests.{and-left, and-right, or-cases}
 use Rattle.numbers.specs.Numbers.{isDigit, isNumber, digitsOf}
 use Rattle.numbers.proofs.Digits.{digits-are, digits-most}
 use Rattle.numbers.specs.declared.FunctionalNumber.{FunctionalNumber}
 use Rattle.numbers.specs.declared.Msisdn.{Msisdn}
+use Rattle.crews.specs.Crews.{countOf}
 use Rattle.packing.specs.Packing.{taken, takes, octetsFor, packed}
 use Rattle.packing.proofs.Laws.{length-packed}
 use Rattle.strings.specs.declared.Operation.{Operation}
 use Rattle.strings.specs.declared.Operation.the-variants.{Register, Erase, Interrogate}
 use Rattle.strings.specs.declared.Erasing.{Erasing}
 use Rattle.strings.specs.declared.Erasing.the-variants.{Empty, Forced}
-use Rattle.strings.specs.Text.{Request, isAdditional, areAdditional, mostAdditional, mayForce, erasingSound, requestSound, operationText, serviceText, star, hash, textOf, noticeFields, mostCharacters, mostOctets}
+use Rattle.strings.specs.Text.{Request, isAdditional, areAdditional, mostAdditional, mayForce, erasingSound, crewKept, requestSound, operationText, serviceText, star, hash, textOf, noticeFields, mostCharacters, mostOctets}
 use Rattle.strings.specs.Reader.{leadingAdditional}
 use Rattle.strings.proofs.Exact.{starred, erasingText}
 
@@ -32,6 +34,7 @@ pub record Rules (f : Request) : Type 0 where
   pub erasing : erasingSound (f .operation) (f .erasing) ≡ true
   pub few : leb (length (f .additional)) mostAdditional ≡ true
   pub additional : areAdditional (f .additional) ≡ true
+  pub crew : crewKept f ≡ true
 
 pub sound-rules : (f : Request) → requestSound f ≡ true → Rules f
 unfolding requestSound
@@ -40,18 +43,20 @@ sound-rules f h =
     let e = erasingSound (f .operation) (f .erasing) in
     let l = leb (length (f .additional)) mostAdditional in
     let a = areAdditional (f .additional) in
-    let nel = and-left (n && e && l) a h in
+    let nela = and-left (n && e && l && a) (crewKept f) h in
+    let nel = and-left (n && e && l) a nela in
     let ne = and-left (n && e) l nel in
     record {
       number = and-left n e ne;
       erasing = and-right n e ne;
       few = and-right (n && e) l nel;
-      additional = and-right (n && e && l) a h;
+      additional = and-right (n && e && l) a nela;
+      crew = and-right (n && e && l && a) (crewKept f) h;
     }
 
 pub rules-sound : (f : Request) → Rules f → requestSound f ≡ true
 unfolding requestSound
-rules-sound f r = rw (r .number, r .erasing, r .few) (r .additional)
+rules-sound f r = rw (r .number, r .erasing, r .few, r .additional) (r .crew)
 
 -- the tests as the writer makes them
 pub unsound-many : (f : Request) → mostAdditional < length (f .additional) → requestSound f ≡ false
@@ -60,7 +65,8 @@ unsound-many f h = rw (lt-leb (length (f .additional)) mostAdditional h, and-fal
 
 pub sound-few :
     (f : Request) → length (f .additional) ≤ mostAdditional
-    → requestSound f ≡ (isNumber (f .number .0) && erasingSound (f .operation) (f .erasing) && eqb (leadingAdditional (f .additional)) (length (f .additional)))
+    → requestSound f
+    ≡ (isNumber (f .number .0) && erasingSound (f .operation) (f .erasing) && eqb (leadingAdditional (f .additional)) (length (f .additional)) && crewKept f)
 unfolding requestSound
 sound-few f h = rw (le-leb (length (f .additional)) mostAdditional h, and-true, each-leading isAdditional (f .additional))
 
@@ -184,7 +190,7 @@ notice-text n s = refl
 
 module _ (n : FunctionalNumber) (s : Msisdn) (number : isNumber (n .0) ≡ true) (supervisor : isNumber (s .0) ≡ true) where
   pub notice-sound : requestSound (noticeFields n s) ≡ true
-  unfolding requestSound noticeFields each
+  unfolding requestSound noticeFields each begins countOf
   notice-sound = rw (number, supervisor)
 
   -- at most 42 characters, 37 octets: a notice fits the 80 octets of its buffer

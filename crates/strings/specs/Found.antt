@@ -4,6 +4,7 @@ use mathlib.Core.Option.{Option, none, some}
 use mathlib.Core.List.{List}
 use Prim.Native.Nat.{ℕ, _+_, _≤_}
 use lib.ListN.{length, take, drop}
+use Rattle.crews.specs.Crews.{countOf}
 use Rattle.strings.specs.declared.Operation.{Operation}
 use Rattle.strings.specs.declared.OperationRead.{OperationRead}
 use Rattle.strings.specs.declared.OperationRead.the-variants.{Read as OperationField, Unreadable as NoOperation}
@@ -44,5 +45,5 @@ ErasingIs o (ErasingField e n) s = Found (erasingAt o) s 0 e n
 ErasingIs o NoErasing s = erasingAt o s ≡ none
 
 abbrev pub AdditionalIs : AdditionalRead → List ℕ → Type 0
-AdditionalIs (AdditionalField n) s = (length s ≡ n + 1) × (additionalAt s ≡ some (take n s))
+AdditionalIs (AdditionalField n crew) s = (length s ≡ n + 1) × (additionalAt s ≡ some (take n s)) × (crew ≡ countOf (take n s))
 AdditionalIs NoAdditional s = additionalAt s ≡ none

@@ -6,6 +6,8 @@ use mathlib.Core.List.{List}
 use lib.ListN.{length, take, drop, replicate}
 use lib.Dec.{ltb}
 use Rattle.answers.specs.Writing.{WriteOutcome, writing}
+use Rattle.crews.specs.Crews.{countOf}
+use Rattle.crews.specs.declared.Crew.{Crew}
 use Rattle.packing.specs.Packing.{packed, readable, unpacked}
 use Rattle.packing.specs.Outcomes.{unpacking}
 use Rattle.strings.specs.declared.Fields.{Fields}
@@ -19,9 +21,9 @@ use Rattle.strings.specs.Reader.{fieldsOf}
 unfoldable pub requestOf : List ℕ → Option Request
 requestOf os = cond (readable os) (fieldsOf (unpacked os)) none
 
--- in the paper's words: the fields, with the place of the additional field in the text, or an error by its number
+-- in the paper's words: the fields, with the place of the additional field in the text and what it says of a crew, or an error by its number
 pub data Told : Type 0 where
-  fields : Request → ℕ → Told
+  fields : Request → ℕ → Crew → Told
   error : ℕ → Told
 
 -- the fields of the code's answer, the additional field taken from the text
@@ -35,7 +37,7 @@ requestIn text f = record {
 
 -- the paper's class, number and values for each case of the answer
 abbrev pub told : Reading → List ℕ → Told
-told (Read f) text = fields (requestIn text f) (f .start)
+told (Read f) text = fields (requestIn text f) (f .start) (f .crew)
 told Unreadable text = error 36
 
 -- what was told, and the text beside it
@@ -49,7 +51,7 @@ madeRead r = record { answer = told (r .reading) (r .text); text = r .text }
 -- the additional field stands before the last character
 abbrev pub tell : List ℕ → Option Request → Told
 tell text none = error 36
-tell text (some f) = fields f (length text - 1 - length (f .additional))
+tell text (some f) = fields f (length text - 1 - length (f .additional)) (countOf (f .additional))
 
 -- the text beside the answer: the characters, if they can be unpacked into it, and zeros behind them
 unfoldable pub textBeside : List ℕ → List ℕ

@@ -1,11 +1,12 @@
 -- Document 01, "Request string": how the fields are read from a text. "Each field is read from the remaining part of the string; the first field that cannot be read ends the reading." Assumes nothing.
 use Prim.Native.Nat.{ℕ, _+_}
-use mathlib.Core.Bool.{Bool, true, false, _&&_}
+use mathlib.Core.Bool.{_&&_}
 use mathlib.Core.Option.{Option, none, some}
-use mathlib.Core.List.{List, [], _∷_, _++_}
+use mathlib.Core.List.{List, _++_}
 use lib.ListN.{length, take, drop}
 use lib.Dec.{leb, eqb}
 use Rattle.answers.specs.Ascii.{ascii}
+use Rattle.answers.specs.Begins.{begins, behind}
 use Rattle.answers.specs.Leading.{leading}
 use Rattle.answers.specs.Checks.{_>>=_, onlyIf}
 use Rattle.numbers.specs.Numbers.{leadingNumber}
@@ -15,22 +16,12 @@ use Rattle.strings.specs.declared.Operation.{Operation}
 use Rattle.strings.specs.declared.Operation.the-variants.{Register, Erase, Interrogate}
 use Rattle.strings.specs.declared.Erasing.{Erasing}
 use Rattle.strings.specs.declared.Erasing.the-variants.{Empty, Forced}
-use Rattle.strings.specs.Text.{Request, mayForce, isAdditional, mostAdditional, operationText, serviceText, star, hash}
+use Rattle.strings.specs.Text.{Request, requestFrom, mayForce, crewKept, isAdditional, mostAdditional, operationText, serviceText, star, hash}
 
 -- a field that was read, and what is left of the string
 pub record Field (X : Type 0) : Type 0 where
   pub got : X
   pub rest : List ℕ
-
--- the string begins with the characters p
-unfoldable pub begins : List ℕ → List ℕ → Bool
-begins [] s = true
-begins (c ∷ p) [] = false
-begins (c ∷ p) (x ∷ s) = eqb x c && begins p s
-
--- what is left behind the characters p, if the string begins with them
-abbrev pub behind : List ℕ → List ℕ → Option (List ℕ)
-behind p s = onlyIf (begins p s) (drop (length p) s)
 
 -- the field x, written as the characters p
 abbrev pub fieldAt : {X : Type 0} → X → List ℕ → List ℕ → Option (Field X)
@@ -81,6 +72,10 @@ additionalAt s =
     let n = leadingAdditional s in
     onlyIf (leb n mostAdditional && begins hash (drop n s) && eqb (length s) (n + 1)) (take n s)
 
+-- "a field starting with `BULK` that breaks this, or stands in another operation, is 36"
+abbrev pub keepingCrew : Request → Option Request
+keepingCrew f = onlyIf (crewKept f) f
+
 -- all fields, in their order
 unfoldable pub fieldsOf : List ℕ → Option Request
 fieldsOf s = do
@@ -89,4 +84,4 @@ fieldsOf s = do
   number ← numberFieldAt rest
   erasing ← erasingAt (operation .got) (number .rest)
   additional ← additionalAt (erasing .rest)
-  some (record { operation = operation .got; number = record { 0 = number .got }; erasing = erasing .got; additional = additional })
+  keepingCrew (requestFrom (operation .got) (record { 0 = number .got }) (erasing .got) additional)

@@ -1,5 +1,5 @@
--- Document 01, "Request string" (000, 4.2.4.1): the fields of a request, when they are sound, and their text. Assumes nothing.
-use Prim.Native.Nat.{ℕ}
+-- Document 01, "Request string" (000, 4.2.4.1), and document 02, M-100: the fields of a request, when they are sound, and their text. Assumes nothing.
+use Prim.Native.Nat.{ℕ, _%_}
 use mathlib.Core.Bool.{Bool, true, false, _&&_, _||_}
 use mathlib.Core.List.{List, [], _∷_, _++_}
 use lib.ListN.{length}
@@ -9,6 +9,9 @@ use Rattle.answers.specs.Leading.{each}
 use Rattle.numbers.specs.Numbers.{isDigit, isNumber, digitsOf}
 use Rattle.numbers.specs.declared.FunctionalNumber.{FunctionalNumber}
 use Rattle.numbers.specs.declared.Msisdn.{Msisdn}
+use Rattle.crews.specs.Crews.{leadCode, countOf}
+use Rattle.crews.specs.declared.Crew.{Crew}
+use Rattle.crews.specs.declared.Crew.the-variants.{Single, Codes, Broken}
 use Rattle.strings.specs.declared.Operation.{Operation}
 use Rattle.strings.specs.declared.Operation.the-variants.{Register, Erase, Interrogate}
 use Rattle.strings.specs.declared.Erasing.{Erasing}
@@ -43,6 +46,26 @@ abbrev pub erasingSound : Operation → Erasing → Bool
 erasingSound o Empty = true
 erasingSound o (Forced m) = mayForce o && isNumber (m .0)
 
+-- "Only register and plain erase may carry it"
+abbrev pub mayCarry : Operation → Erasing → Bool
+mayCarry Register Empty = true
+mayCarry Erase Empty = true
+mayCarry Interrogate Empty = false
+mayCarry o (Forced m) = false
+
+-- "The functional number ends in 01"
+abbrev pub isLead : FunctionalNumber → Bool
+isLead number = eqb (number .0 % 100) leadCode
+
+-- what an additional field says of a crew, beside the other fields: an ordinary field may stand in any request
+abbrev pub crewAllowed : Operation → FunctionalNumber → Erasing → Crew → Bool
+crewAllowed o number erasing Single = true
+crewAllowed o number erasing (Codes n) = isLead number && mayCarry o erasing
+crewAllowed o number erasing Broken = false
+
+abbrev pub crewKept : Request → Bool
+crewKept f = crewAllowed (f .operation) (f .number) (f .erasing) (countOf (f .additional))
+
 -- the fields that a writer is given
 abbrev pub requestFrom : Operation → FunctionalNumber → Erasing → List ℕ → Request
 requestFrom o number erasing additional = record { operation = o; number = number; erasing = erasing; additional = additional }
@@ -51,6 +74,7 @@ requestFrom o number erasing additional = record { operation = o; number = numbe
 unfoldable pub requestSound : Request → Bool
 requestSound f =
     isNumber (f .number .0) && erasingSound (f .operation) (f .erasing) && leb (length (f .additional)) mostAdditional && areAdditional (f .additional)
+    && crewKept f
 
 -- "operation `**` (register), `##` (erase) or `*#` (interrogate)"
 abbrev pub operationText : Operation → List ℕ

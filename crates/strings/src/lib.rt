@@ -1,13 +1,16 @@
 // The request string: its fields, and the reader of its packed octets.
 use answers::Written;
+use answers::begins_with;
+use crews::Crew;
+use crews::LEAD_CODE;
 use numbers::FunctionalNumber;
 use numbers::Msisdn;
 use numbers::NumberRead;
 ghost use mathlib.Core.Path.{_≡_};
 ghost use mathlib.Core.Bool.{true};
 ghost use Prim.Native.Nat.{_+_, _<_};
-ghost use Rattle.strings.specs.Text.{isAdditional, mayForce};
-ghost use Rattle.strings.specs.Reader.{begins, leadingAdditional, fieldsOf};
+ghost use Rattle.strings.specs.Text.{isAdditional, mayForce, mayCarry, crewAllowed};
+ghost use Rattle.strings.specs.Reader.{leadingAdditional, fieldsOf};
 ghost use Rattle.strings.specs.Found.{OperationIs, ServiceIs, NumberFieldIs, ErasingIs, AdditionalIs};
 ghost use Rattle.strings.specs.Outcomes.{told, tell, madeRead, reading};
 
@@ -30,13 +33,14 @@ pub enum Erasing {
     Forced(Msisdn),
 }
 
-// The fields of a request; the additional field by its start and its count of characters in the unpacked text.
+// The fields of a request; the additional field by its start and its count of characters in the unpacked text, and what it says of a crew.
 pub struct Fields {
     pub operation: Operation,
     pub number: FunctionalNumber,
     pub erasing: Erasing,
     pub start: usize,
     pub count: usize,
+    pub crew: Crew,
 }
 
 // The fields, or error 36.
@@ -73,25 +77,8 @@ enum ErasingRead {
 }
 
 enum AdditionalRead {
-    Read(usize),
+    Read(usize, Crew),
     Unreadable,
-}
-
-// Whether a part begins with these characters.
-fn begins_with(part: &[u8], characters: &[u8]) -> bool
-    ensures { λ r. ⌜ r ≡ begins (now (characters .entry)) (now (part .entry)) ⌝ }
-{
-    if part.len() < characters.len() {
-        return false;
-    }
-    let mut i = 0;
-    while i < characters.len() {
-        if part[i] != characters[i] {
-            return false;
-        }
-        i += 1;
-    }
-    true
 }
 
 // The operation.
@@ -184,7 +171,7 @@ pub fn leading_additional(part: &[u8]) -> usize
     n
 }
 
-// The additional field, and `#` as last character.
+// The additional field and what it says of a crew, and `#` as last character.
 fn read_additional(part: &[u8]) -> AdditionalRead
     ensures { λ r. ⌜ AdditionalIs r (now (part .entry)) ⌝ }
 {
@@ -198,7 +185,37 @@ fn read_additional(part: &[u8]) -> AdditionalRead
     if part.len() != n + 1 {
         return AdditionalRead::Unreadable;
     }
-    AdditionalRead::Read(n)
+    AdditionalRead::Read(n, crews::read_crew(&part[..n]))
+}
+
+// Whether a request may carry a crew: with register and plain erase only.
+fn may_carry(operation: Operation, erasing: Erasing) -> bool
+    ensures { λ r. ⌜ r ≡ mayCarry operation erasing ⌝ }
+{
+    let Erasing::Empty = erasing else {
+        return false;
+    };
+    match operation {
+        Operation::Register => true,
+        Operation::Erase => true,
+        Operation::Interrogate => false,
+    }
+}
+
+// Whether what an additional field says of a crew may stand beside the other fields.
+pub fn crew_allowed(
+    operation: Operation,
+    number: FunctionalNumber,
+    erasing: Erasing,
+    crew: Crew,
+) -> bool
+    ensures { λ r. ⌜ r ≡ crewAllowed operation number erasing crew ⌝ }
+{
+    match crew {
+        Crew::Single => true,
+        Crew::Codes(_) => (number.0 % 100 == LEAD_CODE) & may_carry(operation, erasing),
+        Crew::Broken => false,
+    }
 }
 
 // The fields of a text, each read from the rest of it; the first that cannot be read ends the reading.
@@ -220,16 +237,20 @@ fn read_fields(text: &[u8]) -> Reading
         return Reading::Unreadable;
     };
     let start = cursor + n;
-    let AdditionalRead::Read(count) = read_additional(&text[start..]) else {
+    let AdditionalRead::Read(count, crew) = read_additional(&text[start..]) else {
         return Reading::Unreadable;
     };
     let number = FunctionalNumber(word);
+    if !crew_allowed(operation, number, erasing, crew) {
+        return Reading::Unreadable;
+    }
     Reading::Read(Fields {
         operation,
         number,
         erasing,
         start,
         count,
+        crew,
     })
 }
 

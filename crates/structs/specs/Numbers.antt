@@ -6,6 +6,8 @@ use lib.Dec.{eqb}
 use Rattle.answers.specs.Writing as writing
 use Rattle.rules.specs.Answers as rules
 use Rattle.numbers.specs.declared.FunctionalNumber.{FunctionalNumber}
+use Rattle.crews.specs.declared.Crew.{Crew}
+use Rattle.crews.specs.declared.Crew.the-variants.{Single, Codes, Broken}
 use Rattle.strings.specs.declared.Operation.{Operation}
 use Rattle.strings.specs.declared.Operation.the-variants.{Register, Erase, Interrogate}
 use Rattle.strings.specs.declared.Erasing.{Erasing}
@@ -46,22 +48,45 @@ abbrev pub ofErasing : Erasing → ℕ
 ofErasing Empty = 0
 ofErasing (Forced msisdn) = msisdn .0
 
+-- whether a request is of a crew, and how many codes it has; fields that read are not broken
+abbrev pub ofCrew : Crew → ℕ
+ofCrew Single = 0
+ofCrew (Codes n) = 1
+ofCrew Broken = 0
+
+abbrev pub codesOf : Crew → ℕ
+codesOf Single = 0
+codesOf (Codes n) = n
+codesOf Broken = 0
+
 -- the fields of a request, the additional field by its place and its length
-abbrev pub ofFields : Operation → FunctionalNumber → Erasing → ℕ → ℕ → RequestRead
-ofFields operation number erasing start count = record {
+abbrev pub ofFields : Operation → FunctionalNumber → Erasing → ℕ → ℕ → Crew → RequestRead
+ofFields operation number erasing start count crew = record {
   class = readClass;
   number = 0;
   operation = ofOperation operation;
+  crew = ofCrew crew;
   «functional_number» = number .0;
   msisdn = ofErasing erasing;
   start = start;
   length = count;
+  codes = codesOf crew;
 }
 
 -- what a request's reader answers: the fields, or an error
 abbrev pub ofTold : reading.Told → RequestRead
-ofTold (reading.fields f start) = ofFields (f .operation) (f .number) (f .erasing) start (length (f .additional))
-ofTold (reading.error n) = record { class = rules.errorClass; number = n; operation = 0; «functional_number» = 0; msisdn = 0; start = 0; length = 0 }
+ofTold (reading.fields f start crew) = ofFields (f .operation) (f .number) (f .erasing) start (length (f .additional)) crew
+ofTold (reading.error n) = record {
+  class = rules.errorClass;
+  number = n;
+  operation = 0;
+  crew = 0;
+  «functional_number» = 0;
+  msisdn = 0;
+  start = 0;
+  length = 0;
+  codes = 0;
+}
 
 -- an operation by its number; no other number is one
 abbrev pub operationOf : ℕ → Operating

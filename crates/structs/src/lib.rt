@@ -1,5 +1,6 @@
 // The structs that the C functions return, and the numbers that stand in them for the answers.
 use answers::Written;
+use crews::Crew;
 use numbers::Msisdn;
 use strings::Erasing;
 use strings::Fields;
@@ -11,7 +12,7 @@ use visits::SendingAnswer;
 ghost use mathlib.Core.Path.{_≡_};
 ghost use Rattle.answers.specs.Writing.{said};
 ghost use Rattle.visits.specs.Said.{saidRequest, saidSending, saidResult, saidFinding};
-ghost use Rattle.structs.specs.Numbers.{ofSaid, ofAnswer, ofOperation, ofErasing, ofFields, four, operationOf, erasingOf};
+ghost use Rattle.structs.specs.Numbers.{ofSaid, ofAnswer, ofOperation, ofErasing, ofCrew, codesOf, ofFields, four, operationOf, erasingOf};
 
 // The classes of an answer.
 const WRITTEN: u32 = 0;
@@ -42,17 +43,19 @@ pub struct Answer {
     pub value: u64,
 }
 
-// What the request's reader answers: the class; the number of an error; the operation, the functional number, the MSISDN that a forced
-// erasure names, or 0; and the start and the length of the additional field in the text.
+// What the request's reader answers: the class; the number of an error; the operation, whether it is of a crew, the functional number, the
+// MSISDN that a forced erasure names, or 0; the start and the length of the additional field in the text, and how many codes it ends in.
 #[repr(C)]
 pub struct RequestRead {
     pub class: u32,
     pub number: u32,
     pub operation: u32,
+    pub crew: u32,
     pub functional_number: u64,
     pub msisdn: u64,
     pub start: usize,
     pub length: usize,
+    pub codes: usize,
 }
 
 // The operation that a number stands for.
@@ -197,20 +200,45 @@ fn of_erasing(erasing: Erasing) -> u64
     }
 }
 
+// Whether a request is of a crew, 0 or 1.
+fn of_crew(crew: Crew) -> u32
+    ensures { λ r. ⌜ r ≡ ofCrew crew ⌝ }
+{
+    match crew {
+        Crew::Single => 0,
+        Crew::Codes(_) => 1,
+        Crew::Broken => 0,
+    }
+}
+
+// How many codes a crew has besides the lead's.
+fn codes_of(crew: Crew) -> usize
+    ensures { λ r. ⌜ r ≡ codesOf crew ⌝ }
+{
+    match crew {
+        Crew::Single => 0,
+        Crew::Codes(n) => n,
+        Crew::Broken => 0,
+    }
+}
+
 // The fields that were read.
 pub fn of_fields(fields: Fields) -> RequestRead
-    ensures { λ r. ⌜ r ≡ ofFields (fields .operation) (fields .number) (fields .erasing) (fields .start) (fields .count) ⌝ }
+    ensures { λ r. ⌜ r ≡ ofFields (fields .operation) (fields .number) (fields .erasing) (fields .start) (fields .count) (fields .crew) ⌝ }
 {
     let operation = fields.operation;
     let erasing = fields.erasing;
     let number = fields.number;
+    let crew = fields.crew;
     RequestRead {
         class: READ,
         number: 0,
         operation: of_operation(operation),
+        crew: of_crew(crew),
         functional_number: number.0,
         msisdn: of_erasing(erasing),
         start: fields.start,
         length: fields.count,
+        codes: codes_of(crew),
     }
 }

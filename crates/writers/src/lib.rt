@@ -141,7 +141,11 @@ fn request_sound(
         return false;
     }
     let leading = strings::leading_additional(additional);
-    numbers::is_number(number.0) & erasing_sound(operation, erasing) & (leading == count)
+    let crew = crews::read_crew(additional);
+    numbers::is_number(number.0)
+        & erasing_sound(operation, erasing)
+        & (leading == count)
+        & strings::crew_allowed(operation, number, erasing, crew)
 }
 
 // Writes a request as a packed string; what lies beyond stays.

@@ -37,12 +37,16 @@ pub struct RequestRead {
     /// Of an error.
     pub number: u32,
     pub operation: u32,
+    /// 1 of a crew, otherwise 0.
+    pub crew: u32,
     pub functional_number: u64,
     /// Of a forced erasure, otherwise 0.
     pub msisdn: u64,
     /// Of the additional field in the unpacked string.
     pub start: usize,
     pub length: usize,
+    /// Of a crew, otherwise 0.
+    pub codes: usize,
 }
 
 mod linked {

@@ -25,7 +25,10 @@ pub struct Request<'a> {
     /// With [`Operation::Erase`] only: a forced erasure, and the MSISDN to
     /// erase.
     pub forced: Option<Msisdn>,
-    /// 0 to 30 characters from 0–9, A–Z and space; the node ignores it.
+    /// 0 to 30 characters from 0–9, A–Z and space. One that starts with `BULK`
+    /// is of a crew: one digit n, and, if n is above 0, a space and n two-digit
+    /// codes, none 01, none twice; the number ends in 01, and the request
+    /// registers or erases plainly.
     pub additional: &'a [u8],
 }
 
@@ -35,6 +38,8 @@ pub struct ReadRequest {
     pub operation: Operation,
     pub number: FunctionalNumber,
     pub forced: Option<Msisdn>,
+    /// Of a crew: how many codes the additional field ends in.
+    pub crew: Option<usize>,
     text: [u8; MOST_CHARACTERS],
     start: usize,
     length: usize,
@@ -140,6 +145,7 @@ pub fn read_request(octets: &[u8]) -> Result<ReadRequest, RequestError> {
             operation: answered(Operation::from_number(read.operation)),
             number: answered(FunctionalNumber::from_word(read.functional_number)),
             forced: Msisdn::from_word(read.msisdn),
+            crew: (read.crew == 1).then_some(read.codes),
             text,
             start: read.start,
             length: read.length,

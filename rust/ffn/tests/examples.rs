@@ -279,6 +279,26 @@ fn refusals_for_notices_in_their_order() {
 }
 
 #[test]
+fn crews_read_back_as_they_were_written() {
+    for (additional, crew) in [
+        (&b"BULK2 0203"[..], Some(2)),
+        (b"BULK0", Some(0)),
+        (b" BULK1 02", None),
+    ] {
+        let fields = Request {
+            operation: Operation::Register,
+            number: f(),
+            forced: None,
+            additional,
+        };
+        let mut out = [UNTOUCHED; 160];
+        let count = write_request(&fields, &mut out).unwrap();
+        let read = read_request(&out[..count]).unwrap();
+        assert_eq!((read.fields(), read.crew), (fields, crew));
+    }
+}
+
+#[test]
 fn strings_read_back_as_they_were_written() {
     let fields = Request {
         operation: Operation::Erase,
@@ -290,7 +310,7 @@ fn strings_read_back_as_they_were_written() {
     let count = write_request(&fields, &mut out).unwrap();
     assert!(holds(&out, "##214*0492123401*88*4915100001*TRAIN 4711#"));
     let read = read_request(&out[..count]).unwrap();
-    assert_eq!(read.fields(), fields);
+    assert_eq!((read.fields(), read.crew), (fields, None));
     assert_eq!(
         read_request(&out[..count - 1]),
         Err(RequestError::UnexpectedDataValue)
@@ -318,6 +338,10 @@ fn strings_read_back_as_they_were_written() {
         },
         Request {
             additional: b"train",
+            ..fields
+        },
+        Request {
+            additional: b"BULK2 0203",
             ..fields
         },
     ] {

@@ -3,9 +3,10 @@ use mathlib.Core.Path.{_≡_, sym, _∙_}
 use mathlib.Core.Bool.{true}
 use Prim.Native.Nat.{_≤_}
 use lib.ListN.{length, drop}
+use lib.Seq.{length-take-le}
+use Rattle.answers.specs.Begins.{begins}
 use Rattle.answers.proofs.Leading.{leading-front}
 use Rattle.strings.specs.Text.{isAdditional, hash}
-use Rattle.strings.specs.Reader.{begins}
 use native.Mathlib.Omega.{arith}
 use borrow.Author.Needs.{needs}
 use borrow.Author.Tests.{not-true, not-false}
@@ -57,10 +58,17 @@ returns-3 c =
     let l = c .before .before .before .before .before .before in
     additional-more _ _ (l .leading-additional .ensures) (omega arith) (hashed (c .before)) (omega arith)
 
+slice-aggregate-read-crew : tie.Need-slice-aggregate-read-crew
+slice-aggregate-read-crew c = sym (length-take-le _ _ (within (c .before .before .before .before .before .before)))
+
+read-crew-requires : tie.Need-read-crew-requires
+read-crew-requires c κs = search needs
+
 returns-4 : tie.Need-returns-4
 returns-4 c =
-    let l = c .before .before .before .before .before .before in
-    (omega arith, additional-read _ _ (l .leading-additional .ensures) (omega arith) (hashed (c .before)) (omega arith))
+    let e = c .before .before in
+    let l = e .before .before .before .before .before .before in
+    (omega arith, additional-read _ _ (l .leading-additional .ensures) (omega arith) (hashed (e .before)) (omega arith), c .read-crew .ensures)
 
 pub read-additional-spec : {M : Type 1} → statement M
 read-additional-spec =
@@ -76,4 +84,6 @@ read-additional-spec =
     returns-2
     add-if3
     returns-3
+    slice-aggregate-read-crew
+    read-crew-requires
     returns-4)

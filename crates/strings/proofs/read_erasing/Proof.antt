@@ -6,12 +6,13 @@ use Prim.Native.Nat.{_+_}
 use native.Mathlib.Omega.{arith}
 use borrow.Author.Needs.{needs}
 use borrow.Author.Tests.{not-true, not-false}
+use Rattle.answers.specs.Begins.{begins}
 use Rattle.answers.specs.Ascii.{ascii}
 use Rattle.answers.proofs.Parts.{rest-of}
 use Rattle.strings.specs.Text.{mayForce, star}
-use Rattle.strings.specs.Reader.{begins, numberFieldAt}
+use Rattle.strings.specs.Reader.{numberFieldAt}
 use Rattle.strings.specs.Found.{Found}
-use Rattle.strings.proofs.Begins.{begins-within}
+use Rattle.answers.proofs.Begins.{begins-within}
 use Rattle.strings.proofs.Cursor.{found-at}
 use Rattle.strings.proofs.Steps.{erasing-empty, erasing-not, erasing-open, erasing-none, erasing-forced}
 use Rattle.strings.proofs.read_erasing.Statement.{statement}

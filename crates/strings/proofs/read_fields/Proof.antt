@@ -1,13 +1,19 @@
 -- `strings::read_fields` meets its contract: each field is found in the rest behind the one before, and the first that is not ends the reading. Assumes nothing.
+use mathlib.Core.Path.{_≡_, sym, _∙_}
 use mathlib.Core.List.{List}
 use Prim.Native.Nat.{ℕ, _+_}
 use native.Mathlib.Omega.{arith}
-use lib.ListN.{length-drop}
+use lib.ListN.{drop, length-drop}
 use borrow.Author.Needs.{needs}
+use borrow.Author.Tests.{not-true, not-false}
 use Rattle.answers.proofs.Parts.{rest-of}
+use Rattle.strings.specs.declared.Fields.{Fields}
+use Rattle.strings.specs.declared.AdditionalRead.the-variants.{Read as AdditionalField}
+use Rattle.strings.specs.Text.{crewKept}
 use Rattle.strings.specs.Reader.{operationAt, numberFieldAt, erasingAt}
-use Rattle.strings.specs.Found.{Found, Served}
-use Rattle.strings.proofs.Cursor.{found-at, served-at, ended, no-operation, no-service, no-number, no-erasing, no-additional, all-read, told-read}
+use Rattle.strings.specs.Found.{Found, Served, AdditionalIs}
+use Rattle.strings.specs.Outcomes.{requestIn}
+use Rattle.strings.proofs.Cursor.{found-at, served-at, ended, no-operation, no-service, no-number, no-erasing, no-additional, no-crew, all-read, told-read}
 use Rattle.strings.proofs.read_fields.Statement.{statement}
 use Rattle.strings.proofs.read_fields.Tie as tie
 
@@ -178,16 +184,47 @@ returns-5 c =
     let none = rw rest-of at (rw (c .enum-told5 .given .1) at (c .before .before .read-additional .ensures)) in
     ended _ (no-additional _ _ _ (operation (first n)) _ (service (past-number n)) _ _ (number n) _ _ (erasing e) none)
 
+-- ---- the fields that were read, and whether the crew may stand beside them
+
+crew-allowed-requires : tie.Need-crew-allowed-requires
+crew-allowed-requires c κs = search needs
+
+abbrev past-count : tie.After-crew-allowed → tie.After-erasing
+past-count c = c .before .before .before .before .before .before .before
+
+abbrev fields : tie.After-crew-allowed → Fields
+fields c =
+    let e = past-count c in
+    let n = past-erasing e in
+    let a = c .before .before .count .given .0 in
+    record { operation = first n .operation .given .0 .0; number = record { 0 = n .word .given .0 .0 }; erasing = e .erasing .given .0 .0; start = cursor4 e; count = a .0; crew = a .1 .0 }
+
+abbrev whole : tie.After-crew-allowed → List ℕ
+whole c = text (first (past-erasing (past-count c)))
+
+additional : (c : tie.After-crew-allowed) → AdditionalIs (AdditionalField (fields c .count) (fields c .crew)) (drop (fields c .start) (whole c))
+additional c = rw rest-of at (rw (c .before .before .count .given .1) at (c .before .before .before .before .read-additional .ensures))
+
+kept : (c : tie.After-crew-allowed) → crewKept (requestIn (whole c) (fields c)) ≡ c .crew-allowed .result
+kept c = rw (← (additional c .2)) (sym (c .crew-allowed .ensures))
+
 returns-6 : tie.Need-returns-6
 returns-6 c =
-    let e = c .before .before .before .before .before .before in
+    let a = c .before in
+    let e = past-count a in
     let n = past-erasing e in
-    let s = past-number n in
-    let o = past-service s in
-    let a = rw rest-of at (rw (c .before .count .given .1) at (c .before .before .before .read-additional .ensures)) in
-    told-read (text o) (record { operation = o .operation .given .0 .0; number = record { 0 = n .word .given .0 .0 }; erasing = e .erasing .given .0 .0; start = cursor4 e; count = c .before .count .given .0 .0 })
-    (all-read _ _ _ (operation o) _ (service s) _ _ (number n) _ _ (erasing e) _ (a .1))
-    (omega (arith, a .0, length-drop (cursor4 e) (text o), erasing e .within))
+    ended _ (no-crew _ _ _ (operation (first n)) _ (service (past-number n)) _ _ (number n) _ _ (erasing e) _ (additional a .1) (kept a ∙ not-true _ (c .if1 .taken)))
+
+returns-7 : tie.Need-returns-7
+returns-7 c =
+    let a = c .before in
+    let e = past-count a in
+    let n = past-erasing e in
+    let found = additional a in
+    told-read (whole a) (fields a)
+    (all-read _ _ _ (operation (first n)) _ (service (past-number n)) _ _ (number n) _ _ (erasing e) _ (found .1) (kept a ∙ not-false _ (c .if1 .left)))
+    (omega (arith, found .0, length-drop (cursor4 e) (whole a), erasing e .within))
+    (found .2)
 
 pub read-fields-spec : {M : Type 1} → statement M
 read-fields-spec =
@@ -228,4 +265,6 @@ read-fields-spec =
     enum-known-count
     enum-told-5
     returns-5
-    returns-6)
+    crew-allowed-requires
+    returns-6
+    returns-7)

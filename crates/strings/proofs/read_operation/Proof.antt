@@ -2,10 +2,11 @@
 use mathlib.Core.Path.{_≡_, sym, _∙_}
 use mathlib.Core.Bool.{false}
 use borrow.Author.Needs.{needs}
+use Rattle.answers.specs.Begins.{begins}
 use Rattle.strings.specs.declared.Operation.the-variants.{Register, Erase}
 use Rattle.strings.specs.Text.{operationText}
-use Rattle.strings.specs.Reader.{begins, operationAt}
-use Rattle.strings.proofs.Begins.{begins-within}
+use Rattle.strings.specs.Reader.{operationAt}
+use Rattle.answers.proofs.Begins.{begins-within}
 use Rattle.strings.proofs.read_operation.Statement.{statement}
 use Rattle.strings.proofs.read_operation.Tie as tie
 

@@ -2,7 +2,7 @@
 use mathlib.Core.Path.{sym, _∙_}
 use borrow.Author.Needs.{needs}
 use Rattle.strings.specs.Reader.{serviceAt}
-use Rattle.strings.proofs.Begins.{begins-within}
+use Rattle.answers.proofs.Begins.{begins-within}
 use Rattle.strings.proofs.read_service.Statement.{statement}
 use Rattle.strings.proofs.read_service.Tie as tie
 

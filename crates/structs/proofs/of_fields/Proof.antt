@@ -6,11 +6,17 @@ use Rattle.structs.proofs.of_fields.Tie as tie
 of-operation-requires : tie.Need-of-operation-requires
 of-operation-requires c κs = search needs
 
+of-crew-requires : tie.Need-of-crew-requires
+of-crew-requires c κs = search needs
+
 of-erasing-requires : tie.Need-of-erasing-requires
 of-erasing-requires c κs = search needs
 
+codes-of-requires : tie.Need-codes-of-requires
+codes-of-requires c κs = search needs
+
 returns : tie.Need-returns
-returns c = rw (c .before .of-operation .ensures, c .of-erasing .ensures)
+returns c = rw (c .before .before .before .of-operation .ensures, c .before .before .of-crew .ensures, c .before .of-erasing .ensures, c .codes-of .ensures)
 
 pub of-fields-spec : {M : Type 1} → statement M
-of-fields-spec = tie.close (tie.spec of-operation-requires of-erasing-requires returns)
+of-fields-spec = tie.close (tie.spec of-operation-requires of-crew-requires of-erasing-requires codes-of-requires returns)

@@ -1,6 +1,7 @@
--- A string that begins with given characters: what stands behind them, and the test one character after the other. Assumes nothing.
+-- A text that begins with given characters: what stands behind them, and the test one character after the other. Assumes nothing.
 use mathlib.Core.Path.{_≡_, refl, sym, ap, _∙_}
 use mathlib.Core.Bool.{true, false, _&&_}
+use mathlib.Core.Option.{some}
 use mathlib.Core.List.{List, [], _∷_, _++_}
 use Prim.Native.Nat.{ℕ, _+_, _≤_, _<_}
 use native.Mathlib.Numerals.{add-one}
@@ -9,8 +10,9 @@ use lib.ListN.{length, getD, drop, length-append, drop-of-length-le}
 use lib.Seq.{drop-cons}
 use lib.Dec.{eqb}
 use borrow.Author.Tests.{eqb-true, eq-eqb, ne-eqb}
 use Rattle.answers.proofs.Tests.{no-path, and-left, and-right, and-no}
-use Rattle.strings.specs.Reader.{begins}
+use Rattle.answers.proofs.Checks.{onlyIf-some}
+use Rattle.answers.specs.Begins.{begins, behind}
 
 pub begins-only : (p s : List ℕ) → begins p s ≡ true → s ≡ p ++ drop (length p) s
 unfolding begins
@@ -29,6 +31,11 @@ unfolding begins
 begins-short [] s h = absurd (omega arith)
 begins-short (c ∷ p) [] h = refl
 begins-short (c ∷ p) (x ∷ s) h = and-no (eqb x c) (begins p s) (begins-short p s (omega arith))
+
+pub behind-only : (p s : List ℕ) {rest : List ℕ} → behind p s ≡ some rest → s ≡ p ++ rest
+behind-only p s e =
+    let d = onlyIf-some (begins p s) e in
+    begins-only p s (d .0) ∙ ap (λ (l : List ℕ). p ++ l) (d .1)
 
 -- ---- one character after the other
 

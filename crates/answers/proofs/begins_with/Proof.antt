@@ -1,12 +1,12 @@
--- `strings::begins_with` meets its contract. The loop's invariant: what is left of the characters decides. Assumes nothing.
+-- `answers::begins_with` meets its contract. The loop's invariant: what is left of the characters decides. Assumes nothing.
 use mathlib.Core.Path.{_≡_, refl, sym}
 use Prim.Native.Nat.{_≤_, _-_}
 use native.Mathlib.Omega.{arith}
 use lib.ListN.{length, drop}
-use Rattle.strings.specs.Reader.{begins}
-use Rattle.strings.proofs.Begins.{begins-short, begins-end, begins-stop, begins-step}
-use Rattle.strings.proofs.begins_with.Statement.{statement}
-use Rattle.strings.proofs.begins_with.Tie as tie
+use Rattle.answers.specs.Begins.{begins}
+use Rattle.answers.proofs.Begins.{begins-short, begins-end, begins-stop, begins-step}
+use Rattle.answers.proofs.begins_with.Statement.{statement}
+use Rattle.answers.proofs.begins_with.Tie as tie
 
 abbrev Inv-loop : tie.InvT-loop
 Inv-loop part characters i₀ i = (i ≤ length characters) × (begins characters part ≡ begins (drop i characters) (drop i part))
