@@ -17,6 +17,7 @@ use Rattle.rules.proofs.Once.{single}
 use Rattle.rules.proofs.Unsound.{unsound-call, unsound-end}
 use Rattle.rules.proofs.Rearrange.{end-inv}
 use Rattle.rules.proofs.Runs.{anyNames, runs-other, runs-log, runs-own}
+use Rattle.rules.proofs.Sound.{Kept, end-keeps}
 use Rattle.rules.proofs.Local.{singles-local}
 use Rattle.rules.proofs.Steps.{call-single, AllSingle, singles-end, Goes, goes-room, goes-walks, walk, View, own, stops, goes, view, singly, small, singly-single, singly-walks, names-in}
 
@@ -196,3 +197,12 @@ module _ (list : List ℕ) (delay : ℕ) where
       by-table true sound = step-end c t sound
       by-table false unsound =
           let (n, buffer, e) = unsound-call t unsound list delay c in ap (λ r. r .1) e ∙ sym (unsound-end t unsound list delay (stepsOf list c))
+
+  -- ---- the end of a list of calls
+
+  pub singly-end : (cs : List Call) (t : List ℕ) → end (call list delay) cs t ≡ end (single list delay) (steps list cs) t
+  singly-end cs t = steps-end cs t ∙ singles-end list delay (steps list cs) t (all-steps-single cs)
+
+  -- a sound table is left, with the same numbers in the same rows
+  pub calls-keep : (cs : List Call) (t : List ℕ) → Sound t → Kept t (end (call list delay) cs t)
+  calls-keep cs t sound = rw (singly-end cs t) (end-keeps list delay (steps list cs) t sound)

@@ -2,18 +2,22 @@
 use mathlib.Core.Path.{_≡_, refl, sym, ap, _∙_}
 use mathlib.Core.Logic.{_⊎_, ⊎-elim}
 use mathlib.Core.Bool.{Bool, true, false, cond, not, _&&_}
-use mathlib.Core.Option.{some}
-use mathlib.Core.List.{List, [], _∷_}
+use mathlib.Core.Option.{Option, none, some}
+use mathlib.Core.List.{List, [], _∷_, map}
 use Prim.Native.Nat.{ℕ}
 use native.Mathlib.Omega.{arith}
 use lib.ListN.{length}
 use borrow.Author.Tests.{eq-eqb, ne-eqb, le-ltb}
 use Rattle.answers.proofs.Checks.{not-some}
 use Rattle.answers.proofs.Tests.{no-path, and-no}
+use Rattle.answers.proofs.Decide.{decide-each}
 use Rattle.numbers.specs.declared.Msisdn.{Msisdn}
-use Rattle.strings.specs.declared.Operation.the-variants.{Register, Erase}
+use Rattle.strings.specs.declared.Operation.{Operation}
+use Rattle.strings.specs.declared.Operation.the-variants.{Register, Erase, Interrogate}
 use Rattle.strings.specs.declared.Erasing.the-variants.{Empty, Forced}
+use Rattle.crews.specs.Crews.{crewOf}
 use Rattle.strings.specs.Text.{Request}
+use Rattle.strings.specs.Outcomes.{requestOf}
 use Rattle.records.specs.declared.Record.{Record}
 use Rattle.records.specs.Steps as steps
 use Rattle.records.specs.Steps.{nobody, isNobody, same, isAbsent, heldBy, forcedOff}
@@ -23,13 +27,16 @@ use Rattle.tables.specs.declared.Found.{Found}
 use Rattle.tables.specs.declared.Found.the-variants.{At, Nothing}
 use Rattle.tables.specs.Tables.{tableSound, rowOf, recordOf, flagsOf}
 use Rattle.tables.proofs.Stored.{record-found, record-missing}
-use Rattle.rules.specs.Answers.{bufferRoom, isOutcome}
-use Rattle.rules.specs.Requests.{hasFollowMe, holderIn, codingScheme, mostStringOctets, afterErasure}
-use Rattle.rules.specs.Calls.{Call, request, nameOf, namesOne}
+use Rattle.rules.specs.Answers.{Outcome, bufferRoom, isOutcome, refusing}
+use Rattle.rules.specs.Requests.{hasFollowMe, holderIn, codingScheme, mostStringOctets, refusalChecks, rightChecks, afterErasure}
+use Rattle.rules.specs.Requests as requests
+use Rattle.rules.specs.Crews.{crewCodes, crewNumber, Walk, walked, setOut, crewOutcome, requesting}
+use Rattle.rules.specs.Calls.{Call, request, nameOf, namesOne, call, codesOf, sending, result, codesRead}
 use Rattle.rules.specs.Visits.{Visited, visitSaying, replySaying, decided, visit}
 use Rattle.rules.specs.Demand.{holderOf}
 use Rattle.rules.specs.Users.{bothFlags, WellFormed}
 use Rattle.rules.proofs.Once.{single}
+use Rattle.rules.proofs.Steps.{call-single, forced-alone}
 use Rattle.rules.proofs.Visits.{found-sound, single-visits}
 use Rattle.rules.proofs.Sound.{single-keeps, single-own}
 use Rattle.rules.proofs.Along.{negative, registration, erasure, own, forced, Does, asks, unsent, sends, untaken, clears, goes-on, delivers, drops, along, answered-02, one-same, not-same}
@@ -99,18 +106,21 @@ module _ (list : List ℕ) (delay : ℕ) (table : List ℕ) (s : Msisdn) (scheme
   erased-nobody false = refl
 
   -- at phase 0, or where s is the holder: 02 in that call, and nobody holds the number
+  singly : call list delay asked table ≡ single list delay asked table
+  singly = call-single list delay asked table (forced-alone s scheme string reply f (form .reads) forces)
+
   pub frees-at-once : (isAbsent (r .notice) ≡ true) ⊎ (s ≡ r .holder)
-      → ((single list delay asked table) .0 ≡ replySaying 2 reply) × (holderOf ((single list delay asked table) .1) number ≡ 0)
+      → ((call list delay asked table) .0 ≡ replySaying 2 reply) × (holderOf ((call list delay asked table) .1) number ≡ 0)
   frees-at-once may =
       let goes : waits ≡ false = ⊎-elim (λ a. and-no (not (same (r .holder) s)) _ (ap not a)) (λ e. rw (one-same (r .holder) s (sym e)) refl) may in
       let d = visit-gets list delay asked table number r _ sound (form-names list s scheme string reply f form) known (visit-frees goes) in
-      (d .0, d .1 ∙ erased-nobody (same (r .holder) s))
+      (ap (λ x. x .0) singly ∙ d .0, ap (λ x. holderOf (x .1) number) singly ∙ d .1 ∙ erased-nobody (same (r .holder) s))
 
   -- otherwise 68, and the table is as it was
-  pub waits-for-the-notice : isAbsent (r .notice) ≡ false → (s ≡ r .holder → ⊥) → single list delay asked table ≡ (replySaying 68 reply, table)
+  pub waits-for-the-notice : isAbsent (r .notice) ≡ false → (s ≡ r .holder → ⊥) → call list delay asked table ≡ (replySaying 68 reply, table)
   waits-for-the-notice pending other =
       let stops : waits ≡ true = rw (not-same (r .holder) s (λ e. other (sym e)), pending) refl in
-      visit-leaves list delay asked table number r _ sound (form-names list s scheme string reply f form) known (visit-waits stops) refl
+      singly ∙ visit-leaves list delay asked table number r _ sound (form-names list s scheme string reply f form) known (visit-waits stops) refl
 
 -- nobody holds the number after a 02
 erasure-frees : {list : List ℕ} {r : Record} {c : Call} {v : Visited} → Does list r c v → isOutcome 2 (v .reply .answer) ≡ true → v .next .holder ≡ nobody
@@ -126,10 +136,40 @@ erasure-frees (clears delivers) u = no-path u
 erasure-frees (clears drops) u = no-path u
 erasure-frees (goes-on p) u = no-path u
 
+-- a crew's request is not answered 02
+crew-not-02 : (list : List ℕ) (delay : ℕ) (c : Call) (table : List ℕ) → isOutcome 2 ((call list delay c table) .0 .answer) ≡ true → codesOf c ≡ none
+unfolding requesting
+crew-not-02 list delay (request requester scheme string reply) table answered = by-read (requestOf string) refl
+  where
+    by-operation : (o : Operation) (w : Walk) → isOutcome 2 (crewOutcome (crewNumber o) reply w .answer) ≡ false
+    by-operation Register w = refl
+    by-operation Erase w = refl
+    by-operation Interrogate w = refl
+
+    never-02 : (f : Request) (codes : List ℕ) → requestOf string ≡ some f → crewOf (f .additional) ≡ some codes
+        → isOutcome 2 (requesting table list reply requester scheme string .answer) ≡ false
+    never-02 f codes r e =
+        decide-each (λ (o : Outcome). isOutcome 2 (o .answer) ≡ false)
+        (refusing table reply (refusalChecks (tableSound table) list reply requester scheme string)) _
+        (refl, (refl, (refl, (refl, (refl, (refl, (refl, tt)))))))
+        (rw (r, e)
+        (decide-each (λ (o : Outcome). isOutcome 2 (o .answer) ≡ false) (map (requests.negative table reply) (rightChecks (flagsOf list (requester .0)) (f .erasing))) _
+        (refl, (refl, tt)) (by-operation (f .operation) (walked requester f (crewCodes codes) (setOut table)))))
+
+    by-codes : (f : Request) → requestOf string ≡ some f → (codes : Option (List ℕ)) → crewOf (f .additional) ≡ codes → codes ≡ none
+    by-codes f r none e = refl
+    by-codes f r (some codes) e = no-path (sym (never-02 f codes r e) ∙ answered)
+
+    by-read : (read : Option Request) → requestOf string ≡ read → codesRead read ≡ none
+    by-read none r = refl
+    by-read (some f) r = by-codes f r (crewOf (f .additional)) refl
+crew-not-02 list delay (sending now number buffer) table answered = refl
+crew-not-02 list delay (result now number kind) table answered = refl
+
 -- m with flag 1 asks for a registration of a number whose digits are not hers
 module _ (list : List ℕ) (delay : ℕ) (m : Msisdn) (scheme : ℕ) (string reply : List ℕ) (f : Request) (form : WellFormed list m scheme string reply f)
-    (registers : f .operation ≡ Register) (plain : f .erasing ≡ Empty) (flag : hasFollowMe (flagsOf list (m .0)) ≡ true)
-    (other : f .number .0 ≡ m .0 → ⊥) where
+    (registers : f .operation ≡ Register) (plain : f .erasing ≡ Empty) (no-crew : crewOf (f .additional) ≡ none)
+    (flag : hasFollowMe (flagsOf list (m .0)) ≡ true) (other : f .number .0 ≡ m .0 → ⊥) where
   abbrev asks-for : Call
   asks-for = request m scheme string reply
 
@@ -139,10 +179,14 @@ module _ (list : List ℕ) (delay : ℕ) (m : Msisdn) (scheme : ℕ) (string rep
 
   -- right after any call that names the number and is answered 02: 01, and m holds it
   pub next-registers : (c : Call) (table : List ℕ) → tableSound table ≡ true → namesOne list c (f .number .0) ≡ true
-      → isOutcome 2 ((single list delay c table) .0 .answer) ≡ true
-      → let after = (single list delay c table) .1 in
-      ((single list delay asks-for after) .0 ≡ replySaying 1 reply) × (holderOf ((single list delay asks-for after) .1) (f .number .0) ≡ m .0)
+      → isOutcome 2 ((call list delay c table) .0 .answer) ≡ true
+      → let after = (call list delay c table) .1 in
+      ((call list delay asks-for after) .0 ≡ replySaying 1 reply) × (holderOf ((call list delay asks-for after) .1) (f .number .0) ≡ m .0)
   next-registers c table sound named answered =
-      let (r, v, d, known, u) = answered-02 (along list delay (f .number .0) (c ∷ []) table) named answered in
-      visit-gets list delay asks-for ((single list delay c table) .1) (f .number .0) (v .next) _ (single-keeps list delay c table sound .sound)
-      (form-names list m scheme string reply f form) known (visit-registers (v .next) (erasure-frees d u))
+      let alone = crew-not-02 list delay c table answered in
+      rw (call-single list delay c table alone)
+      (let (r, v, d, known, u) = answered-02 (along list delay (f .number .0) (c ∷ []) table) named (rw (call-single list delay c table alone) at answered) in
+      let got = visit-gets list delay asks-for ((single list delay c table) .1) (f .number .0) (v .next) _ (single-keeps list delay c table sound .sound)
+      (form-names list m scheme string reply f form) known (visit-registers (v .next) (erasure-frees d u)) in
+      let same = call-single list delay asks-for ((single list delay c table) .1) (rw (form .reads) no-crew) in
+      (ap (λ x. x .0) same ∙ got .0, ap (λ x. holderOf (x .1) (f .number .0)) same ∙ got .1))

@@ -17,11 +17,11 @@ use Rattle.rules.specs.Calls.{Call, Reply, call, namesOne, names, steps,
 use Rattle.rules.specs.Demand.{decidesHolder, holderAfter, holderOf, callsOf, gotBy, Demand3}
 use Rattle.rules.proofs.Rearrange.{rearranged-answers, rearranged-records}
 use Rattle.rules.proofs.Alone.{run-alone}
-use Rattle.rules.proofs.Sound.{Kept, end-keeps}
+use Rattle.rules.proofs.Sound.{Kept}
 use Rattle.rules.proofs.Once.{single}
 use Rattle.rules.proofs.Local.{one-name, singles-local}
 use Rattle.rules.proofs.Steps.{AllSingle, singles-end, singles-log}
-use Rattle.rules.proofs.Calls.{calls-local, all-steps-single, steps-end}
+use Rattle.rules.proofs.Calls.{calls-local, all-steps-single, steps-end, singly-end, calls-keep}
 use Rattle.rules.proofs.Holder.{held}
 
 -- ---- two tables kept from one, with the same records, are the same words
@@ -64,16 +64,9 @@ module _ (list : List ℕ) (delay : ℕ) (table : List ℕ) (sound : tableSound 
   abbrev singly : Call → List ℕ → Reply × List ℕ
   singly = single list delay
 
-  -- the end of the calls is that of their single steps
-  singly-end : (cs : List Call) → end run cs table ≡ end singly (steps list cs) table
-  singly-end cs = steps-end list delay cs table ∙ singles-end list delay (steps list cs) table (all-steps-single list delay cs)
-
-  kept-end : (cs : List Call) → Kept table (end run cs table)
-  kept-end cs = rw (singly-end cs) (end-keeps list delay (steps list cs) table sound)
-
   same-end : (cs ds : List Call) → Rearranged (names list) cs ds → end run ds table ≡ end run cs table
   same-end cs ds r =
-      same-words table (end run ds table) (end run cs table) (kept-end ds) (kept-end cs)
+      same-words table (end run ds table) (end run cs table) (calls-keep list delay ds table sound) (calls-keep list delay cs table sound)
       (rearranged-records run (names list) look Sound (calls-local list delay) cs ds table sound r)
 
   -- ---- the single steps of a list of calls
@@ -108,13 +101,13 @@ module _ (list : List ℕ) (delay : ℕ) (table : List ℕ) (sound : tableSound 
 
     alone-record : recordOf (end run cs table) k ≡ recordOf (end run (callsOf list k ds) (alone table k)) k
     alone-record =
-        ap (look k) (singly-end cs)
+        ap (look k) (singly-end list delay cs table)
         ∙ as-alone .1
         ∙ ap (look k) (sym (singles-end list delay (callsOf list k ds) (alone table k) (some-single ds all)))
 
     held-by : holderOf (end run cs table) k ≡ holderAfter (last (only (decidesHolder list k) (log run ds table))) (holderOf table k)
     held-by =
-        ap (λ t. holderOf t k) (singly-end cs)
+        ap (λ t. holderOf t k) (singly-end list delay cs table)
         ∙ held list delay k ds table sound
         ∙ ap (λ l. holderAfter (last (only (decidesHolder list k) l)) (holderOf table k)) (sym (singles-log list delay ds table all))
 

@@ -1,28 +1,33 @@
 -- The driver: who holds a number ceases to hold it only by an erasure of her own or by a supervisor who names her, and nobody comes to hold it but by her own registration. Assumes nothing.
-use mathlib.Core.Path.{_≡_, refl, sym, ap, _∙_}
+use mathlib.Core.Path.{_≡_, refl, sym, ap, _∙_, subst}
 use mathlib.Core.Logic.{_⊎_, inl, inr, ⊎-elim}
-use mathlib.Core.Bool.{Bool, true, false}
-use mathlib.Core.Option.{Option}
+use mathlib.Core.Bool.{Bool, true, false, _||_}
+use mathlib.Core.Option.{Option, none}
 use mathlib.Core.List.{List, [], _∷_}
-use Prim.Native.Nat.{ℕ}
+use Prim.Native.Nat.{ℕ, suc}
 use native.Mathlib.Omega.{arith}
 use borrow.Author.Tests.{eqb-true, not-false}
 use Rattle.answers.proofs.Decide.{all-pass}
-use Rattle.answers.proofs.Tests.{no-path, or-right}
+use Rattle.answers.proofs.Tests.{no-path, or-right, or-neither}
 use Rattle.numbers.specs.declared.Msisdn.{Msisdn}
+use Rattle.strings.specs.declared.Operation.{Operation}
+use Rattle.strings.specs.declared.Operation.the-variants.{Register, Erase, Interrogate}
 use Rattle.records.specs.declared.Record.{Record}
 use Rattle.records.specs.Steps.{nobody, isNobody, same, isAbsent}
-use Rattle.tables.specs.Tables.{listSound, recordOf, flagsOf}
-use Rattle.rules.specs.Answers.{isOutcome}
+use Rattle.tables.specs.Tables.{listSound, recordOf, flagsOf, tableSound}
+use Rattle.rules.specs.Answers.{outcome, isOutcome, octetCount}
 use Rattle.rules.specs.Run.{end, log}
 use Rattle.rules.specs.Requests.{refusalChecks, hasFollowMe, isSupervisor, holderIn, noNotice}
-use Rattle.rules.specs.Calls.{Call, Reply, request, nameOf, namesOne}
+use Rattle.rules.specs.Crews.{crewNumber, crewReply}
+use Rattle.rules.specs.Calls.{Call, Reply, request, sending, result, call, nameOf, namesOne, codesOf, steps}
 use Rattle.rules.specs.Visits.{Visited}
 use Rattle.rules.specs.Pending.{never}
-use Rattle.rules.specs.Users.{isRequest, bothFlags, mayEndHold, endsHold, HoldEnded, HoldBegun}
-use Rattle.rules.specs.Demand.{registers, requesterOf, holderOf}
+use Rattle.rules.specs.Users.{isRequest, bothFlags, mayEndHold, endsHold, beginsHold, Stood, HoldEnded, HoldBegun}
+use Rattle.rules.specs.Demand.{isCrewOutcome, mayChange, registers, requesterOf, holderOf}
 use Rattle.tables.proofs.Stored.{flags-small}
-use Rattle.rules.proofs.Once.{single}
+use Rattle.rules.proofs.Unsound.{unsound-call}
+use Rattle.rules.proofs.Steps.{call-single, singles-log, Goes, goes-walks, walk, View, own as alone-step, stops, goes, view}
+use Rattle.rules.proofs.Calls.{all-steps-single, singly-end}
 use Rattle.rules.proofs.Visits.{naming}
 use Rattle.rules.proofs.Local.{named-some}
 use Rattle.rules.proofs.Along.{Asked, negative, registration, erasure, own, forced, Does, asks, unsent, sends, untaken, clears, goes-on, Along, ends, passes, visits, along, word, one-msisdn, same-one, one-same, never-first}
@@ -126,42 +131,117 @@ kept-once : {list : List ℕ} {k : ℕ} {o p : Option Record} {x : Call × Reply
 kept-once (passes n ends) s = refl
 kept-once (visits n d ends) s = ⊎-elim (unasked-keeps (holding d)) (λ (a, b). negative-keeps (holding d) a b) s
 
--- ---- the driver
+-- an entry one place further on
+further : {test : Call × Reply → Bool} {l : List (Call × Reply)} (x : Call × Reply) → Stood test l → Stood test (x ∷ l)
+further x s = record { place = suc (s .place); entry = s .entry; stands = s .stands; passes = s .passes }
 
-module _ (list : List ℕ) (delay k : ℕ) where
-  module _ (c : Call) (table : List ℕ) where
-    abbrev got : Reply
-    got = (single list delay c table) .0
+module _ (list : List ℕ) (k : ℕ) where
+  -- whoever holds it no more was erased on the way
+  ended-along : (h : Msisdn) → isNobody h ≡ false → {o p : Option Record} {l : List (Call × Reply)} → Along list k o l p → holderIn o ≡ h
+      → (holderIn p ≡ h) ⊎ Stood (endsHold list h k) l
+  ended-along h held ends e = inl e
+  ended-along h held (passes {c = c} {a = a} n rest) e = ⊎-elim inl (λ s. inr (further (c, a) s)) (ended-along h held rest e)
+  ended-along h held (visits {c = c} {v = v} n d rest) e =
+      ⊎-elim (λ s. ⊎-elim inl (λ x. inr (further (c, v .reply) x)) (ended-along h held rest s))
+      (λ (f, a, m). inr (record { place = 0; entry = (c, v .reply); stands = refl; passes = rw (n, m true (λ x. refl), a) refl }))
+      (visit-ends list k h held (holding d) n e)
 
-    abbrev after : List ℕ
-    after = (single list delay c table) .1
+  -- whoever holds what was free has registered it on the way
+  begun-along : {o p : Option Record} {l : List (Call × Reply)} → Along list k o l p → holderIn o ≡ nobody → (holderIn p ≡ nobody) ⊎ Stood (beginsHold list k) l
+  begun-along ends e = inl e
+  begun-along (passes {c = c} {a = a} n rest) e = ⊎-elim inl (λ s. inr (further (c, a) s)) (begun-along rest e)
+  begun-along (visits {c = c} {v = v} n d rest) e =
+      ⊎-elim (λ s. ⊎-elim inl (λ x. inr (further (c, v .reply) x)) (begun-along rest s))
+      (λ (m, a, q). inr (record { place = 0; entry = (c, v .reply); stands = refl; passes = rw (n, m, a) refl })) (visit-begins (holding d) e)
 
+-- a crew that goes is answered 11 or 12
+goes-changes : (list : List ℕ) (delay : ℕ) (requester : Msisdn) (scheme : ℕ) (string reply : List ℕ) (g : Goes list requester scheme string reply) (t : List ℕ)
+    → tableSound t ≡ true → mayChange ((call list delay (request requester scheme string reply) t) .0 .answer) ≡ true
+goes-changes list delay requester scheme string reply g t sound =
+    ap (λ o. mayChange (o .answer)) (goes-walks list requester scheme string reply g t sound) ∙ by-operation (g .fields .operation)
+  where
+    by-operation : (o : Operation) → mayChange (outcome (crewNumber o) (octetCount (crewReply (crewNumber o) (walk list requester scheme string reply g t)))) ≡ true
+    by-operation Register = refl
+    by-operation Erase = refl
+    by-operation Interrogate = refl
+
+-- ---- the driver, over one call that is its own step
+
+module _ (list : List ℕ) (delay k : ℕ) (c : Call) (table : List ℕ) where
+  abbrev got : Reply
+  got = (call list delay c table) .0
+
+  abbrev after : List ℕ
+  after = (call list delay c table) .1
+
+  module _ (alone : codesOf c ≡ none) where
     once : Along list k (recordOf table k) ((c, got) ∷ []) (recordOf after k)
-    once = along list delay k (c ∷ []) table
+    once =
+        subst (λ (r : Reply × List ℕ). Along list k (recordOf table k) ((c, r .0) ∷ []) (recordOf (r .1) k)) (sym (call-single list delay c table alone))
+        (along list delay k (c ∷ []) table)
 
-    -- if h holds k before a call and not after it, then the call is an erasure that may end her hold, answered 02, and nobody holds k after it
+    -- if h holds k before the call and not after it, then the call is an erasure that may end her hold, answered 02, and nobody holds k after it
     pub hold-ends-by-erasure : (h : Msisdn) → isNobody h ≡ false → holderOf table k ≡ h .0 → (holderOf after k ≡ h .0 → ⊥)
         → HoldEnded list h k c table got after
     hold-ends-by-erasure h held e gone =
         ⊎-elim (λ s. absurd (gone (ap word s))) (λ (n, m, a, f). record { named = n; erasure = m; answered = a; nobody = ap word f })
         (ended-once list k h held once (one-msisdn (holderIn (recordOf table k)) h e))
 
-    -- if k is free before a call and not after it, then the call is a registration, answered 01, and its requester holds k
+    -- if k is free before the call and not after it, then the call is a registration, answered 01, and its requester holds k
     pub hold-begins-by-registration : holderOf table k ≡ 0 → (holderOf after k ≡ 0 → ⊥) → HoldBegun list k c got after
     hold-begins-by-registration e gone =
         ⊎-elim (λ s. absurd (gone (ap word s))) (λ (n, m, a, q). record { named = n; registration = m; answered = a; requester = q })
         (begun-once once (one-msisdn (holderIn (recordOf table k)) nobody e))
 
-    -- a sending or a result changes no holder
-    pub notices-change-no-holder : isRequest c ≡ false → holderOf after k ≡ holderOf table k
-    notices-change-no-holder e = ap word (kept-once once (inl e))
+  request-alone : (e : Call) → isRequest e ≡ false → codesOf e ≡ none
+  request-alone (request requester scheme string reply) n = no-path (sym n)
+  request-alone (sending now number buffer) n = refl
+  request-alone (result now number kind) n = refl
 
-    -- nor does what is refused, in error or negative: any answer but 01 and 02
-    pub negatives-change-no-holder : isOutcome 1 (got .answer) ≡ false → isOutcome 2 (got .answer) ≡ false → holderOf after k ≡ holderOf table k
-    negatives-change-no-holder a b = ap word (kept-once once (inr (a, b)))
+  -- a sending or a result changes no holder
+  pub notices-change-no-holder : isRequest c ≡ false → holderOf after k ≡ holderOf table k
+  notices-change-no-holder e = ap word (kept-once (once (request-alone c e)) (inl e))
 
-  -- over any list of calls with no such erasure in it, h holds k at the end
-  pub holds-to-the-end : (calls : List Call) (table : List ℕ) (h : Msisdn) → isNobody h ≡ false → holderOf table k ≡ h .0
-      → never (endsHold list h k) (log (single list delay) calls table) ≡ true → holderOf (end (single list delay) calls table) k ≡ h .0
-  holds-to-the-end calls table h held e u =
-      ap word (held-along list k h held (along list delay k calls table) (one-msisdn (holderIn (recordOf table k)) h e) u)
+  -- nor does what is refused, in error or negative: any answer but 01 and 02, and a crew's, whose steps are calls of their own
+  pub negatives-change-no-holder : mayChange (got .answer) ≡ false → holderOf after k ≡ holderOf table k
+  negatives-change-no-holder e = by-table (tableSound table) refl
+    where
+      -- what leaves the table leaves its holders
+      by-view : {d : Call} → View list delay d → d ≡ c → tableSound table ≡ true → holderOf after k ≡ holderOf table k
+      by-view (alone-step d alone s) p sound =
+          let none = or-neither (isOutcome 1 (got .answer) || isOutcome 2 (got .answer)) (isCrewOutcome (got .answer)) e in
+          ap word (kept-once (once (ap codesOf (sym p) ∙ alone)) (inr (or-neither (isOutcome 1 (got .answer)) (isOutcome 2 (got .answer)) (none .0))))
+      by-view (stops d r f s) p sound = ap (λ x. holderOf (x .1) k) (ap (λ q. call list delay q table) (sym p) ∙ f table sound)
+      by-view (goes {requester = requester} {scheme = scheme} {string = string} {reply = reply} g s) p sound =
+          no-path (sym (ap (λ q. mayChange ((call list delay q table) .0 .answer)) p ∙ e) ∙ goes-changes list delay requester scheme string reply g table sound)
+
+      by-table : (b : Bool) → tableSound table ≡ b → holderOf after k ≡ holderOf table k
+      by-table true sound = by-view (view list delay c) refl sound
+      by-table false unsound = let (n, buffer, r) = unsound-call table unsound list delay c in ap (λ x. holderOf (x .1) k) r
+
+-- ---- the driver, over any list of calls, by their single steps
+
+module _ (list : List ℕ) (delay k : ℕ) (calls : List Call) (table : List ℕ) where
+  abbrev stepsGot : List (Call × Reply)
+  stepsGot = log (call list delay) (steps list calls) table
+
+  seen : Along list k (recordOf table k) stepsGot (recordOf (end (call list delay) calls table) k)
+  seen =
+      rw (singles-log list delay (steps list calls) table (all-steps-single list delay calls), singly-end list delay calls table)
+      (along list delay k (steps list calls) table)
+
+  -- if h holds k before the calls and not after them, one of their steps is an erasure that may end her hold, answered 02: her own, in a crew's request too, or a forced one
+  pub hold-ends-by-a-step : (h : Msisdn) → isNobody h ≡ false → holderOf table k ≡ h .0 → (holderOf (end (call list delay) calls table) k ≡ h .0 → ⊥)
+      → Stood (endsHold list h k) stepsGot
+  hold-ends-by-a-step h held e gone =
+      ⊎-elim (λ s. absurd (gone (ap word s))) (λ s. s) (ended-along list k h held seen (one-msisdn (holderIn (recordOf table k)) h e))
+
+  -- if k is free before them and not after them, one of their steps is a registration, answered 01
+  pub hold-begins-by-a-step : holderOf table k ≡ 0 → (holderOf (end (call list delay) calls table) k ≡ 0 → ⊥) → Stood (beginsHold list k) stepsGot
+  hold-begins-by-a-step e gone =
+      ⊎-elim (λ s. absurd (gone (ap word s))) (λ s. s) (begun-along list k seen (one-msisdn (holderIn (recordOf table k)) nobody e))
+
+  -- with no such erasure among their steps, h holds k at the end
+  pub holds-to-the-end : (h : Msisdn) → isNobody h ≡ false → holderOf table k ≡ h .0 → never (endsHold list h k) stepsGot ≡ true
+      → holderOf (end (call list delay) calls table) k ≡ h .0
+  holds-to-the-end h held e u = ap word (held-along list k h held seen (one-msisdn (holderIn (recordOf table k)) h e) u)

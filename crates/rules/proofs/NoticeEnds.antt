@@ -1,7 +1,7 @@
 -- "A notice thus ends after at most five sendings, each followed by a result": for one number, over any list of calls. Assumes nothing.
-use mathlib.Core.Path.{_≡_, refl, sym, _∙_}
+use mathlib.Core.Path.{_≡_, refl, sym, _∙_, ap}
 use mathlib.Core.Bool.{Bool, true, false, cond}
-use mathlib.Core.Option.{Option, some}
+use mathlib.Core.Option.{Option, some, none}
 use mathlib.Core.List.{List, [], _∷_}
 use Prim.Native.Nat.{ℕ, zero, suc, _+_, _-_, _≤_, _<_}
 use native.Mathlib.Omega.{arith}
@@ -19,17 +19,18 @@ use Rattle.rows.proofs.Rows.{record-sound}
 use Rattle.rows.proofs.Kept.{few-sendings}
 use Rattle.tables.specs.declared.Found.{Found}
 use Rattle.tables.specs.declared.Found.the-variants.{At, Nothing}
-use Rattle.tables.specs.Tables.{tableSound, rowOf}
+use Rattle.tables.specs.Tables.{tableSound, rowOf, recordOf}
 use Rattle.tables.proofs.Stored.{record-found, record-missing}
 use Rattle.rules.specs.Answers.{refusal, bufferRoom, isSent}
 use Rattle.rules.specs.Run.{only, end, log}
 use Rattle.rules.specs.Notices.{noticeIn}
-use Rattle.rules.specs.Calls.{Call, Reply, request, sending, result, namesOne}
+use Rattle.rules.specs.Calls.{Call, Reply, request, sending, result, call, namesOne, codesOf, steps}
 use Rattle.rules.specs.Visits.{Visited}
 use Rattle.rules.specs.Pending.{noticeFor, never, holdsAt, isSendingOf, isResultOf, sendingDone, resultTaken, ResultBetween, noticeCleared}
 use Rattle.rules.proofs.Once.{single}
 use Rattle.rules.proofs.Visits.{found-sound}
-use Rattle.rules.proofs.Sound.{end-keeps}
+use Rattle.rules.proofs.Steps.{call-single, singles-log}
+use Rattle.rules.proofs.Calls.{all-steps-single, singly-end, calls-keep}
 use Rattle.rules.proofs.Along.{Asked, negative, registration, erasure, own, forced, Does, asks, unsent, sends, untaken, clears, goes-on, delivers, drops, Passed, unnamed, missing, refused, Along, ends, passes, visits, along, never-first}
 
 -- ---- one visit
@@ -179,10 +180,10 @@ module _ (list : List ℕ) (k : ℕ) where
       let still = still-pending n d a first in
       omega (arith, still .done, sendings-add rest (still .pending) then, one-more (sendingDone k (c, v .reply)) (c, v .reply) (only (sendingDone k) l))
 
-  fifth-ends : {o p : Option Record} {x : Call × Reply} → Along list k o (x ∷ []) p → sendingsDone (noticeIn o) ≡ mostSendings → resultTaken k x ≡ true
+  last-ends : {o p : Option Record} {x : Call × Reply} → Along list k o (x ∷ []) p → sendingsDone (noticeIn o) ≡ mostSendings → resultTaken k x ≡ true
       → noticeIn p ≡ Absent
-  fifth-ends (passes {c = c} n ends) m u = no-path (sym (passed-untaken c n) ∙ u)
-  fifth-ends (visits n d ends) m u = fifth-clears d m u
+  last-ends (passes {c = c} n ends) m u = no-path (sym (passed-untaken c n) ∙ u)
+  last-ends (visits n d ends) m u = fifth-clears d m u
 
 -- of a sound table no more than five sendings are done
 table-most : (table : List ℕ) (k : ℕ) → tableSound table ≡ true → sendingsDone (noticeFor table k) ≤ mostSendings
@@ -194,33 +195,48 @@ table-most table k sound = go (rowOf table k) refl
 
 -- ---- the notice ends
 
--- a result naming k that is not refused, with five sendings done, of whatever kind, leaves k's phase 0
-pub fifth-result-ends : (list : List ℕ) (delay k : ℕ) (c : Call) (table : List ℕ) → sendingsDone (noticeFor table k) ≡ mostSendings
-    → resultTaken k (c, (single list delay c table) .0) ≡ true → noticeFor ((single list delay c table) .1) k ≡ Absent
-fifth-result-ends list delay k c table m u = fifth-ends list k (along list delay k (c ∷ []) table) m u
+-- a result is its own step
+result-single : (k : ℕ) (e : Call × Reply) → resultTaken k e ≡ true → codesOf (e .0) ≡ none
+result-single k (request requester scheme string reply, a) u = no-path u
+result-single k (sending now number buffer, a) u = no-path u
+result-single k (result now number kind, a) u = refl
 
+-- a result naming k that is not refused, with the most sendings done, of whatever kind, leaves k's phase 0
+pub last-result-ends : (list : List ℕ) (delay k : ℕ) (c : Call) (table : List ℕ) → sendingsDone (noticeFor table k) ≡ mostSendings
+    → resultTaken k (c, (call list delay c table) .0) ≡ true → noticeFor ((call list delay c table) .1) k ≡ Absent
+last-result-ends list delay k c table m u =
+    let same = call-single list delay c table (result-single k (c, (call list delay c table) .0) u) in
+    ap (λ r. noticeFor (r .1) k) same ∙ last-ends list k (along list delay k (c ∷ []) table) m (ap (λ r. resultTaken k (c, r .0)) (sym same) ∙ u)
+
+-- over any list of calls, by their single steps; a sending and a result are their own
 module _ (list : List ℕ) (delay k : ℕ) (calls : List Call) (table : List ℕ) where
   abbrev got : List (Call × Reply)
-  got = log (single list delay) calls table
+  got = log (call list delay) (steps list calls) table
 
   abbrev after : List ℕ
-  after = end (single list delay) calls table
+  after = end (call list delay) calls table
+
+  got-singly : got ≡ log (single list delay) (steps list calls) table
+  got-singly = singles-log list delay (steps list calls) table (all-steps-single list delay calls)
+
+  seen : Along list k (recordOf table k) got (recordOf after k)
+  seen = rw (got-singly, singly-end list delay calls table) (along list delay k (steps list calls) table)
 
   -- between two sendings of k that succeed stands a result naming k that was not refused
   pub between-two-sendings : (i j : ℕ) → i < j → holdsAt (sendingDone k) got i ≡ true → holdsAt (sendingDone k) got j ≡ true → ResultBetween k got i j
-  between-two-sendings = result-between list k (along list delay k calls table)
+  between-two-sendings = result-between list k seen
 
   -- while k's notice is pending, up to the result that clears it
   module _ (pending : isAbsent (noticeFor table k) ≡ false) (uncleared : never (noticeCleared k) got ≡ true) where
     -- its phase counts its sendings that succeed
     pub sendings-counted : sendingsDone (noticeFor after k) ≡ sendingsDone (noticeFor table k) + length (only (sendingDone k) got)
-    sendings-counted = sendings-add list k (along list delay k calls table) pending uncleared
+    sendings-counted = sendings-add list k seen pending uncleared
 
-    -- in a sound table no more of them succeed than five less those done
+    -- in a sound table no more of them succeed than the most less those done
     pub sendings-left : tableSound table ≡ true → length (only (sendingDone k) got) ≤ mostSendings - sendingsDone (noticeFor table k)
-    sendings-left sound = omega (arith, sendings-counted, table-most after k (end-keeps list delay calls table sound .sound))
+    sendings-left sound = omega (arith, sendings-counted, table-most after k (calls-keep list delay calls table sound .sound))
 
-    -- and a result that is taken after the fifth ends it
-    pub ends-after-five : sendingsDone (noticeFor table k) + length (only (sendingDone k) got) ≡ mostSendings
-        → (c : Call) → resultTaken k (c, (single list delay c after) .0) ≡ true → noticeFor ((single list delay c after) .1) k ≡ Absent
-    ends-after-five five c u = fifth-result-ends list delay k c after (sendings-counted ∙ five) u
+    -- and a result that is taken after the last ends it
+    pub ends-after-the-last : sendingsDone (noticeFor table k) + length (only (sendingDone k) got) ≡ mostSendings
+        → (c : Call) → resultTaken k (c, (call list delay c after) .0) ≡ true → noticeFor ((call list delay c after) .1) k ≡ Absent
+    ends-after-the-last all c u = last-result-ends list delay k c after (sendings-counted ∙ all) u

@@ -1,5 +1,5 @@
 -- What a call is by its single steps: its own, none, or a crew's single requests. Assumes nothing.
-use mathlib.Core.Path.{_≡_, refl, ap, _∙_}
+use mathlib.Core.Path.{_≡_, refl, ap, _∙_, sym}
 use mathlib.Core.Bool.{Bool, true, false, cond, _&&_}
 use mathlib.Core.Option.{Option, none, some}
 use mathlib.Core.List.{List, [], _∷_, map}
@@ -30,7 +30,7 @@ use Rattle.strings.proofs.ReadBack.{read-only}
 use Rattle.strings.proofs.Octets.{request-reads}
 use Rattle.tables.specs.Tables.{tableSound, flagsOf}
 use Rattle.rules.specs.Answers.{Answer, Outcome, bufferRoom}
-use Rattle.rules.specs.Requests.{hasFollowMe, refusalChecks, rightChecks, negative, once, saying}
+use Rattle.rules.specs.Requests.{isForced, hasFollowMe, refusalChecks, rightChecks, negative, once, saying}
 use Rattle.rules.specs.Crews.{withCode, memberOf, crewCodes, crewNumber, Walk, walked, setOut, crewOutcome, carriedOutFor, requesting}
 use Rattle.rules.specs.Run.{end, log}
 use Rattle.rules.specs.Calls.{Call, request, sending, result, Reply, replied, call, codesRead, codesOf, namesOne, singleCalls, stepsOf}
@@ -112,6 +112,17 @@ module _ (f : Request) {codes : List ℕ} (sound : requestSound f ≡ true) (cre
 passes-rights : (t reply : List ℕ) (flags : ℕ) (e : Erasing) (done : Outcome) → hasFollowMe flags ≡ true → e ≡ Empty
     → decide (map (negative t reply) (rightChecks flags e)) done ≡ done
 passes-rights t reply flags e done h p = rw (h, p) refl
+
+-- a forced erasure is no crew's: a supervisor clears no crew
+pub forced-alone : (requester : Msisdn) (scheme : ℕ) (string reply : List ℕ) (f : Request) {named : Msisdn}
+    → requestOf string ≡ some f → f .erasing ≡ Forced named → codesOf (request requester scheme string reply) ≡ none
+forced-alone requester scheme string reply f {named} reads forces = rw reads (go (crewOf (f .additional)) refl)
+  where
+    go : (codes : Option (List ℕ)) → crewOf (f .additional) ≡ codes → codes ≡ none
+    go none e = refl
+    go (some codes) e =
+        let plain = crew-plain f (read-only (unpacked string) (request-reads string reads .1) .0) e in
+        no-path (sym (ap isForced plain) ∙ ap isForced forces)
 
 small-codes : (codes : List ℕ) → each isCode codes ≡ true → Small codes
 unfolding each

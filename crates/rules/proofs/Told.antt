@@ -18,11 +18,13 @@ use Rattle.records.specs.Steps.{same, isAbsent}
 use Rattle.tables.specs.Tables.{recordOf}
 use Rattle.rules.specs.Answers.{isOutcome}
 use Rattle.rules.specs.Run.{log}
-use Rattle.rules.specs.Calls.{Call, Reply, request, sending, result, namesOne}
+use Rattle.rules.specs.Calls.{Call, Reply, request, sending, result, namesOne, call, steps}
 use Rattle.rules.specs.Visits.{Visited}
 use Rattle.rules.specs.Pending.{never, holdsOf, sendingDone, noticeCleared}
 use Rattle.rules.specs.Users.{telling}
 use Rattle.rules.proofs.Once.{single}
+use Rattle.rules.proofs.Steps.{call-single, singles-log, forced-alone}
+use Rattle.rules.proofs.Calls.{all-steps-single}
 use Rattle.rules.proofs.Along.{Asked, negative, registration, erasure, own, forced, Does, asks, unsent, sends, untaken, clears, goes-on, Along, ends, passes, visits, along, answered-02, same-one, not-same, never-first}
 use Rattle.rules.proofs.NoticeEnds.{passed-unsent, still-pending}
 
@@ -79,22 +81,28 @@ module _ (list : List ℕ) (k : ℕ) where
 -- s is not h, and asks for a forced erasure of k naming h, which is answered 02; then come any calls, none of them a result that clears k's notice
 module _ (list : List ℕ) (delay k : ℕ) (table : List ℕ) (h s : Msisdn) (scheme : ℕ) (string reply : List ℕ) (f : Request)
     (named : namesOne list (request s scheme string reply) k ≡ true) (reads : requestOf string ≡ some f) (forces : f .erasing ≡ Forced h)
-    (other : s ≡ h → ⊥) (answered : isOutcome 2 ((single list delay (request s scheme string reply) table) .0 .answer) ≡ true) where
+    (other : s ≡ h → ⊥) (answered : isOutcome 2 ((call list delay (request s scheme string reply) table) .0 .answer) ≡ true) where
   abbrev after : List ℕ
-  after = (single list delay (request s scheme string reply) table) .1
+  after = (call list delay (request s scheme string reply) table) .1
+
+  singly : call list delay (request s scheme string reply) table ≡ single list delay (request s scheme string reply) table
+  singly = call-single list delay (request s scheme string reply) table (forced-alone s scheme string reply f reads forces)
 
   notified : (r : Record) × (recordOf after k ≡ some r) × Telling h s r
   notified =
-      let (r, v, d, e, u) = answered-02 (along list delay k (request s scheme string reply ∷ []) table) named answered in
-      (v .next, e, by-asking d u)
+      let (r, v, d, e, u) = answered-02 (along list delay k (request s scheme string reply ∷ []) table) named (ap (λ x. isOutcome 2 (x .0 .answer)) (sym singly) ∙ answered) in
+      (v .next, ap (λ x. recordOf (x .1) k) singly ∙ e, by-asking d u)
     where
       by-asking : {r : Record} {v : Visited} → Does list r (request s scheme string reply) v → isOutcome 2 (v .reply .answer) ≡ true → Telling h s (v .next)
       by-asking (asks d) u = forced-tells list k d reads forces (not-same h s (λ e. other (sym e))) u
 
-  -- every sending of k that succeeds tells h of s, whoever holds k meanwhile
-  pub holder-is-told : (calls : List Call) → never (noticeCleared k) (log (single list delay) calls after) ≡ true
-      → (i now : ℕ) (number : FunctionalNumber) (buffer : List ℕ) (a : Reply) → getElem? (log (single list delay) calls after) i ≡ some (sending now number buffer, a)
+  -- every sending of k that succeeds tells h of s, whoever holds k meanwhile: among the single steps of the calls, a sending being its own
+  pub holder-is-told : (calls : List Call) → never (noticeCleared k) (log (call list delay) (steps list calls) after) ≡ true
+      → (i now : ℕ) (number : FunctionalNumber) (buffer : List ℕ) (a : Reply)
+      → getElem? (log (call list delay) (steps list calls) after) i ≡ some (sending now number buffer, a)
       → sendingDone k (sending now number buffer, a) ≡ true → a ≡ telling number h s buffer
   holder-is-told calls uncleared i now number buffer a e d =
       let (r, known, t) = notified in
-      told-along list k h s (rw known at (along list delay k calls after)) t uncleared i (sending now number buffer, a) e d
+      let same = singles-log list delay (steps list calls) after (all-steps-single list delay calls) in
+      told-along list k h s (rw known at (along list delay k (steps list calls) after)) t (rw same at uncleared) i (sending now number buffer, a)
+      (rw same at e) d

@@ -4,7 +4,7 @@ use mathlib.Core.Path.{_≡_}
 use mathlib.Core.Bool.{Bool, true, false, _&&_, _||_}
 use mathlib.Core.Option.{Option, none, some}
 use mathlib.Core.List.{List}
-use lib.ListN.{length}
+use lib.ListN.{length, getElem?}
 use lib.Dec.{eqb}
 use Rattle.numbers.specs.Numbers.{isNumber}
 use Rattle.numbers.specs.declared.FunctionalNumber.{FunctionalNumber}
@@ -46,7 +46,7 @@ isRequest (request requester scheme string reply) = true
 isRequest (sending now number buffer) = false
 isRequest (result now number kind) = false
 
--- of the call c over a table, that got the reply a and left the table `after`: it has ended h's hold of k
+-- of a single call c over a table, that got the reply a and left the table `after`: it has ended h's hold of k
 pub record HoldEnded (list : List ℕ) (h : Msisdn) (k : ℕ) (c : Call) (table : List ℕ) (a : Reply) (after : List ℕ) : Type 0 where
   pub named : namesOne list c k ≡ true
   pub erasure : mayEndHold list h (noNotice (recordOf table k)) c ≡ true
@@ -63,6 +63,17 @@ pub record HoldBegun (list : List ℕ) (k : ℕ) (c : Call) (a : Reply) (after :
 -- an entry of a log that may have ended h's hold of k: it names k, is such an erasure, and was answered 02 (so at phase 0, where it has to be)
 abbrev pub endsHold : List ℕ → Msisdn → ℕ → Call × Reply → Bool
 endsHold list h k entry = namesOne list (entry .0) k && mayEndHold list h true (entry .0) && isOutcome 2 (entry .1 .answer)
+
+-- an entry that may have begun a hold of k: it names k, is a registration, and was answered 01
+abbrev pub beginsHold : List ℕ → ℕ → Call × Reply → Bool
+beginsHold list k entry = namesOne list (entry .0) k && registers (entry .0) && isOutcome 1 (entry .1 .answer)
+
+-- an entry of a log that passes a test, and its place
+pub record Stood (test : Call × Reply → Bool) (entries : List (Call × Reply)) : Type 0 where
+  pub place : ℕ
+  pub entry : Call × Reply
+  pub stands : getElem? entries place ≡ some entry
+  pub passes : test entry ≡ true
 
 -- ---- the controller
 
