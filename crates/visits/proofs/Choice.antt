@@ -1,17 +1,17 @@
--- For each of the four calls, two outcomes that its contract allows are equal: answer, table and every octet. Assumes nothing.
+-- For each of the four calls and for each visit to a row, two outcomes that its contract allows are equal: answer, table and every octet. Assumes nothing.
 use mathlib.Core.Path.{_≡_, refl, sym, ap, _∙_}
 use mathlib.Core.List.{List}
 use Prim.Native.Nat.{ℕ}
 use Rattle.rules.specs.Answers.{Answer, refusal, error, outcome, holderIs, sentTo, delivered, dropped, again, found, noneDue, Outcome, made}
 use Rattle.visits.specs.Said.{saidRequest, saidSending, saidResult, saidFinding}
 use Rattle.visits.specs.declared.RequestAnswer.{RequestAnswer}
 use Rattle.visits.specs.declared.RequestAnswer.the-variants as request
 use Rattle.visits.specs.declared.SendingAnswer.{SendingAnswer}
 use Rattle.visits.specs.declared.SendingAnswer.the-variants as sending
 use Rattle.visits.specs.declared.ResultAnswer.{ResultAnswer}
 use Rattle.visits.specs.declared.ResultAnswer.the-variants as result
 use Rattle.visits.specs.declared.FindingAnswer.{FindingAnswer}
 use Rattle.visits.specs.declared.FindingAnswer.the-variants as finding
 
 -- what can be read back from what was said is told apart by it
 module _ {X : Type 0} (said : X → Answer) (unsaid : Answer → X) (back : (x : X) → unsaid (said x) ≡ x) where
@@ -58,6 +58,11 @@ request-back (request.Held msisdn octets) = refl
 pub request-choice :
     (v w : RequestAnswer) (t u b d : List ℕ) (o : Outcome) → made (saidRequest v) t b ≡ o → made (saidRequest w) u d ≡ o → (v ≡ w) × (t ≡ u) × (b ≡ d)
 request-choice = no-choice saidRequest unsaidRequest request-back
+
+-- where an outcome is only said
+pub say-choice :
+    (v w : RequestAnswer) (b d : List ℕ) {a : Answer} {new : List ℕ} → (saidRequest v ≡ a) × (b ≡ new) → (saidRequest w ≡ a) × (d ≡ new) → (v ≡ w) × (b ≡ d)
+say-choice v w b d p q = (told-apart saidRequest unsaidRequest request-back v w (p .0 ∙ sym (q .0)), p .1 ∙ sym (q .1))
 
 -- ---- a sending
 
