@@ -19,13 +19,11 @@
 //   write OPERATION NUMBER [MSISDN] TAIL  0 registers, 1 erases, 2 interrogates; what was written is read again
 //   read TAIL                             characters are packed first
 //   number WORD                           whether it is a number in stored form
-mod said;
-
 use answers::Written;
 use numbers::FunctionalNumber;
 use numbers::Msisdn;
 use rows::ROW_WORDS;
-use said::Said;
+use shown::Said;
 use strings::Erasing;
 use strings::Operation;
 use texts::Fields;
@@ -182,7 +180,36 @@ fn write(words: &[u64; MOST_WORDS], count: usize, additional: &[u8], buffer: &mu
     let number = FunctionalNumber(words[1]);
     let erasing = erasing_of(count, words[2]);
     let written = writers::write_request(operation, number, erasing, additional, buffer);
-    said::of_writing(written)
+    shown::of_writing(written)
+}
+
+fn ask(
+    words: &[u64; MOST_WORDS],
+    string: &[u8],
+    table: &mut [u64],
+    list: &[u64],
+    reply: &mut [u8],
+) -> Said {
+    let requester = Msisdn(words[0]);
+    let scheme = low_8(words[1]);
+    let answer = node::request(table, list, reply, requester, scheme, string);
+    shown::of_request(answer)
+}
+
+fn send(words: &[u64; MOST_WORDS], table: &mut [u64], buffer: &mut [u8]) -> Said {
+    let number = FunctionalNumber(words[0]);
+    let answer = node::sending(table, buffer, number, low_32(words[1]), low_32(words[2]));
+    shown::of_sending(answer)
+}
+
+fn report(words: &[u64; MOST_WORDS], table: &mut [u64]) -> Said {
+    let number = FunctionalNumber(words[0]);
+    let answer = node::result(table, number, low_32(words[1]), low_32(words[2]));
+    shown::of_result(answer)
+}
+
+fn look(words: &[u64; MOST_WORDS], table: &[u64]) -> Said {
+    shown::of_finding(node::finding(table, low_32(words[0]), low_32(words[1])))
 }
 
 // A call that is lent table and list.
@@ -194,18 +221,11 @@ fn call_node(
     list: &[u64],
     buffer: &mut [u8],
 ) -> Said {
-    let second = low_32(words[1]);
-    let third = low_32(words[2]);
-    let number = FunctionalNumber(words[0]);
     match call {
-        REQUEST => {
-            let requester = Msisdn(words[0]);
-            let scheme = low_8(words[1]);
-            said::of_request(node::request(table, list, buffer, requester, scheme, octets))
-        }
-        SENDING => said::of_sending(node::sending(table, buffer, number, second, third)),
-        RESULT => said::of_result(node::result(table, number, second, third)),
-        _ => said::of_finding(node::finding(table, low_32(words[0]), second)),
+        REQUEST => ask(words, octets, table, list, buffer),
+        SENDING => send(words, table, buffer),
+        RESULT => report(words, table),
+        _ => look(words, table),
     }
 }
 
@@ -218,10 +238,11 @@ fn call_strings(
     buffer: &mut [u8],
 ) -> Said {
     match call {
-        PACK => said::of_writing(packing::pack(octets, buffer)),
-        UNPACK => said::of_writing(packing::unpack(octets, buffer)),
+        PACK => shown::of_writing(packing::pack(octets, buffer)),
+        UNPACK => shown::of_writing(packing::unpack(octets, buffer)),
         WRITE => write(words, count, octets, buffer),
-        _ => said::of_number(numbers::is_number(words[0])),
+        NUMBER => shown::of_number(numbers::is_number(words[0])),
+        _ => shown::nothing(),
     }
 }
 
@@ -266,18 +287,46 @@ fn put_buffer(
     at
 }
 
-// Writes what a request that was written reads as.
-fn put_written(out: &mut [u8], at: usize, call: usize, count: usize, buffer: &[u8]) -> usize {
+// Ends the line of a call. A string is read, and so is one that was written.
+fn put_end(
+    out: &mut [u8],
+    at: usize,
+    call: usize,
+    count: usize,
+    octets: &[u8],
+    buffer: &[u8],
+) -> usize {
+    if call == READ {
+        return shown::put_reading(out, at, octets);
+    }
     let at = texts::put(out, at, b"\n");
     if !((call == WRITE) & (0 < count)) {
         return at;
     }
     let count = streams::within(count, buffer);
     let at = texts::put(out, at, b"reads as ");
-    said::put_reading(out, at, &buffer[..count])
+    shown::put_reading(out, at, &buffer[..count])
 }
 
-// Makes a call on what it is lent, and writes what it answered and left.
+// Writes what a call answered and left.
+fn put_call(
+    call: usize,
+    said: Said,
+    octets: &[u8],
+    before: &[u64],
+    table: &[u64],
+    buffer: &[u8],
+    filling: u8,
+    out: &mut [u8],
+    at: usize,
+) -> usize {
+    let at = shown::put(out, at, said);
+    let at = put_buffer(out, at, call, said.count, buffer, filling);
+    let at = put_table(out, at, call, before, table);
+    put_end(out, at, call, said.count, octets, buffer)
+}
+
+// Makes a call on what it is lent, and shows it.
 fn show_call(
     call: usize,
     fields: Fields,
@@ -292,10 +341,7 @@ fn show_call(
     let mut before = table_words();
     texts::copy(table, &mut before);
     let said = make_call(call, fields, octets, table, list, buffer);
-    let at = said::put(out, at, said);
-    let at = put_buffer(out, at, call, said.count, buffer, filling);
-    let at = put_table(out, at, call, &before, table);
-    put_written(out, at, call, said.count, buffer)
+    put_call(call, said, octets, &before, table, buffer, filling, out, at)
 }
 
 // The octets of a tail; the characters of a request's string are packed.
@@ -369,9 +415,6 @@ fn call_line(
         return question(out, at);
     }
     let count = streams::within(read.count, &octets);
-    if line.form == READ {
-        return said::put_reading(out, at, &octets[..count]);
-    }
     lend(line, &octets[..count], state, table, list, out, at)
 }
 
@@ -509,17 +552,25 @@ fn form_of(text: &[u8]) -> Line {
     }
 }
 
-// A line that neither calls nor sets memory.
-fn text_line(form: usize, text: &[u8], out: &mut [u8], at: usize) -> usize {
-    if form == UNKNOWN {
-        return question(out, at);
-    }
+// A line that neither calls nor sets memory: from where its text is printed, and to where.
+fn text_start(form: usize) -> usize {
     if form == TITLE {
-        let at = texts::put_part(out, at, text, 2, text.len());
-        return texts::put(out, at, b": ");
+        return 2;
     }
-    let at = texts::put(out, at, text);
-    texts::put(out, at, b"\n")
+    0
+}
+
+fn text_end(form: usize, length: usize) -> usize {
+    if form == UNKNOWN {
+        return 0;
+    }
+    length
+}
+
+fn text_line(form: usize, text: &[u8], out: &mut [u8], at: usize) -> usize {
+    let at = texts::put_part(out, at, text, text_start(form), text_end(form, text.len()));
+    let ending = std::num::wrapping_sub_usize(form, COMMENT);
+    texts::put_form(out, at, b"\n;: ;?\n;", ending, &[0, 0, 0, 0])
 }
 
 fn do_line(

@@ -90,9 +90,12 @@ fn stay(before: &[u64], after: &[u64], from: usize, end: usize) -> bool {
 
 // Where the row ends that starts at a word.
 fn row_end(start: usize, length: usize, width: usize) -> usize
-    requires { ⌜ (start < length) × (0 < width) ⌝ }
+    requires { ⌜ start < length ⌝ }
     ensures { λ r. ⌜ (start < r) × (r ≤ length) ⌝ }
 {
+    if width == 0 {
+        return length;
+    }
     if length - start < width {
         return length;
     }

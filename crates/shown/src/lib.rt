@@ -1,4 +1,4 @@
-// What the calls answer: a form, its values, and how many octets the call says to have written.
+// What the calls answer, as text: a form, its values, and how many octets the call says to have written.
 use answers::Written;
 use strings::Erasing;
 use strings::Fields;
@@ -36,6 +36,8 @@ const COUNT: usize = 10;
 const NUMBER: usize = 11;
 
 const NO_NUMBER: usize = 12;
+
+const NOTHING: usize = 13;
 
 pub struct Said {
     pub form: usize,
@@ -121,12 +123,16 @@ pub fn of_number(is_number: bool) -> Said {
     plain(NO_NUMBER, 0)
 }
 
+pub fn nothing() -> Said {
+    plain(NOTHING, 0)
+}
+
 pub fn put(out: &mut [u8], at: usize, said: Said) -> usize {
     let values = said.values;
     texts::put_form(
         out,
         at,
-        b"refused %;error %;outcome %%, % octets;outcome 03, holder %, % octets;sent to %, % octets;delivered;dropped;again;due %;none due;%;a number;no number;",
+        b"refused %;error %;outcome %%, % octets;outcome 03, holder %, % octets;sent to %, % octets;delivered;dropped;again;due %;none due;%;a number;no number;;",
         said.form,
         &values,
     )
