@@ -16,25 +16,33 @@
 //   result NUMBER KIND CLOCK
 //   finding DELAY CLOCK
 //   pack TAIL       unpack TAIL
-//   write OPERATION NUMBER [MSISDN] TAIL  0 registers, 1 erases, 2 interrogates; what was written is read again
+//   write OPERATION NUMBER [MSISDN] TAIL  0 registers, 1 erases, 2 interrogates
 //   read TAIL                             characters are packed first
 //   number WORD                           whether it is a number in stored form
 use answers::Written;
-use numbers::FunctionalNumber;
-use numbers::Msisdn;
 use rows::ROW_WORDS;
+use shown::FINDING;
+use shown::NUMBER;
+use shown::PACK;
+use shown::READ;
+use shown::REQUEST;
+use shown::RESULT;
+use shown::SENDING;
 use shown::Said;
-use strings::Erasing;
-use strings::Operation;
+use shown::TWO_TO_THE_8;
+use shown::TWO_TO_THE_32;
+use shown::UNPACK;
+use shown::WRITE;
+use shown::fills_buffer;
+use shown::low_8;
+use shown::make_call;
+use shown::shows_table;
 use texts::Fields;
-use texts::MOST_WORDS;
 use texts::OctetsRead;
 ghost use mathlib.Core.Path.{_≡_};
 ghost use lib.ListN.{length};
 
-// Room for the input. The output is written whenever so many octets of it wait; no line prints as many.
-const INPUT: usize = 131_072;
-
+// The output is written whenever so many octets of it wait; no line prints as many.
 const WAITING: usize = 32_768;
 
 // Room for the words of a table and a list, more than either may have.
@@ -47,12 +55,7 @@ const BUFFER: usize = 512;
 
 const TAIL: usize = 1_024;
 
-// Delays, clocks and kinds have 32 bits, coding schemes and fillings 8.
-const TWO_TO_THE_32: u64 = 4_294_967_296;
-
-const TWO_TO_THE_8: u64 = 256;
-
-// The forms of lines: the first by their place among the names that `form_of` has.
+// The forms of lines, by their place among the names that `read_form` has; the calls are between these, and the last three have no name.
 const TABLE_ROWS: usize = 2;
 
 const LIST_LINE: usize = 3;
@@ -60,24 +63,6 @@ const LIST_LINE: usize = 3;
 const LIST_ROWS: usize = 5;
 
 const BUFFER_LINE: usize = 6;
-
-const REQUEST: usize = 7;
-
-const SENDING: usize = 8;
-
-const RESULT: usize = 9;
-
-const FINDING: usize = 10;
-
-const PACK: usize = 11;
-
-const UNPACK: usize = 12;
-
-const WRITE: usize = 13;
-
-const READ: usize = 14;
-
-const NUMBER: usize = 15;
 
 const COMMENT: usize = 16;
 
@@ -117,12 +102,6 @@ fn list_words() -> [u64; LIST]
     [0; LIST]
 }
 
-fn input_octets() -> [u8; INPUT]
-    ensures { λ r. ⌜ 131072 ≡ length r ⌝ }
-{
-    [0; INPUT]
-}
-
 fn tail_octets() -> [u8; TAIL]
     ensures { λ r. ⌜ 1024 ≡ length r ⌝ }
 {
@@ -135,131 +114,7 @@ fn filled(filling: u8) -> [u8; BUFFER]
     [filling; BUFFER]
 }
 
-fn low_32(word: u64) -> u32 {
-    (word % TWO_TO_THE_32) as u32
-}
-
-fn low_8(word: u64) -> u8 {
-    (word % TWO_TO_THE_8) as u8
-}
-
 // ---- calls
-
-// The calls that write into the buffer, and those that show the table.
-fn fills_buffer(call: usize) -> bool {
-    match call {
-        REQUEST | SENDING | PACK | UNPACK | WRITE => true,
-        _ => false,
-    }
-}
-
-fn shows_table(call: usize) -> bool {
-    match call {
-        REQUEST | SENDING | RESULT => true,
-        _ => false,
-    }
-}
-
-fn operation_of(word: u64) -> Operation {
-    match word {
-        0 => Operation::Register,
-        1 => Operation::Erase,
-        _ => Operation::Interrogate,
-    }
-}
-
-fn erasing_of(count: usize, msisdn: u64) -> Erasing {
-    if count == 3 {
-        return Erasing::Forced(Msisdn(msisdn));
-    }
-    Erasing::Empty
-}
-
-fn write(words: &[u64; MOST_WORDS], count: usize, additional: &[u8], buffer: &mut [u8]) -> Said {
-    let operation = operation_of(words[0]);
-    let number = FunctionalNumber(words[1]);
-    let erasing = erasing_of(count, words[2]);
-    let written = writers::write_request(operation, number, erasing, additional, buffer);
-    shown::of_writing(written)
-}
-
-fn ask(
-    words: &[u64; MOST_WORDS],
-    string: &[u8],
-    table: &mut [u64],
-    list: &[u64],
-    reply: &mut [u8],
-) -> Said {
-    let requester = Msisdn(words[0]);
-    let scheme = low_8(words[1]);
-    let answer = node::request(table, list, reply, requester, scheme, string);
-    shown::of_request(answer)
-}
-
-fn send(words: &[u64; MOST_WORDS], table: &mut [u64], buffer: &mut [u8]) -> Said {
-    let number = FunctionalNumber(words[0]);
-    let answer = node::sending(table, buffer, number, low_32(words[1]), low_32(words[2]));
-    shown::of_sending(answer)
-}
-
-fn report(words: &[u64; MOST_WORDS], table: &mut [u64]) -> Said {
-    let number = FunctionalNumber(words[0]);
-    let answer = node::result(table, number, low_32(words[1]), low_32(words[2]));
-    shown::of_result(answer)
-}
-
-fn look(words: &[u64; MOST_WORDS], table: &[u64]) -> Said {
-    shown::of_finding(node::finding(table, low_32(words[0]), low_32(words[1])))
-}
-
-// A call that is lent table and list.
-fn call_node(
-    call: usize,
-    words: &[u64; MOST_WORDS],
-    octets: &[u8],
-    table: &mut [u64],
-    list: &[u64],
-    buffer: &mut [u8],
-) -> Said {
-    match call {
-        REQUEST => ask(words, octets, table, list, buffer),
-        SENDING => send(words, table, buffer),
-        RESULT => report(words, table),
-        _ => look(words, table),
-    }
-}
-
-// Another call.
-fn call_strings(
-    call: usize,
-    words: &[u64; MOST_WORDS],
-    count: usize,
-    octets: &[u8],
-    buffer: &mut [u8],
-) -> Said {
-    match call {
-        PACK => shown::of_writing(packing::pack(octets, buffer)),
-        UNPACK => shown::of_writing(packing::unpack(octets, buffer)),
-        WRITE => write(words, count, octets, buffer),
-        NUMBER => shown::of_number(numbers::is_number(words[0])),
-        _ => shown::nothing(),
-    }
-}
-
-fn make_call(
-    call: usize,
-    fields: Fields,
-    octets: &[u8],
-    table: &mut [u64],
-    list: &[u64],
-    buffer: &mut [u8],
-) -> Said {
-    let words = fields.words;
-    if call <= FINDING {
-        return call_node(call, &words, octets, table, list, buffer);
-    }
-    call_strings(call, &words, fields.count, octets, buffer)
-}
 
 // Writes what became of the table: the rows that changed, if there are any.
 fn put_table(out: &mut [u8], at: usize, call: usize, before: &[u64], after: &[u64]) -> usize {
@@ -287,25 +142,12 @@ fn put_buffer(
     at
 }
 
-// Ends the line of a call. A string is read, and so is one that was written.
-fn put_end(
-    out: &mut [u8],
-    at: usize,
-    call: usize,
-    count: usize,
-    octets: &[u8],
-    buffer: &[u8],
-) -> usize {
+// Ends the line of a call, or reads a string.
+fn put_end(out: &mut [u8], at: usize, call: usize, octets: &[u8]) -> usize {
     if call == READ {
         return shown::put_reading(out, at, octets);
     }
-    let at = texts::put(out, at, b"\n");
-    if !((call == WRITE) & (0 < count)) {
-        return at;
-    }
-    let count = streams::within(count, buffer);
-    let at = texts::put(out, at, b"reads as ");
-    shown::put_reading(out, at, &buffer[..count])
+    texts::put(out, at, b"\n")
 }
 
 // Writes what a call answered and left.
@@ -323,7 +165,7 @@ fn put_call(
     let at = shown::put(out, at, said);
     let at = put_buffer(out, at, call, said.count, buffer, filling);
     let at = put_table(out, at, call, before, table);
-    put_end(out, at, call, said.count, octets, buffer)
+    put_end(out, at, call, octets)
 }
 
 // Makes a call on what it is lent, and shows it.
@@ -633,9 +475,9 @@ fn run(input: &[u8], table: &mut [u64], list: &mut [u64], out: &mut [u8]) {
 }
 
 fn main() {
-    let mut input = input_octets();
+    let mut input = io::large_buffer();
     let octets = streams::read_input(b"calls", &mut input);
-    if octets == INPUT {
+    if octets == input.len() {
         streams::say(b"calls", b": more input than there is room for\n");
     }
     let mut table = table_words();

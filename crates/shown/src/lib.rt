@@ -1,5 +1,22 @@
-// What the calls answer, as text: a form, its values, and how many octets the call says to have written.
+// The calls by their words and octets, and what they answer, as text.
+mod made;
+
 use answers::Written;
+pub use made::FINDING;
+pub use made::NUMBER;
+pub use made::PACK;
+pub use made::READ;
+pub use made::REQUEST;
+pub use made::RESULT;
+pub use made::SENDING;
+pub use made::TWO_TO_THE_8;
+pub use made::TWO_TO_THE_32;
+pub use made::UNPACK;
+pub use made::WRITE;
+pub use made::fills_buffer;
+pub use made::low_8;
+pub use made::make_call;
+pub use made::shows_table;
 use strings::Erasing;
 use strings::Fields;
 use strings::Operation;
@@ -33,7 +50,7 @@ const NONE_DUE: usize = 9;
 
 const COUNT: usize = 10;
 
-const NUMBER: usize = 11;
+const A_NUMBER: usize = 11;
 
 const NO_NUMBER: usize = 12;
 
@@ -118,7 +135,7 @@ pub fn of_writing(written: Written) -> Said {
 
 pub fn of_number(is_number: bool) -> Said {
     if is_number {
-        return plain(NUMBER, 0);
+        return plain(A_NUMBER, 0);
     }
     plain(NO_NUMBER, 0)
 }

@@ -9,7 +9,7 @@ use crate::packing::{pack, packed_length, unpack};
 use crate::string::{read_request, write_request, Fields, Operation};
 
 /// The octets of input that the program has room for.
-pub const CALLS_INPUT_LIMIT: usize = 128 * 1024;
+pub const CALLS_INPUT_LIMIT: usize = 64 * 1024;
 
 /// The words of a table and a list stay below these.
 const TABLE_WORDS: usize = 6 * 1100;
@@ -250,15 +250,11 @@ impl Calls {
     ) -> Option<String> {
         let mut out = vec![self.filling; self.room];
         let written = write(&mut out)?;
-        Some(self.written(written, &out))
-    }
-
-    fn written(&self, written: Result<usize, u8>, out: &[u8]) -> String {
         let said = match written {
             Ok(count) => count.to_string(),
             Err(refusal) => format!("refused {refusal}"),
         };
-        said + &self.octets(out, written.unwrap_or(0)) + "\n"
+        Some(said + &self.octets(&out, written.unwrap_or(0)) + "\n")
     }
 
     fn write(
@@ -280,14 +276,7 @@ impl Calls {
             forced,
             additional: tail.octets()?,
         };
-        let mut out = vec![self.filling; self.room];
-        let written = write_request(&fields, &mut out);
-        let mut said = self.written(written, &out);
-        if let Ok(count) = written {
-            said += "reads as ";
-            said += &reading(&out[..count]);
-        }
-        Some(said)
+        self.writing(|out| Some(write_request(&fields, out)))
     }
 
     /// The octets that were written, and what lies beyond.
