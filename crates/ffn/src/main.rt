@@ -1,6 +1,4 @@
-// The program of document 01: it reads at most 64 KiB of standard input, and writes what its lines print.
-use libc::STDIN_FILENO;
-use libc::STDOUT_FILENO;
+// The program of document 01: it reads at most 64 KiB of standard input, and writes what its lines print. What is lost is said on standard error.
 use lines::LIST_WORDS;
 use lines::MOST_OUTPUT;
 use lines::TABLE_WORDS;
@@ -29,10 +27,10 @@ fn output_octets() -> [u8; MOST_OUTPUT]
 
 fn main() {
     let mut input = io::large_buffer();
-    let octets = io::read_full(STDIN_FILENO, &mut input);
+    let octets = streams::read_input(b"ffn", &mut input);
     let mut table = table_words();
     let mut list = list_words();
     let mut out = output_octets();
     let printed = lines::run(&input[..octets], &mut table, &mut list, &mut out);
-    io::write_all(STDOUT_FILENO, &out[..printed]);
+    streams::write_output(b"ffn", &out[..printed]);
 }

@@ -1,4 +1,5 @@
--- `Places`: lines and fields by the place where they end. `Digits`: fields of digits. `Reading`: what their readers tell.
+-- `Places`: lines and fields by the place where they end. `Digits`: fields of digits. `Reading`: what their readers tell. `Choice`: `read_form` leaves none.
 pub mod Places
 pub mod Digits
 pub mod Reading
+pub mod Choice

@@ -1,4 +1,3 @@
--- `Choice`: no contract of the four calls leaves a choice. `Checks`: what a call comes to at each of its checks. `Asked`: the same once the string was read.
-pub mod Choice
+-- `Checks`: what a call comes to at each of its checks. `Asked`: the same once the string was read.
 pub mod Checks
 pub mod Asked

@@ -1,10 +1,9 @@
 -- `Lengths`: a number has one length, and what that says of its size. `Least`: how the table of least numbers tells a number.
 -- `Digits`: the stored form and the digits undo each other. `Reading`, `Writing`: digits read from a string and written into a buffer.
--- `Choice`: the contracts leave none. `Examples`: document 01's own.
+-- `Examples`: document 01's own.
 pub mod Lengths
 pub mod Least
 pub mod Digits
 pub mod Reading
 pub mod Writing
-pub mod Choice
 pub mod Examples

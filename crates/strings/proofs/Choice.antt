@@ -1,4 +1,4 @@
--- The contracts leave no choice: two outcomes that one allows are equal. Assumes nothing.
+-- `read_request` leaves no choice: two answers that its contract allows for one string are equal. Assumes nothing.
 use mathlib.Core.Path.{_≡_, refl, sym, ap, _∙_}
 use mathlib.Core.Logic.{⊎-elim}
 use mathlib.Core.Option.{Option, none, some}
@@ -6,26 +6,20 @@ use mathlib.Core.List.{List}
 use Prim.Native.Nat.{ℕ, _≤_}
 use native.Mathlib.Omega.{arith}
 use lib.ListN.{length, drop, replicate, length-append}
-use Rattle.answers.specs.Writing.{WriteOutcome, madeWrite, Stands}
-use Rattle.answers.specs.declared.Written.{Written}
+use Rattle.answers.specs.Writing.{WriteOutcome}
 use Rattle.answers.proofs.Tests.{less-or-not}
 use Rattle.answers.proofs.Checks.{not-some}
-use Rattle.answers.proofs.Writing.{made-one}
-use Rattle.numbers.specs.declared.FunctionalNumber.{FunctionalNumber}
-use Rattle.numbers.specs.declared.Msisdn.{Msisdn}
-use Rattle.packing.specs.Packing.{charsIn, packed, unpacked}
+use Rattle.packing.specs.Packing.{charsIn, unpacked}
 use Rattle.packing.proofs.Outcomes.{unpacking-good}
 use Rattle.strings.specs.declared.Fields.{Fields}
 use Rattle.strings.specs.declared.Reading.{Reading}
 use Rattle.strings.specs.declared.Reading.the-variants.{Read, Unreadable}
 use Rattle.strings.specs.declared.ReadRequest.{ReadRequest}
-use Rattle.strings.specs.Text.{Request, textOf, noticeFields, mostCharacters}
-use Rattle.strings.specs.Outcomes.{requestOf, requestIn, told, ReadOutcome, madeRead, tell, textBeside, reading, writingRequest}
+use Rattle.strings.specs.Text.{Request, textOf, mostCharacters}
+use Rattle.strings.specs.Outcomes.{requestOf, requestIn, told, ReadOutcome, madeRead, tell, textBeside, reading}
 use Rattle.strings.proofs.ReadBack.{read-only}
 use Rattle.strings.proofs.Octets.{request-reads, too-long}
 use Rattle.strings.proofs.Answered.{not-error, told-place}
-
--- ---- the reader
 
 -- the text of a string that reads stands whole beside the answer
 pub beside-whole : (os : List ℕ) {g : Request} → requestOf os ≡ some g → length (unpacked os) ≤ length (textBeside os)
@@ -74,18 +68,3 @@ read-request-one os a b p q =
     (λ g e. (read-only (unpacked os) (request-reads os e .1) .1, beside-whole os e))
     (a .reading) (b .reading) (rw s at (ap (λ (x : ReadOutcome). x .answer) p)) (rw t at (ap (λ (x : ReadOutcome). x .answer) q)) in
     λ i. record { reading = r i; text = (s ∙ sym t) i }
-
--- ---- the writers
-
-pub write-request-one :
-    (f : Request) (out : List ℕ) (a b : Written) (new other : List ℕ) → madeWrite a new ≡ writingRequest f out → madeWrite b other ≡ writingRequest f out
-    → (a ≡ b) × (new ≡ other)
-write-request-one f out a b new other p q = made-one a b new other p q
-
-pub write-notice-one :
-    (number : FunctionalNumber) (supervisor : Msisdn) (out : List ℕ) (a b : ℕ) (new other : List ℕ)
-    → Stands (packed (textOf (noticeFields number supervisor))) out a new → Stands (packed (textOf (noticeFields number supervisor))) out b other
-    → (a ≡ b) × (new ≡ other)
-write-notice-one number supervisor out a b new other p q =
-    let e : a ≡ b = p .count ∙ sym (q .count) in
-    (e, p .buffer ∙ rw e (sym (q .buffer)))

@@ -1,5 +1,5 @@
 //! Inputs for random tests: calls with the memory they are lent, and inputs of
-//! the program.
+//! the programs.
 //!
 //! A [`Generator`] with the same seed makes the same inputs. It aims at what
 //! document 01 tells apart: most calls get past the first checks, and every
@@ -1177,6 +1177,181 @@ impl Generator {
         }
         input.extend(line);
         input.push(b'\n');
+    }
+}
+
+/// Lines of the program `calls`.
+impl Generator {
+    /// Appends the lines of a call and of the memory that it is lent, now and
+    /// then damaged, and perhaps calls that follow it on the same memory.
+    /// Returns how many calls they make.
+    pub fn call_lines(&mut self, input: &mut Vec<u8>) -> u64 {
+        if self.random.once_in(32) {
+            self.put_numbered_request(input);
+            return 1;
+        }
+        let call = self.call();
+        let number = match &call {
+            Call::Sending { number, .. } | Call::Result { number, .. } => Some(*number),
+            _ => None,
+        };
+        self.put_call(input, call);
+        let Some(number) = number.filter(|_| self.random.once_in(2)) else {
+            return 1;
+        };
+        let (kind, delay, now) = (self.random.below(7), self.delay(), self.second());
+        let result = format!("result {number} {kind} {now}");
+        self.put_line(input, result.into_bytes(), 48);
+        let finding = format!("finding {delay} {}", now.wrapping_add(delay));
+        self.put_line(input, finding.into_bytes(), 48);
+        3
+    }
+
+    /// A registration on a table and a list of rows that are counted up, around
+    /// the limits.
+    fn put_numbered_request(&mut self, input: &mut Vec<u8>) {
+        let records = self.random.pick(&[1, 7, 1023, 1024, 1025, 1099, 1100]);
+        let people = self.random.pick(&[1, 9, 4095, 4096, 4097, 4199, 4200]);
+        let flags = self.random.below(4);
+        for line in [
+            "table".into(),
+            format!("table* {records} 100000 0 0 0 0 0"),
+            "list".into(),
+            format!("list* {people} 100000 {flags}"),
+        ] {
+            self.put_line(input, line.into_bytes(), 64);
+        }
+        let fields = Fields {
+            operation: Operation::Register,
+            number: 100_000 + self.random.below(records + 1),
+            forced: None,
+            additional: Vec::new(),
+        };
+        let reply = self.buffer_around(80);
+        let requester = 100_000 + self.random.below(people + 1);
+        let string = self.string(&fields);
+        self.put_request(input, &reply, requester, 0x0F, &string);
+    }
+
+    fn put_request(
+        &mut self,
+        input: &mut Vec<u8>,
+        reply: &[u8],
+        requester: u64,
+        scheme: u8,
+        string: &[u8],
+    ) {
+        self.put_buffer(input, reply);
+        let words = format!("request {requester} {scheme}");
+        let line = [words.into_bytes(), self.string_tail(string)].concat();
+        self.put_line(input, line, 48);
+    }
+
+    /// Appends the lines of a call.
+    fn put_call(&mut self, input: &mut Vec<u8>, call: Call) {
+        let line = match call {
+            Call::Request {
+                table,
+                list,
+                reply,
+                requester,
+                scheme,
+                string,
+            } => {
+                self.put_words(input, "table", &table);
+                self.put_words(input, "list", &list);
+                return self.put_request(input, &reply, requester, scheme, &string);
+            }
+            Call::Sending {
+                table,
+                buffer,
+                number,
+                delay,
+                now,
+            } => {
+                self.put_words(input, "table", &table);
+                self.put_buffer(input, &buffer);
+                format!("sending {number} {delay} {now}").into_bytes()
+            }
+            Call::Result {
+                table,
+                number,
+                kind,
+                now,
+            } => {
+                self.put_words(input, "table", &table);
+                format!("result {number} {kind} {now}").into_bytes()
+            }
+            Call::Finding { table, delay, now } => {
+                self.put_words(input, "table", &table);
+                format!("finding {delay} {now}").into_bytes()
+            }
+            Call::Pack { chars, out } => {
+                self.put_buffer(input, &out);
+                [b"pack".to_vec(), self.tail(&chars)].concat()
+            }
+            Call::Unpack { octets, out } => {
+                self.put_buffer(input, &out);
+                [b"unpack".to_vec(), self.tail(&octets)].concat()
+            }
+            Call::WriteRequest { fields, out } => {
+                self.put_buffer(input, &out);
+                let operation = match fields.operation {
+                    Operation::Register => 0,
+                    Operation::Erase => 1,
+                    Operation::Interrogate => 2,
+                };
+                let forced = fields
+                    .forced
+                    .map_or(String::new(), |word| format!(" {word}"));
+                let words = format!("write {operation} {}{forced}", fields.number);
+                [words.into_bytes(), self.tail(&fields.additional)].concat()
+            }
+            Call::ReadRequest { octets } => [b"read".to_vec(), self.string_tail(&octets)].concat(),
+            Call::IsNumber { word } => format!("number {word}").into_bytes(),
+        };
+        self.put_line(input, line, 48);
+    }
+
+    /// Appends the lines that set a table or a list.
+    fn put_words(&mut self, input: &mut Vec<u8>, name: &str, words: &[u64]) {
+        self.put_line(input, name.into(), 512);
+        for words in words.chunks(self.random.pick(&[6, 12, 24])) {
+            let words: String = words.iter().map(|word| format!(" {word}")).collect();
+            let line = format!("{name}+{words}");
+            self.put_line(input, line.into_bytes(), 512);
+        }
+    }
+
+    /// Appends the line that sets a buffer of this length.
+    fn put_buffer(&mut self, input: &mut Vec<u8>, buffer: &[u8]) {
+        let line = format!("buffer {} {}", buffer.len(), self.random.octet());
+        self.put_line(input, line.into_bytes(), 512);
+    }
+
+    /// Octets as a tail, if there are any: characters where a line can hold them.
+    fn tail(&mut self, octets: &[u8]) -> Vec<u8> {
+        if octets.is_empty() && self.random.once_in(2) {
+            return Vec::new();
+        }
+        if !octets.contains(&b'\n') && self.random.once_in(2) {
+            return [b" '", octets].concat();
+        }
+        let digits: String = octets.iter().map(|octet| format!("{octet:02x}")).collect();
+        [b" x", digits.as_bytes()].concat()
+    }
+
+    /// A packed string as a tail: its characters, where they pack to it.
+    fn string_tail(&mut self, octets: &[u8]) -> Vec<u8> {
+        let mut chars = vec![0; 2 * octets.len()];
+        let count = unpack(octets, &mut chars).unwrap_or(0);
+        chars.truncate(count);
+        let packs = pack_by_bits(&chars) == octets && !chars.iter().any(|c| b"\n\r".contains(c));
+        if packs && self.random.below(3) > 0 {
+            return [b" '", chars.as_slice()].concat();
+        }
+        let digits: String = octets.iter().map(|octet| format!("{octet:02x}")).collect();
+        [b" x", digits.as_bytes()].concat()
     }
 }
 

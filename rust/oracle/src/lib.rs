@@ -11,6 +11,7 @@
 
 #![forbid(unsafe_code)]
 
+mod calls;
 pub mod generate;
 mod node;
 mod number;
@@ -20,6 +21,7 @@ mod rows;
 mod string;
 mod text;
 
+pub use calls::{run_calls, CALLS_INPUT_LIMIT};
 pub use node::{finding, request, result, sending, Answer};
 pub use number::{is_number, number_from_digits};
 pub use packing::{pack, unpack};

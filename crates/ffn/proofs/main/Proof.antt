@@ -14,11 +14,14 @@ within c = count-within _ _ _ _ _ _ _ _ (c .run .ensures)
 large-buffer-requires : tie.Need-large-buffer-requires
 large-buffer-requires c κs = search needs
 
-slice-aggregate-read-full : tie.Need-slice-aggregate-read-full
-slice-aggregate-read-full c = search needs
+slice-aggregate-read-input : tie.Need-slice-aggregate-read-input
+slice-aggregate-read-input c = search needs
 
-read-full-requires : tie.Need-read-full-requires
-read-full-requires c κs = search needs
+slice-aggregate-read-input-2 : tie.Need-slice-aggregate-read-input-2
+slice-aggregate-read-input-2 c = search needs
+
+read-input-requires : tie.Need-read-input-requires
+read-input-requires c κs = search needs
 
 table-words-requires : tie.Need-table-words-requires
 table-words-requires c κs = search needs
@@ -47,14 +50,17 @@ slice-aggregate-run-4 c = search needs
 run-requires : tie.Need-run-requires
 run-requires c κs = search needs
 
+slice-aggregate-write-output : tie.Need-slice-aggregate-write-output
+slice-aggregate-write-output c = search needs
+
 array-share-prefix-out : tie.Need-array-share-prefix-out
-array-share-prefix-out c = within (c .before .before .before)
+array-share-prefix-out c = within (c .before .before .before .before)
 
-slice-aggregate-write-all : tie.Need-slice-aggregate-write-all
-slice-aggregate-write-all c = sym (length-take-le _ _ (within (c .before .before .before .before)))
+slice-aggregate-write-output-2 : tie.Need-slice-aggregate-write-output-2
+slice-aggregate-write-output-2 c = sym (length-take-le _ _ (within (c .before .before .before .before .before)))
 
-write-all-requires : tie.Need-write-all-requires
-write-all-requires c κs = search needs
+write-output-requires : tie.Need-write-output-requires
+write-output-requires c κs = search needs
 
 returns : tie.Need-returns
 returns c = search needs
@@ -64,8 +70,9 @@ main-spec =
     tie.close
     (tie.spec
     large-buffer-requires
-    slice-aggregate-read-full
-    read-full-requires
+    slice-aggregate-read-input
+    slice-aggregate-read-input-2
+    read-input-requires
     table-words-requires
     list-words-requires
     output-octets-requires
@@ -75,7 +82,8 @@ main-spec =
     slice-aggregate-run-3
     slice-aggregate-run-4
     run-requires
+    slice-aggregate-write-output
     array-share-prefix-out
-    slice-aggregate-write-all
-    write-all-requires
+    slice-aggregate-write-output-2
+    write-output-requires
     returns)

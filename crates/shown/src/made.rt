@@ -1,0 +1,156 @@
+// The calls, each with the words of its line, a tail's octets and what it is lent.
+use crate::Said;
+use numbers::FunctionalNumber;
+use numbers::Msisdn;
+use strings::Erasing;
+use strings::Operation;
+use texts::Fields;
+use texts::MOST_WORDS;
+
+// The calls, by their place among the names of lines.
+pub const REQUEST: usize = 7;
+
+pub const SENDING: usize = 8;
+
+pub const RESULT: usize = 9;
+
+pub const FINDING: usize = 10;
+
+pub const PACK: usize = 11;
+
+pub const UNPACK: usize = 12;
+
+pub const WRITE: usize = 13;
+
+pub const READ: usize = 14;
+
+pub const NUMBER: usize = 15;
+
+// Delays, clocks and kinds have 32 bits, coding schemes and fillings 8.
+pub const TWO_TO_THE_32: u64 = 4_294_967_296;
+
+pub const TWO_TO_THE_8: u64 = 256;
+
+fn low_32(word: u64) -> u32 {
+    (word % TWO_TO_THE_32) as u32
+}
+
+pub fn low_8(word: u64) -> u8 {
+    (word % TWO_TO_THE_8) as u8
+}
+
+// The calls that write into the buffer, and those that show the table.
+pub fn fills_buffer(call: usize) -> bool {
+    match call {
+        REQUEST | SENDING | PACK | UNPACK | WRITE => true,
+        _ => false,
+    }
+}
+
+pub fn shows_table(call: usize) -> bool {
+    match call {
+        REQUEST | SENDING | RESULT => true,
+        _ => false,
+    }
+}
+
+fn operation_of(word: u64) -> Operation {
+    match word {
+        0 => Operation::Register,
+        1 => Operation::Erase,
+        _ => Operation::Interrogate,
+    }
+}
+
+fn erasing_of(count: usize, msisdn: u64) -> Erasing {
+    if count == 3 {
+        return Erasing::Forced(Msisdn(msisdn));
+    }
+    Erasing::Empty
+}
+
+fn write(words: &[u64; MOST_WORDS], count: usize, additional: &[u8], buffer: &mut [u8]) -> Said {
+    let operation = operation_of(words[0]);
+    let number = FunctionalNumber(words[1]);
+    let erasing = erasing_of(count, words[2]);
+    let written = writers::write_request(operation, number, erasing, additional, buffer);
+    crate::of_writing(written)
+}
+
+fn ask(
+    words: &[u64; MOST_WORDS],
+    string: &[u8],
+    table: &mut [u64],
+    list: &[u64],
+    reply: &mut [u8],
+) -> Said {
+    let requester = Msisdn(words[0]);
+    let scheme = low_8(words[1]);
+    let answer = node::request(table, list, reply, requester, scheme, string);
+    crate::of_request(answer)
+}
+
+fn send(words: &[u64; MOST_WORDS], table: &mut [u64], buffer: &mut [u8]) -> Said {
+    let number = FunctionalNumber(words[0]);
+    let answer = node::sending(table, buffer, number, low_32(words[1]), low_32(words[2]));
+    crate::of_sending(answer)
+}
+
+fn report(words: &[u64; MOST_WORDS], table: &mut [u64]) -> Said {
+    let number = FunctionalNumber(words[0]);
+    let answer = node::result(table, number, low_32(words[1]), low_32(words[2]));
+    crate::of_result(answer)
+}
+
+fn look(words: &[u64; MOST_WORDS], table: &[u64]) -> Said {
+    crate::of_finding(node::finding(table, low_32(words[0]), low_32(words[1])))
+}
+
+// A call that is lent table and list.
+fn call_node(
+    call: usize,
+    words: &[u64; MOST_WORDS],
+    octets: &[u8],
+    table: &mut [u64],
+    list: &[u64],
+    buffer: &mut [u8],
+) -> Said {
+    match call {
+        REQUEST => ask(words, octets, table, list, buffer),
+        SENDING => send(words, table, buffer),
+        RESULT => report(words, table),
+        _ => look(words, table),
+    }
+}
+
+// Another call.
+fn call_strings(
+    call: usize,
+    words: &[u64; MOST_WORDS],
+    count: usize,
+    octets: &[u8],
+    buffer: &mut [u8],
+) -> Said {
+    match call {
+        PACK => crate::of_writing(packing::pack(octets, buffer)),
+        UNPACK => crate::of_writing(packing::unpack(octets, buffer)),
+        WRITE => write(words, count, octets, buffer),
+        NUMBER => crate::of_number(numbers::is_number(words[0])),
+        _ => crate::nothing(),
+    }
+}
+
+pub fn make_call(
+    call: usize,
+    fields: Fields,
+    octets: &[u8],
+    table: &mut [u64],
+    list: &[u64],
+    buffer: &mut [u8],
+) -> Said {
+    let words = fields.words;
+    if call <= FINDING {
+        return call_node(call, &words, octets, table, list, buffer);
+    }
+    call_strings(call, &words, fields.count, octets, buffer)
+}
