@@ -1,8 +1,7 @@
 -- `Codes`: codes and their digits. `Reading`: the codes of a text one after the other. `Steps`: what the parts of a field come to. `Crews`: a field has one reading.
--- `Choice`: the contracts leave none. `Examples`: one field of each class.
+-- `Examples`: one field of each class.
 pub mod Codes
 pub mod Reading
 pub mod Steps
 pub mod Crews
-pub mod Choice
 pub mod Examples
