@@ -1,22 +1,24 @@
 -- A field reads exactly if it is the text of sound codes, and then as those codes. Assumes nothing.
 use mathlib.Core.Path.{_≡_, refl, ap, _∙_}
 use mathlib.Core.Logic.{_↔_}
-use mathlib.Core.Bool.{true}
-use mathlib.Core.Option.{some, Option·some-injective}
+use mathlib.Core.Bool.{Bool, true, false, cond}
+use mathlib.Core.Option.{Option, none, some, Option·some-injective}
 use mathlib.Core.List.{List, [], _∷_, _++_}
 use Prim.Native.Nat.{ℕ, _+_, _-_, _*_, _≤_, _<_}
 use native.Mathlib.Omega.{arith}
-use lib.ListN.{length, drop}
+use lib.ListN.{length, getD, drop}
 use lib.Dec.{leb, eqb, ltb}
 use borrow.Author.Tests.{eqb-true, eq-eqb, ltb-true, lt-ltb, leb-true}
 use Rattle.answers.specs.Begins.{begins, behind}
 use Rattle.answers.specs.Checks.{onlyIf}
 use Rattle.answers.specs.Leading.{each}
 use Rattle.answers.proofs.Begins.{behind-only}
+use Rattle.answers.proofs.Leading.{each-at}
 use Rattle.answers.proofs.Tests.{and-left, and-right}
 use Rattle.answers.proofs.Checks.{not-some, bind-some, onlyIf-some}
-use Rattle.crews.specs.Crews.{mostCodes, bulkText, codesText, spacedCodes, crewText, isCode, distinct, codesAllowed, codesSound, codesAt, soundCodesAt, spacedCodesAt, countedCodesAt, crewOf}
-use Rattle.crews.proofs.Codes.{length-codes, codes-back, codes-only}
+use Rattle.crews.specs.declared.Crew.the-variants.{Single, Codes}
+use Rattle.crews.specs.Crews.{mostCodes, bulkText, codesText, spacedCodes, crewText, isCode, distinct, codesAllowed, codesSound, codesAt, soundCodesAt, spacedCodesAt, countedCodesAt, crewOf, isBulk, counted, countOf}
+use Rattle.crews.proofs.Codes.{code-below, length-codes, codes-back, codes-only}
 
 -- ---- sound codes
 
@@ -107,3 +109,24 @@ last-codes (c ∷ cs) = let six : length (crewText (c ∷ cs)) - 2 * length (c �
 
 pub codes-last : (field : List ℕ) {codes : List ℕ} → crewOf field ≡ some codes → drop (length field - 2 * length codes) field ≡ codesText codes
 codes-last field {codes} h = let o = crew-only field h in rw (o .0) (last-codes codes)
+
+-- ---- what a caller of `read_crew` is told
+
+pub crew-count : (field : List ℕ) (n : ℕ) → countOf field ≡ Codes n → (codes : List ℕ) × (crewOf field ≡ some codes) × (n ≡ length codes)
+unfolding countOf
+crew-count field n e = go (isBulk field) (crewOf field) refl e
+  where
+    go :
+        (b : Bool) (o : Option (List ℕ)) → crewOf field ≡ o → cond b (counted o) Single ≡ Codes n
+        → (codes : List ℕ) × (crewOf field ≡ some codes) × (n ≡ length codes)
+    go true none r d = absurd (let z : _≡_ {A = ℕ} 0 1 = cc in omega arith)
+    go true (some codes) r d = (codes, r, cc)
+    go false o r d = absurd (let z : _≡_ {A = ℕ} 0 1 = cc in omega arith)
+
+module _ (field : List ℕ) {codes : List ℕ} (crew : crewOf field ≡ some codes) where
+  -- the end of the field reads as the codes: `code-at` then gives the value of each
+  pub codes-there : codesAt (drop (length field - 2 * length codes) field) ≡ some codes
+  codes-there = rw (codes-last field crew) (codes-back codes (sound-codes codes (crew-only field crew .1)))
+
+  pub codes-below : (i : ℕ) → i < length codes → getD codes i 0 < 100
+  codes-below i h = code-below (getD codes i 0) (each-at isCode codes i (sound-codes codes (crew-only field crew .1)) h)
