@@ -1,6 +1,6 @@
-//! Document 01 in plain Rust.
+//! Document 01, and what document 02 added to it, in plain Rust.
 //!
-//! This package is written from the paper alone and shares nothing with the
+//! This package is written from the papers alone and shares nothing with the
 //! proved code. It serves as an outside check (the same inputs, compared
 //! answer by answer and octet by octet) and as a baseline for speed.
 //!
@@ -12,6 +12,7 @@
 #![forbid(unsafe_code)]
 
 mod calls;
+mod crew;
 pub mod generate;
 mod node;
 mod number;
@@ -22,6 +23,7 @@ mod string;
 mod text;
 
 pub use calls::{run_calls, CALLS_INPUT_LIMIT};
+pub use crew::{crew_codes, Code};
 pub use node::{finding, request, result, sending, Answer};
 pub use number::{is_number, number_from_digits};
 pub use packing::{pack, unpack};

@@ -1,11 +1,12 @@
 //! The calls on a lent table: requests and the three calls for notices.
 
+use crate::crew::{crew_codes, member, Code, Steps, LEAD};
 use crate::number::is_number;
 use crate::rows::{
     find_flags, find_record, list_is_sound, sound_records, sound_records_mut, Record, ADDRESSEE,
     FAILURE, HAS_FOLLOW_ME, HOLDER, IS_SUPERVISOR, NUMBER, PHASE, SUPERVISOR,
 };
-use crate::string::{read_demand, Operation};
+use crate::string::{read_fields, Fields, Operation, MAX_CHARACTERS};
 use crate::text::Text;
 
 /// The least room for a reply or a notice.
@@ -72,32 +73,76 @@ pub fn request(
     if string.is_empty() {
         return Answer::Error(35);
     }
-    let Some((operation, number, forced)) = read_demand(string) else {
+    let mut chars = [0; MAX_CHARACTERS];
+    let Some(fields) = read_fields(string, &mut chars) else {
         return Answer::Error(36);
     };
 
     let flags = find_flags(list, requester);
-    let outcome = if flags & HAS_FOLLOW_ME == 0 {
-        42
-    } else if forced.is_some() && flags & IS_SUPERVISOR == 0 {
-        22
-    } else if let Some(record) = find_record(records, number) {
-        match (operation, forced) {
-            (Operation::Register, _) => register(record, requester),
-            (Operation::Interrogate, _) => match record[HOLDER] {
-                0 => 62,
-                holder => return interrogated(holder, reply),
-            },
-            (Operation::Erase, None) => erase(record, requester),
-            (Operation::Erase, Some(msisdn)) => force(record, requester, msisdn),
-        }
-    } else {
-        41
-    };
-    let digits = [b'0' + outcome / 10, b'0' + outcome % 10];
+    if flags & HAS_FOLLOW_ME == 0 {
+        return outcome(42, reply);
+    }
+    if fields.forced.is_some() && flags & IS_SUPERVISOR == 0 {
+        return outcome(22, reply);
+    }
+    match crew_codes(fields.additional) {
+        Some(codes) => whole_crew(records, requester, &fields, codes, reply),
+        None => single(records, requester, &fields, reply),
+    }
+}
+
+/// An outcome that is its two digits alone.
+fn outcome(number: u8, reply: &mut [u8]) -> Answer {
     Answer::Outcome {
-        number: outcome,
-        octets: Text::new().put(&digits).pack_into(reply),
+        number,
+        octets: Text::new().put_outcome(number).pack_into(reply),
+        msisdn: 0,
+    }
+}
+
+/// A request of one number, behind the checks of the requester.
+fn single(
+    records: &mut [Record],
+    requester: u64,
+    fields: &Fields<&[u8]>,
+    reply: &mut [u8],
+) -> Answer {
+    let Some(record) = find_record(records, fields.number) else {
+        return outcome(41, reply);
+    };
+    let number = match (fields.operation, fields.forced) {
+        (Operation::Register, _) => register(record, requester),
+        (Operation::Interrogate, _) => match record[HOLDER] {
+            0 => 62,
+            holder => return interrogated(holder, reply),
+        },
+        (Operation::Erase, None) => erase(record, requester),
+        (Operation::Erase, Some(msisdn)) => force(record, requester, msisdn),
+    };
+    outcome(number, reply)
+}
+
+/// A crew's request: the lead's number, then the number of each code, treated
+/// as single requests one after the other.
+fn whole_crew(
+    records: &mut [Record],
+    requester: u64,
+    fields: &Fields<&[u8]>,
+    codes: &[Code],
+    reply: &mut [u8],
+) -> Answer {
+    let (number, treat): (u8, fn(&mut Record, u64) -> u8) = match fields.operation {
+        Operation::Register => (11, register),
+        _ => (12, erase),
+    };
+    let mut steps = Steps::new();
+    for code in [LEAD].iter().chain(codes) {
+        let record = find_record(records, member(fields.number, *code));
+        steps.note(code, record.map_or(41, |record| treat(record, requester)));
+    }
+    Answer::Outcome {
+        number,
+        octets: steps.reply(number).pack_into(reply),
         msisdn: 0,
     }
 }

@@ -1,13 +1,14 @@
 //! The request string (document 000, 4.2.4.1): fields read from packed octets
 //! and written as packed octets.
 
+use crate::crew::{crew_codes, member, LEAD, TAG};
 use crate::number::{is_number, leading_number};
 use crate::packing::unpack;
 use crate::text::Text;
 
 /// The most octets of a string that is read, and the characters they hold.
 const MAX_OCTETS: usize = 160;
-const MAX_CHARACTERS: usize = MAX_OCTETS * 8 / 7;
+pub(crate) const MAX_CHARACTERS: usize = MAX_OCTETS * 8 / 7;
 
 /// The least room that the writer takes.
 const WRITER_ROOM: usize = 160;
@@ -85,7 +86,8 @@ pub fn write_request<A: AsRef<[u8]>>(fields: &Fields<A>, out: &mut [u8]) -> Resu
         Some(msisdn) => fields.operation == Operation::Erase && is_number(msisdn),
         None => true,
     };
-    if !is_number(fields.number) || !forced_fits || !is_additional(additional) {
+    let fits = is_number(fields.number) && forced_fits && is_additional(additional);
+    if !fits || !crew_fits(fields) {
         return Err(9);
     }
     let mut text = Text::new();
@@ -118,16 +120,11 @@ pub fn read_request(octets: &[u8]) -> Option<Fields<Additional>> {
     })
 }
 
-/// What a request asks for, if its string reads: operation, number and, if it
-/// is forced, the MSISDN to erase.
-pub(crate) fn read_demand(octets: &[u8]) -> Option<(Operation, u64, Option<u64>)> {
-    let mut chars = [0; MAX_CHARACTERS];
-    let fields = read_fields(octets, &mut chars)?;
-    Some((fields.operation, fields.number, fields.forced))
-}
-
 /// Unpacks `octets` into `chars` and reads the fields there.
-fn read_fields<'a>(octets: &[u8], chars: &'a mut [u8; MAX_CHARACTERS]) -> Option<Fields<&'a [u8]>> {
+pub(crate) fn read_fields<'a>(
+    octets: &[u8],
+    chars: &'a mut [u8; MAX_CHARACTERS],
+) -> Option<Fields<&'a [u8]>> {
     if octets.len() > MAX_OCTETS {
         return None;
     }
@@ -150,12 +147,13 @@ fn parse(string: &[u8]) -> Option<Fields<&[u8]>> {
         _ => (None, rest.strip_prefix(b"**")?),
     };
     let additional = rest.strip_suffix(b"#")?;
-    is_additional(additional).then_some(Fields {
+    let fields = Fields {
         operation,
         number,
         forced,
         additional,
-    })
+    };
+    (is_additional(additional) && crew_fits(&fields)).then_some(fields)
 }
 
 fn is_additional(chars: &[u8]) -> bool {
@@ -163,6 +161,17 @@ fn is_additional(chars: &[u8]) -> bool {
         && chars
             .iter()
             .all(|c| matches!(c, b'0'..=b'9' | b'A'..=b'Z' | b' '))
+}
+
+/// Whether an additional field with a crew's tag keeps the rules, and stands
+/// where it may: with a lead's number, in a registration or a plain erasure.
+fn crew_fits<A: AsRef<[u8]>>(fields: &Fields<A>) -> bool {
+    let additional = fields.additional.as_ref();
+    !additional.starts_with(TAG)
+        || crew_codes(additional).is_some()
+            && member(fields.number, LEAD) == fields.number
+            && fields.forced.is_none()
+            && fields.operation != Operation::Interrogate
 }
 
 #[cfg(test)]
@@ -292,6 +301,49 @@ mod tests {
         }
     }
 
+    /// Strings of crews; each string that breaks a rule stands beside one that
+    /// keeps it.
+    #[test]
+    fn crews_read_where_they_may_stand() {
+        use Operation::*;
+        for (operation, sign) in [(Register, "**"), (Erase, "##")] {
+            for additional in ["BULK0", "BULK1 02", "BULK9 000203040506070809"] {
+                let string = format!("{sign}214*0492123401***{additional}#");
+                round(&string, operation, F, None, additional);
+            }
+        }
+        round("**214*00001***BULK0#", Register, 100_001, None, "BULK0");
+        round(
+            "*#214*0492123402*** BULK1 02#",
+            Interrogate,
+            F + 1,
+            None,
+            " BULK1 02",
+        );
+        round("**214*0492123402***BUL#", Register, F + 1, None, "BUL");
+        let forced = "##214*0492123401*88*4915100001* BULK1 02#";
+        round(forced, Erase, F, Some(A), " BULK1 02");
+        for string in [
+            "**214*0492123401***BULK#",
+            "**214*0492123401***BULKY GOODS#",
+            "**214*0492123402***BULKY GOODS#",
+            "**214*0492123401***BULK1 01#",
+            "**214*0492123401***BULK2 0202#",
+            "**214*0492123401***BULK102#",
+            "**214*0492123401***BULK1 023#",
+            "**214*0492123402***BULK1 02#",
+            "**214*0492123411***BULK0#",
+            "**214*0492123400***BULK0#",
+            "**214*0492123410***BULK0#",
+            "*#214*0492123401***BULK1 02#",
+            "*#214*0492123401***BULKY GOODS#",
+            "##214*0492123401*88*4915100001*BULK0#",
+            "##214*0492123401*88*4915100001*BULKY GOODS#",
+        ] {
+            assert_eq!(read(string), None, "{string:?}");
+        }
+    }
+
     #[test]
     fn octets_that_do_not_read() {
         let mut octets = [0; 300];
@@ -351,6 +403,44 @@ mod tests {
         }
         for additional in [&[b'A'; 31][..], b"a", b"*", b"#", b"\r", b"\x80", b"A\n"] {
             refused(Fields { additional, ..good });
+        }
+    }
+
+    #[test]
+    fn refusals_of_a_crew_by_the_writer() {
+        let good = Fields {
+            operation: Operation::Erase,
+            number: F,
+            forced: None,
+            additional: &b"BULK2 0203"[..],
+        };
+        let written = |fields: Fields<&[u8]>| write_request(&fields, &mut [0; 160]);
+        assert_eq!(written(good), Ok(27));
+        let broken = |additional| Fields { additional, ..good };
+        for additional in [&b"BULKY GOODS"[..], b"BULK1 01", b"BULK2 0202", b"BULK2 02"] {
+            assert_eq!(written(broken(additional)), Err(9));
+        }
+        for fields in [
+            Fields {
+                number: F + 1,
+                ..good
+            },
+            Fields {
+                forced: Some(A),
+                ..good
+            },
+            Fields {
+                operation: Operation::Interrogate,
+                ..good
+            },
+        ] {
+            assert_eq!(written(fields), Err(9), "{fields:?}");
+            let additional = &b" BULK2 0203"[..];
+            assert!(written(Fields {
+                additional,
+                ..fields
+            })
+            .is_ok());
         }
     }
 }

@@ -26,6 +26,11 @@ impl Text {
         self
     }
 
+    /// Appends the two digits of an outcome.
+    pub(crate) fn put_outcome(&mut self, outcome: u8) -> &mut Self {
+        self.put(&[b'0' + outcome / 10, b'0' + outcome % 10])
+    }
+
     /// Appends the digits of a number in stored form, leading zeros too.
     pub(crate) fn put_number(&mut self, number: u64) -> &mut Self {
         let mut left = number;

@@ -57,12 +57,12 @@ pub fn ask(table: &mut [u64], list: &[u64], requester: u64, string: &str) -> Str
             let text = unpacked(&reply[..octets]);
             assert!(reply[octets..].iter().all(|&octet| octet == FILL));
             assert_eq!(text[..2], format!("{number:02}"));
-            if number == 3 {
-                assert_eq!(stored(&text[3..]), msisdn);
-            } else {
-                assert_eq!((text.len(), octets, msisdn), (2, 2, 0));
+            match number {
+                3 => assert_eq!(stored(&text[3..]), msisdn),
+                11 | 12 => assert_eq!((octets, msisdn), (packed(&text).len(), 0)),
+                _ => assert_eq!((text.len(), octets, msisdn), (2, 2, 0)),
             }
-            if ![1, 2].contains(&number) {
+            if ![1, 2, 11, 12].contains(&number) {
                 assert_eq!(table, before);
             }
             text
