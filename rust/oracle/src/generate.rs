@@ -2,26 +2,30 @@
 //! the programs.
 //!
 //! A [`Generator`] with the same seed makes the same inputs. It aims at what
-//! document 01 tells apart: most calls get past the first checks, and every
+//! the papers tell apart: most calls get past the first checks, and every
 //! refusal, error and outcome comes up often.
 //!
 //! To compare another implementation, take a [`Call`], run a copy of it here
 //! with [`Call::run`] and the other one there, and compare the replies and the
 //! memory: equal calls have equal memory.
 
-use std::collections::BTreeSet;
+use std::collections::{BTreeMap, BTreeSet};
 
+use crate::crew::{crew_codes, member, LEAD};
 use crate::node::{finding, request, result, sending, Answer};
 use crate::number::{digit_count, is_number};
 use crate::packing::{pack, unpack};
 use crate::rows::{
-    ADDRESSEE, FAILURE, HOLDER, MAX_RECORDS, MAX_SUBSCRIBERS, NUMBER, PHASE, SUPERVISOR,
+    Record, ADDRESSEE, FAILURE, HOLDER, MAX_RECORDS, MAX_SUBSCRIBERS, NUMBER, PHASE, SUPERVISOR,
 };
 use crate::string::{read_request, write_request, Additional, Fields, Operation};
 use crate::text::Text;
 
 /// Lengths of buffers around the limits.
 pub const BUFFER_LENGTHS: [usize; 7] = [0, 79, 80, 81, 159, 160, 200];
+
+/// Codes of crews are often below this, so that crews of one root meet.
+const CLOSE_CODES: u64 = 14;
 
 /// Delays around the limits.
 pub const DELAYS: [u32; 7] = [0, 59, 60, 61, 599, 600, 601];
@@ -809,6 +813,79 @@ impl Generator {
     }
 }
 
+/// The fields of crews.
+impl Generator {
+    /// A registration or a plain erasure of the crew with `number`'s root,
+    /// which is often one of the crew.
+    fn crew_fields(&mut self, number: u64) -> Fields<Vec<u8>> {
+        let count = match self.random.below(3) {
+            0 => self.random.index(10),
+            1 => 9,
+            _ => self.random.pick(&[0, 1, 1, 2, 2, 3]),
+        };
+        let mut codes = Vec::new();
+        if count > 0 && number % 100 != 1 && self.random.once_in(2) {
+            codes.push(number % 100);
+        }
+        while codes.len() < count {
+            let limit = self.random.pick(&[CLOSE_CODES, CLOSE_CODES, 100]);
+            let code = self.random.below(limit);
+            if code != 1 && !codes.contains(&code) {
+                codes.insert(self.random.index(codes.len() + 1), code);
+            }
+        }
+        let digits: String = codes.iter().map(|code| format!("{code:02}")).collect();
+        let space = if count > 0 { " " } else { "" };
+        Fields {
+            operation: self.random.pick(&[Operation::Register, Operation::Erase]),
+            number: member(number, LEAD),
+            forced: None,
+            additional: format!("BULK{count}{space}{digits}").into(),
+        }
+    }
+
+    /// The same of any number.
+    fn some_crew_fields(&mut self) -> Fields<Vec<u8>> {
+        let number = self.number();
+        self.crew_fields(number)
+    }
+
+    /// Breaks a crew's fields in one place, mostly; now and then they become
+    /// those of another crew, or of none.
+    fn break_crew(&mut self, fields: &mut Fields<Vec<u8>>) {
+        let field = &mut fields.additional;
+        let last = field.len() - 2;
+        match self.random.below(11) {
+            0 => fields.number += self.random.pick(&[1, 9, 10, 98]),
+            1 => fields.number -= 1,
+            2 => fields.operation = Operation::Interrogate,
+            3 => {
+                fields.operation = Operation::Erase;
+                fields.forced = Some(self.number());
+            }
+            4 => field[4] = self.random.pick(b"0123456789A "),
+            5 => field[last..].copy_from_slice(b"01"),
+            6 if last > 6 => field.copy_within(6..8, last),
+            7 if last > 5 => drop(field.remove(5)),
+            8 => field.insert(0, self.random.pick(b" B0")),
+            9 => {
+                *field = self
+                    .random
+                    .pick(&["BULK", "BULKY GOODS", "BULK ", "BUL"])
+                    .into()
+            }
+            _ => field.push(self.random.pick(b"0123456789 ")),
+        }
+    }
+}
+
+/// The numbers of a crew's fields.
+fn crew_numbers(fields: &Fields<Vec<u8>>) -> Vec<u64> {
+    let codes = crew_codes(&fields.additional).unwrap_or_default();
+    let numbers = codes.iter().map(|code| member(fields.number, *code));
+    std::iter::once(fields.number).chain(numbers).collect()
+}
+
 /// Calls.
 impl Generator {
     /// Any call.
@@ -830,33 +907,9 @@ impl Generator {
         let mut list = self.some_list();
         let mut table = self.some_table(&list);
         let known: Vec<u64> = list.iter().step_by(2).copied().collect();
-        let is_known = |number| known.binary_search(&number).is_ok();
-        let record = self.some_record(&table);
-        let (number, holder) = match record {
-            Some(record) if self.random.below(12) > 0 => (record[NUMBER], record[HOLDER]),
-            _ => (self.number(), 0),
-        };
-        let requester = match self.random.below(20) {
-            0 => self.malformed_or_nobody(),
-            1 => self.number(),
-            2..=4 if is_known(number) => number,
-            5..=9 if is_known(holder) => holder,
-            _ => self.person(&known),
-        };
-        let (operation, forced) = match self.random.below(20) {
-            0..=4 => (Operation::Register, None),
-            5..=7 => (Operation::Erase, None),
-            8..=11 => (Operation::Interrogate, None),
-            12 => (Operation::Erase, Some(self.person(&known))),
-            13 if is_number(requester) => (Operation::Erase, Some(requester)),
-            _ if holder != 0 => (Operation::Erase, Some(holder)),
-            _ => (Operation::Erase, Some(self.number())),
-        };
-        let fields = Fields {
-            operation,
-            number,
-            forced,
-            additional: self.additional(),
+        let (requester, fields) = match self.random.below(4) {
+            0 => self.crew_demand(&mut table, &known),
+            _ => self.single_demand(&table, &known),
         };
         let string = self.string(&fields);
         let scheme = match self.random.below(16) {
@@ -878,6 +931,82 @@ impl Generator {
             scheme,
             string,
         }
+    }
+
+    /// A requester and what she asks of one number.
+    fn single_demand(&mut self, table: &[u64], known: &[u64]) -> (u64, Fields<Vec<u8>>) {
+        let is_known = |number| known.binary_search(&number).is_ok();
+        let record = self.some_record(table);
+        let (number, holder) = match record {
+            Some(record) if self.random.below(12) > 0 => (record[NUMBER], record[HOLDER]),
+            _ => (self.number(), 0),
+        };
+        let requester = match self.random.below(20) {
+            0 => self.malformed_or_nobody(),
+            1 => self.number(),
+            2..=4 if is_known(number) => number,
+            5..=9 if is_known(holder) => holder,
+            _ => self.person(known),
+        };
+        let (operation, forced) = match self.random.below(20) {
+            0..=4 => (Operation::Register, None),
+            5..=7 => (Operation::Erase, None),
+            8..=11 => (Operation::Interrogate, None),
+            12 => (Operation::Erase, Some(self.person(known))),
+            13 if is_number(requester) => (Operation::Erase, Some(requester)),
+            _ if holder != 0 => (Operation::Erase, Some(holder)),
+            _ => (Operation::Erase, Some(self.number())),
+        };
+        let fields = Fields {
+            operation,
+            number,
+            forced,
+            additional: self.additional(),
+        };
+        (requester, fields)
+    }
+
+    /// A requester and what she asks of a crew, most of whose numbers are put
+    /// into the table; her own digits are now and then one of them.
+    fn crew_demand(&mut self, table: &mut Vec<u64>, known: &[u64]) -> (u64, Fields<Vec<u8>>) {
+        let requester = match self.random.below(20) {
+            0 => self.malformed_or_nobody(),
+            1 => self.number(),
+            _ => self.person(known),
+        };
+        let number = match self.random.below(3) {
+            0 if is_number(requester) => requester,
+            _ => self.number(),
+        };
+        let mut fields = self.crew_fields(number);
+        let (rows, _) = table.as_chunks();
+        let mut records: BTreeMap<u64, Record> =
+            rows.iter().map(|row| (row[NUMBER], *row)).collect();
+        for number in crew_numbers(&fields) {
+            if records.len() < MAX_RECORDS && self.random.below(6) > 0 {
+                records.insert(number, self.crew_record(number, requester, known));
+            }
+        }
+        *table = records.into_values().flatten().collect();
+        if self.random.once_in(6) {
+            self.break_crew(&mut fields);
+        }
+        (requester, fields)
+    }
+
+    /// A record of a crew: often free or held by the requester.
+    fn crew_record(&mut self, number: u64, requester: u64, known: &[u64]) -> Record {
+        let holder = match self.random.below(5) {
+            0 | 1 => 0,
+            2 | 3 if is_number(requester) => requester,
+            _ => self.person(known),
+        };
+        let mut record = [number, holder, 0, 0, 0, 0];
+        if self.random.once_in(4) {
+            let phase = 1 + self.random.below(10);
+            self.set_notice(&mut record, phase, known);
+        }
+        record
     }
 
     /// A table, damaged now and then, with a record of it before the damage
@@ -1002,6 +1131,10 @@ impl Generator {
                     fields.additional[place] = self.random.pick(b"az*#\r\0@[/:-\x80\xB0\xFF");
                 }
             }
+            4 => {
+                fields = self.some_crew_fields();
+                self.break_crew(&mut fields);
+            }
             _ => {}
         }
         Call::WriteRequest {
@@ -1011,7 +1144,11 @@ impl Generator {
     }
 
     pub fn reading(&mut self) -> Call {
-        let fields = self.fields();
+        let mut fields = self.fields();
+        if self.random.once_in(8) {
+            fields = self.some_crew_fields();
+            self.break_crew(&mut fields);
+        }
         Call::ReadRequest {
             octets: self.string(&fields),
         }
@@ -1028,10 +1165,11 @@ impl Generator {
 
     /// Fields that keep the rules.
     pub fn fields(&mut self) -> Fields<Vec<u8>> {
-        let (operation, forced) = match self.random.below(5) {
+        let (operation, forced) = match self.random.below(6) {
             0 => (Operation::Register, None),
             1 => (Operation::Erase, None),
             2 => (Operation::Interrogate, None),
+            3 => return self.some_crew_fields(),
             _ => (Operation::Erase, Some(self.number())),
         };
         Fields {
@@ -1068,7 +1206,13 @@ impl Generator {
         // About one line in a filling of any size is damaged.
         let times = 32 + (numbers + people) as u64;
         let people: Vec<u64> = self.ascending(people, &[]).into_iter().collect();
-        let numbers: Vec<u64> = self.ascending(numbers, &people).into_iter().collect();
+        let mut numbers = self.ascending(numbers, &people);
+        if self.random.once_in(2) {
+            // Of one root, which a subscriber's digits may have too.
+            let lead = member(self.person(&people), LEAD);
+            numbers.extend((0..6).map(|_| lead - 1 + self.random.below(CLOSE_CODES)));
+        }
+        let numbers: Vec<u64> = numbers.into_iter().collect();
         let mut input = Vec::new();
         for &number in &numbers {
             let line = format!("N {}", digits(number));
@@ -1133,15 +1277,21 @@ impl Generator {
             6 => (Operation::Erase, Some(self.person(&story.people))),
             _ => (Operation::Erase, Some(story.registrant)),
         };
-        if operation == Operation::Register {
-            story.registrant = requester;
-        }
-        let fields = Fields {
+        let mut fields = Fields {
             operation,
             number: story.number,
             forced,
             additional: self.additional(),
         };
+        if self.random.once_in(6) {
+            fields = self.crew_fields(story.number);
+            if self.random.once_in(6) {
+                self.break_crew(&mut fields);
+            }
+        }
+        if fields.operation == Operation::Register {
+            story.registrant = requester;
+        }
         let mut pieces = Self::pieces(&fields);
         if self.random.once_in(16) {
             self.break_piece(&mut pieces);
@@ -1207,8 +1357,8 @@ impl Generator {
         3
     }
 
-    /// A registration on a table and a list of rows that are counted up, around
-    /// the limits.
+    /// A request of a number or a crew, on a table and a list of rows that are
+    /// counted up, around the limits.
     fn put_numbered_request(&mut self, input: &mut Vec<u8>) {
         let records = self.random.pick(&[1, 7, 1023, 1024, 1025, 1099, 1100]);
         let people = self.random.pick(&[1, 9, 4095, 4096, 4097, 4199, 4200]);
@@ -1221,11 +1371,15 @@ impl Generator {
         ] {
             self.put_line(input, line.into_bytes(), 64);
         }
-        let fields = Fields {
-            operation: Operation::Register,
-            number: 100_000 + self.random.below(records + 1),
-            forced: None,
-            additional: Vec::new(),
+        let number = 100_000 + self.random.below(records + 1);
+        let fields = match self.random.below(2) {
+            0 => self.crew_fields(number),
+            _ => Fields {
+                operation: Operation::Register,
+                number,
+                forced: None,
+                additional: Vec::new(),
+            },
         };
         let reply = self.buffer_around(80);
         let requester = 100_000 + self.random.below(people + 1);

@@ -1,10 +1,13 @@
-//! Generated calls and program inputs: that they reach everything document 01
-//! names, and that what holds of every call holds of them.
+//! Generated calls and program inputs: that they reach everything the papers
+//! name, and that what holds of every call holds of them.
 
 use std::collections::BTreeMap;
 
 use oracle::generate::{Call, Generator, Reply};
-use oracle::{is_number, read_request, run, table_is_sound, unpack, write_request, Answer};
+use oracle::{
+    crew_codes, is_number, read_request, request, run, table_is_sound, unpack, write_request,
+    Answer, Fields,
+};
 
 const CALLS: usize = 200_000;
 
@@ -33,7 +36,7 @@ fn label(before: &Call, after: &Call, reply: &Reply) -> String {
                     _ => unreachable!(),
                 };
                 let stores = match number {
-                    1 if table(before) == table(after) => ", nothing changes",
+                    1 | 11 | 12 if table(before) == table(after) => ", nothing changes",
                     _ => "",
                 };
                 format!("request: {number:02}{who}{stores}")
@@ -64,11 +67,16 @@ fn label(before: &Call, after: &Call, reply: &Reply) -> String {
             format!("unpack: count{}", if dropped { ", dropped" } else { "" })
         }
         (Call::Unpack { .. }, Reply::Count(Err(number))) => format!("unpack: refusal {number}"),
-        (Call::WriteRequest { .. }, Reply::Count(Ok(_))) => "write: count".into(),
-        (Call::WriteRequest { .. }, Reply::Count(Err(number))) => {
-            format!("write: refusal {number}")
+        (Call::WriteRequest { fields, .. }, Reply::Count(count)) => {
+            let tagged = fields.additional.starts_with(b"BULK");
+            let whose = if tagged { ", of a crew" } else { "" };
+            match count {
+                Ok(_) => format!("write: count{whose}"),
+                Err(number) => format!("write: refusal {number}{whose}"),
+            }
         }
         (Call::ReadRequest { .. }, Reply::Fields(fields)) => match fields {
+            Some(fields) if crew_codes(fields.additional.as_ref()).is_some() => "read: crew".into(),
             Some(_) => "read: fields".into(),
             None => "read: error 36".into(),
         },
@@ -78,7 +86,7 @@ fn label(before: &Call, after: &Call, reply: &Reply) -> String {
 }
 
 /// What each call must come to at least a hundred times.
-const REACHED: [&str; 62] = [
+const REACHED: [&str; 76] = [
     "request: Refusal(1)",
     "request: Refusal(8)",
     "request: Refusal(2)",
@@ -93,6 +101,17 @@ const REACHED: [&str; 62] = [
     "request: 02, forced",
     "request: 02, forced, naming herself",
     "request: 03",
+    "request: 11",
+    "request: 11, nothing changes",
+    "request: 12",
+    "request: 12, nothing changes",
+    "step of a crew: 01",
+    "step of a crew: 02",
+    "step of a crew: 41",
+    "step of a crew: 61",
+    "step of a crew: 62",
+    "step of a crew: 63",
+    "step of a crew: 67",
     "request: 22, forced",
     "request: 22, forced, naming herself",
     "request: 41",
@@ -139,8 +158,11 @@ const REACHED: [&str; 62] = [
     "unpack: refusal 1",
     "unpack: refusal 9",
     "write: count",
+    "write: count, of a crew",
     "write: refusal 1",
+    "write: refusal 1, of a crew",
     "write: refusal 9",
+    "write: refusal 9, of a crew",
 ];
 
 #[test]
@@ -153,6 +175,10 @@ fn calls_reach_every_answer() {
         let reply = after.run();
         *counts.entry(label(&before, &after, &reply)).or_insert(0) += 1;
         check(&before, &after, &reply);
+        for (_, outcome) in steps(&before, &after, &reply) {
+            let label = format!("step of a crew: {outcome:02}");
+            *counts.entry(label).or_insert(0) += 1;
+        }
     }
     for (label, count) in &counts {
         println!("{count:6} {label}");
@@ -171,15 +197,98 @@ fn calls_reach_every_answer() {
         [
             "number: false",
             "number: true",
+            "read: crew",
             "read: error 36",
             "read: fields"
         ]
     );
 }
 
+/// The codes of a request that is answered 11 or 12, each with the outcome of
+/// its single request. Checks that the single requests, one after the other,
+/// leave the same table, and that the reply says what they came to.
+fn steps(before: &Call, after: &Call, answer: &Reply) -> Vec<(String, u8)> {
+    let (
+        Call::Request {
+            table,
+            list,
+            requester,
+            string,
+            ..
+        },
+        Call::Request {
+            table: new, reply, ..
+        },
+        Reply::Answer(Answer::Outcome {
+            number: outcome @ (11 | 12),
+            octets,
+            ..
+        }),
+    ) = (before, after, answer)
+    else {
+        return Vec::new();
+    };
+    let fields = read_request(string).unwrap();
+    let mut table = table.clone();
+    let codes = crew_codes(fields.additional.as_ref()).unwrap();
+    let steps: Vec<(String, u8)> = std::iter::once(b"01")
+        .chain(codes)
+        .map(|code| {
+            let code = String::from_utf8(code.to_vec()).unwrap();
+            let stored = fields.number.to_string();
+            let root = &stored[..stored.len() - 2];
+            let single = Fields {
+                operation: fields.operation,
+                number: format!("{root}{code}").parse().unwrap(),
+                forced: None,
+                additional: b"",
+            };
+            let mut string = [0; 160];
+            let count = write_request(&single, &mut string).unwrap();
+            let string = &string[..count];
+            match request(&mut table, list, &mut [0; 80], *requester, 0x0F, string) {
+                Answer::Outcome { number, .. } => (code, number),
+                other => panic!("{other:?}"),
+            }
+        })
+        .collect();
+    assert_eq!(table, *new);
+    let mut text = [0; 100];
+    let length = unpack(&reply[..*octets], &mut text).unwrap();
+    assert_eq!(text[..length], *crew_reply(*outcome, &steps).as_bytes());
+    steps
+}
+
+/// Document 02's words: outcome, space, count of successes, space, their codes
+/// and a space if there are any, count of failures, and a space and their codes
+/// if there are any.
+fn crew_reply(outcome: u8, steps: &[(String, u8)]) -> String {
+    let of = |success: bool| -> (usize, String) {
+        let codes = steps
+            .iter()
+            .filter(|step| [1, 2].contains(&step.1) == success);
+        (
+            codes.clone().count(),
+            codes.map(|step| step.0.as_str()).collect(),
+        )
+    };
+    let mut text = format!("{outcome} ");
+    let (count, codes) = of(true);
+    text += &format!("{count} ");
+    if count > 0 {
+        text += &format!("{codes} ");
+    }
+    let (count, codes) = of(false);
+    text += &format!("{count}");
+    if count > 0 {
+        text += &format!(" {codes}");
+    }
+    text
+}
+
 /// Checks what document 01 says of every call: refusals and errors touch
 /// nothing, what lies beyond a count stays, a sound table stays sound, and a
-/// call changes one record at most.
+/// call changes one record at most, or those of a crew.
 fn check(before: &Call, after: &Call, reply: &Reply) {
     match (before, after) {
         (
@@ -196,8 +305,11 @@ fn check(before: &Call, after: &Call, reply: &Reply) {
             },
         ) => match reply {
             Reply::Answer(Answer::Outcome { octets, .. }) => {
-                let number = read_request(string).unwrap().number;
-                check_table(old, new, number);
+                let fields = read_request(string).unwrap();
+                match crew_codes(fields.additional.as_ref()) {
+                    Some(_) => check_table(old, new, |n| n / 100 == fields.number / 100),
+                    None => check_table(old, new, |n| n == fields.number),
+                }
                 check_beyond(old_reply, new_reply, *octets);
             }
             _ => assert_eq!(before, after),
@@ -216,7 +328,7 @@ fn check(before: &Call, after: &Call, reply: &Reply) {
             },
         ) => match reply {
             Reply::Answer(Answer::Sent { octets, .. }) => {
-                check_table(old, new, *number);
+                check_table(old, new, |n| n == *number);
                 check_beyond(old_buffer, new_buffer, *octets);
             }
             _ => assert_eq!(before, after),
@@ -228,7 +340,7 @@ fn check(before: &Call, after: &Call, reply: &Reply) {
             Call::Result { table: new, .. },
         ) => match reply {
             Reply::Answer(Answer::Refusal(_)) => assert_eq!(before, after),
-            _ => check_table(old, new, *number),
+            _ => check_table(old, new, |n| n == *number),
         },
         (Call::Pack { chars, out: old }, Call::Pack { out: new, .. }) => match reply {
             Reply::Count(Ok(count)) => {
@@ -267,12 +379,13 @@ fn check(before: &Call, after: &Call, reply: &Reply) {
     }
 }
 
-fn check_table(old: &[u64], new: &[u64], number: u64) {
+/// The records of no other numbers than these may change.
+fn check_table(old: &[u64], new: &[u64], may_change: impl Fn(u64) -> bool) {
     assert!(table_is_sound(old) && table_is_sound(new));
     assert_eq!(old.len(), new.len());
     for (old, new) in old.chunks(6).zip(new.chunks(6)) {
         assert_eq!(old[0], new[0]);
-        if old[0] != number {
+        if !may_change(old[0]) {
             assert_eq!(old, new);
         }
     }
@@ -295,6 +408,10 @@ fn program_inputs_print_every_kind_of_line() {
             let kind = match line.split_once(' ') {
                 Some(("T", rest)) if rest.starts_with(|c: char| c.is_ascii_digit()) => "T sent",
                 Some(("R", rest)) if rest.starts_with("03 ") => "R 03",
+                Some(("R", rest)) if rest.starts_with("11 0 ") => "R 11, none",
+                Some(("R", rest)) if rest.starts_with("12 0 ") => "R 12, none",
+                Some(("R", rest)) if rest.starts_with("11 ") => "R 11",
+                Some(("R", rest)) if rest.starts_with("12 ") => "R 12",
                 _ => line,
             };
             *counts.entry(kind.into()).or_insert(0) += 1;
@@ -317,6 +434,10 @@ fn program_inputs_print_every_kind_of_line() {
             "R 01",
             "R 02",
             "R 03",
+            "R 11",
+            "R 11, none",
+            "R 12",
+            "R 12, none",
             "R 22",
             "R 41",
             "R 42",
