@@ -2,6 +2,7 @@
 mod made;
 
 use answers::Written;
+use crews::Crew;
 pub use made::FINDING;
 pub use made::NUMBER;
 pub use made::PACK;
@@ -181,12 +182,22 @@ fn others_of(fields: Fields) -> Said {
     }
 }
 
+// What ends the line: how many codes a crew has besides the lead's.
+fn crew_of(fields: Fields) -> Said {
+    let crew = fields.crew;
+    match crew {
+        Crew::Single => plain(5, 0),
+        Crew::Codes(n) => plain(6, n as u64),
+        Crew::Broken => plain(5, 0),
+    }
+}
+
 fn put_field(out: &mut [u8], at: usize, said: Said) -> usize {
     let values = said.values;
     texts::put_form(
         out,
         at,
-        b"register, number %;erase, number %;interrogate, number %;, MSISDN none, additional from %, % characters ';, MSISDN %, additional from %, % characters ';",
+        b"register, number %;erase, number %;interrogate, number %;, MSISDN none, additional from %, % characters ';, MSISDN %, additional from %, % characters ';'\n;', of a crew, codes %\n;",
         said.form,
         &values,
     )
@@ -197,7 +208,7 @@ fn put_fields(out: &mut [u8], at: usize, fields: Fields, text: &[u8]) -> usize {
     let at = put_field(out, at, others_of(fields));
     let end = std::num::wrapping_add_usize(fields.start, fields.count);
     let at = texts::put_part(out, at, text, fields.start, end);
-    texts::put(out, at, b"'\n")
+    put_field(out, at, crew_of(fields))
 }
 
 // Writes what a request's string reads as.

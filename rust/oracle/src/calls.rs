@@ -3,6 +3,7 @@
 
 use std::fmt::Write;
 
+use crate::crew::crew_codes;
 use crate::node::{finding, request, result, sending, Answer};
 use crate::number::is_number;
 use crate::packing::{pack, packed_length, unpack};
@@ -356,8 +357,11 @@ fn reading(octets: &[u8]) -> String {
     // It stands before the last character.
     let mut chars = vec![0; 2 * octets.len()];
     let length = unpack(octets, &mut chars).expect("a string that reads unpacks");
+    let crew = crew_codes(additional).map_or(String::new(), |codes| {
+        format!(", of a crew, codes {}", codes.len())
+    });
     format!(
-        "{operation}, number {}, MSISDN {msisdn}, additional from {}, {} characters '{}'\n",
+        "{operation}, number {}, MSISDN {msisdn}, additional from {}, {} characters '{}'{crew}\n",
         fields.number,
         length - 1 - additional.len(),
         additional.len(),
