@@ -73,8 +73,9 @@ enum {
  * are not 0.
  * Errors: 35 the requester is no MSISDN, or the string has 0 octets; 36 the
  * string does not read; 71 the data coding scheme is not 0x0F.
- * Outcomes: 01 registered, 02 erased, 03 interrogated; 22, 41, 42, 61, 62, 63,
- * 67, 68 as in document 01's table.
+ * Outcomes: 01 registered, 02 erased, 03 interrogated; 11 a crew's request to
+ * register, 12 one to erase, whatever became of its numbers; 22, 41, 42, 61, 62,
+ * 63, 67, 68 as in document 01's table.
  */
 
 /* An answer. A field that its class does not name is 0. */
@@ -143,6 +144,14 @@ struct ffn_request_read ffn_read_request(const uint8_t *octets, size_t octets_le
  * digits, and of 03 a space and the holder's digits. A changing 01 or 02
  * changes the number's record. Refused 1 (reply under 80 octets), 8, 2; errors
  * 35, 71, 36; in document 01's order.
+ * A crew's request treats the lead number, then the number of each code, as
+ * single requests; it leaves the table that they leave. Its outcome is 11 or 12,
+ * also where every number failed, or 42 before any of them. Behind the two
+ * digits the reply of 11 and 12 says which succeeded (01 or 02) and which failed
+ * (41, 61, 62, 63, 67): a space, the count of successes, a space, their codes
+ * and a space if there are any, the count of failures, and a space and their
+ * codes if there are any. The lead's code is 01: "11 2 0102 0". It has at most
+ * 28 characters, 25 octets.
  */
 struct ffn_answer ffn_request(uint64_t *table, size_t table_words, const uint64_t *list, size_t list_words,
                               uint8_t *reply, size_t reply_length,

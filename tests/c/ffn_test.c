@@ -278,6 +278,56 @@ static void crews(void)
     HOLDS(is_error_36("*#214*0492123401***BULK2 0203#") && is_error_36("##214*0492123401*88*4915100001*BULK2 0203#"));
 }
 
+/* A request on F, free, and the number behind it, 02, held by `other` or free; only holders may change. */
+static struct ffn_answer ask_crew(uint64_t requester, uint64_t other, const char *text, uint64_t holders[2])
+{
+    const uint64_t before[12] = {F, 0, 0, 0, 0, 0, F + 1, other, 3, A, B, 9};
+    uint64_t rows[12];
+    uint8_t string[ROOM];
+    struct ffn_answer packed = pack(text, string, sizeof string);
+    memcpy(rows, before, sizeof rows);
+    memset(reply, UNTOUCHED, sizeof reply);
+    struct ffn_answer answer = ffn_request(rows, 12, LIST, 6, reply, sizeof reply, requester, 0x0F, string, packed.count);
+    holders[0] = rows[1];
+    holders[1] = rows[7];
+    rows[1] = before[1];
+    rows[7] = before[7];
+    HOLDS(memcmp(rows, before, sizeof rows) == 0);
+    return answer;
+}
+
+static int crew_outcome(struct ffn_answer a, uint32_t number, size_t count, const char *text)
+{
+    return is(a, FFN_OUTCOME, number, count, 0) && holds(reply, a.count, text);
+}
+
+static void crew_requests(void)
+{
+    uint64_t held[2];
+    HOLDS(crew_outcome(ask_crew(A, 0, "**214*0492123401***BULK1 02#", held), 11, 10, "11 2 0102 0"));
+    HOLDS(held[0] == A && held[1] == A); /* and the notice of 02 stays */
+    HOLDS(memcmp(reply, "\xB1\x18\x48\x06\x82\xC5\x60\x32\x10\x0C", 10) == 0);
+    HOLDS(crew_outcome(ask_crew(A, B, "**214*0492123401***BULK2 0302#", held), 11, 13, "11 1 01 2 0302"));
+    HOLDS(held[0] == A && held[1] == B);
+    HOLDS(crew_outcome(ask_crew(A, 0, "**214*0492123401***BULK0#", held), 11, 8, "11 1 01 0"));
+    HOLDS(held[0] == A && held[1] == 0);
+    HOLDS(crew_outcome(ask_crew(A, A, "##214*0492123401***BULK1 02#", held), 12, 11, "12 1 02 1 01"));
+    HOLDS(held[0] == 0 && held[1] == 0);
+    HOLDS(crew_outcome(ask_crew(A, B, "##214*0492123401***BULK9 020304050607080910#", held), 12, 25, "12 0 10 01020304050607080910"));
+    HOLDS(held[0] == 0 && held[1] == B);
+
+    HOLDS(outcome(ask_crew(C, 0, "**214*0492123401***BULK1 02#", held), 42, "42") && held[0] == 0 && held[1] == 0);
+    HOLDS(is(ask_crew(A, 0, "**214*0492123401***BULK1 01#", held), FFN_ERROR, 36, 0, 0) && untouched(reply, 0, ROOM));
+    HOLDS(is(ask_crew(C, 0, "*#214*0492123401***BULK1 02#", held), FFN_ERROR, 36, 0, 0) && untouched(reply, 0, ROOM));
+    HOLDS(outcome(ask_crew(A, 0, "**214*0492123401*** BULK1 02#", held), 1, "01") && held[0] == A && held[1] == 0);
+
+    /* A crew is erased as it was registered. */
+    set_record(0, 0, 0, 0, 0);
+    HOLDS(crew_outcome(ask(A, "**214*0492123401***BULK0#"), 11, 8, "11 1 01 0") && record_is(F, A, 0, 0, 0, 0));
+    HOLDS(crew_outcome(ask(B, "##214*0492123401***BULK0#"), 12, 8, "12 0 1 01") && record_is(F, A, 0, 0, 0, 0));
+    HOLDS(crew_outcome(ask(A, "##214*0492123401***BULK0#"), 12, 8, "12 1 01 0") && record_is(F, 0, 0, 0, 0, 0));
+}
+
 int main(void)
 {
     packing();
@@ -286,6 +336,7 @@ int main(void)
     notices();
     strings();
     crews();
+    crew_requests();
     printf("%d facts hold\n", facts);
     return 0;
 }
