@@ -4,7 +4,7 @@
 use std::error::Error;
 use std::fmt;
 
-use crate::Msisdn;
+use crate::{Crew, Msisdn};
 
 /// An enum whose variants have document 01's numbers.
 macro_rules! numbered {
@@ -141,6 +141,10 @@ pub enum Outcome {
     Erased,
     /// 03: this one holds the number.
     Held(Msisdn),
+    /// 11: a crew's request to register, with what became of its numbers.
+    CrewRegistered(Crew),
+    /// 12: a crew's request to erase, with what became of its numbers.
+    CrewErased(Crew),
     /// 22: a forced erasure by one who is no supervisor.
     NoSupervisor,
     /// 41: the functional number is not in the table.
@@ -160,12 +164,14 @@ pub enum Outcome {
 }
 
 impl Outcome {
-    /// Document 01's number.
+    /// The papers' number.
     pub fn number(self) -> u32 {
         match self {
             Self::Registered => 1,
             Self::Erased => 2,
             Self::Held(_) => 3,
+            Self::CrewRegistered(_) => 11,
+            Self::CrewErased(_) => 12,
             Self::NoSupervisor => 22,
             Self::UnknownNumber => 41,
             Self::NoFollowMe => 42,

@@ -3,7 +3,7 @@
 use crate::answers::{
     Failure, Kind, Operation, Outcome, Refusal, Reply, RequestError, Resulted, Sent,
 };
-use crate::{c, FunctionalNumber, Msisdn};
+use crate::{c, Crew, FunctionalNumber, Msisdn};
 
 /// The least room of a reply or a notice.
 pub const BUFFER_ROOM: usize = 80;
@@ -13,6 +13,11 @@ pub const WRITER_ROOM: usize = 160;
 
 /// The most characters of a request string.
 pub const MOST_CHARACTERS: usize = 72;
+
+/// The most characters of the reply to a crew's request, and where what became
+/// of its numbers starts: behind the outcome and a space.
+const MOST_CREW_REPLY: usize = 28;
+const BEHIND_OUTCOME: usize = 3;
 
 /// The data coding scheme of a request's string.
 pub const CODING_SCHEME: u8 = 0x0F;
@@ -26,9 +31,9 @@ pub struct Request<'a> {
     /// erase.
     pub forced: Option<Msisdn>,
     /// 0 to 30 characters from 0–9, A–Z and space. One that starts with `BULK`
-    /// is of a crew: one digit n, and, if n is above 0, a space and n two-digit
-    /// codes, none 01, none twice; the number ends in 01, and the request
-    /// registers or erases plainly.
+    /// is of a crew ([`CrewField`](crate::CrewField) makes it): one digit n,
+    /// and, if n is above 0, a space and n two-digit codes, none 01, none twice;
+    /// the number ends in 01, and the request registers or erases plainly.
     pub additional: &'a [u8],
 }
 
@@ -75,11 +80,21 @@ fn error(number: u32) -> RequestError {
     answered(RequestError::from_number(number))
 }
 
-fn outcome(number: u32, value: u64) -> Outcome {
+/// What the packed reply to a crew's request says.
+fn crew(octets: &[u8]) -> Crew {
+    let mut text = [0; MOST_CREW_REPLY];
+    let count = answered(unpack(octets, &mut text).ok());
+    answered(Crew::from_text(&text[BEHIND_OUTCOME..count]))
+}
+
+/// The outcome with this number and value, whose text is packed in `octets`.
+fn outcome(number: u32, value: u64, octets: &[u8]) -> Outcome {
     match number {
         1 => Outcome::Registered,
         2 => Outcome::Erased,
         3 => Outcome::Held(answered(Msisdn::from_word(value))),
+        11 => Outcome::CrewRegistered(crew(octets)),
+        12 => Outcome::CrewErased(crew(octets)),
         22 => Outcome::NoSupervisor,
         41 => Outcome::UnknownNumber,
         42 => Outcome::NoFollowMe,
@@ -170,7 +185,7 @@ pub fn request(
     let answer = c::request(table, list, reply, requester.word(), scheme, string);
     match answer.class {
         c::OUTCOME => Ok(Reply {
-            outcome: outcome(answer.number, answer.value),
+            outcome: outcome(answer.number, answer.value, &reply[..answer.count]),
             octets: answer.count,
         }),
         c::ERROR => Err(Failure::Error(error(answer.number))),

@@ -17,6 +17,7 @@ mod answers;
 pub mod c;
 #[cfg(feature = "archive")]
 mod calls;
+mod crews;
 mod number;
 
 pub use answers::{
@@ -27,4 +28,5 @@ pub use calls::{
     finding, pack, read_request, request, result, sending, unpack, write_request, ReadRequest,
     Request, BUFFER_ROOM, CODING_SCHEME, MOST_CHARACTERS, WRITER_ROOM,
 };
+pub use crews::{Codes, Crew, CrewField};
 pub use number::{FunctionalNumber, Msisdn, NumberError};

@@ -1,9 +1,9 @@
 //! Document 01's examples P5 to P15, the refusals, and what stays untouched.
 
 use ffn::{
-    finding, pack, read_request, request, result, sending, unpack, write_request, Failure,
-    FunctionalNumber, Kind, Msisdn, Operation, Outcome, Refusal, Reply, Request, RequestError,
-    Resulted, Sent, CODING_SCHEME,
+    finding, pack, read_request, request, result, sending, unpack, write_request, Crew, CrewField,
+    Failure, FunctionalNumber, Kind, Msisdn, Operation, Outcome, Refusal, Reply, Request,
+    RequestError, Resulted, Sent, CODING_SCHEME,
 };
 
 const UNTOUCHED: u8 = 0xEE;
@@ -69,6 +69,8 @@ fn ask(table: &mut [u64], requester: Msisdn, text: &str) -> Result<Outcome, Fail
         Ok(Reply { outcome, octets }) => {
             let expected = match outcome {
                 Outcome::Held(holder) => format!("03 {holder}"),
+                Outcome::CrewRegistered(crew) => format!("11 {crew}"),
+                Outcome::CrewErased(crew) => format!("12 {crew}"),
                 _ => format!("{:02}", outcome.number()),
             };
             assert!(holds(&reply, &expected));
@@ -296,6 +298,79 @@ fn crews_read_back_as_they_were_written() {
         let read = read_request(&out[..count]).unwrap();
         assert_eq!((read.fields(), read.crew), (fields, crew));
     }
+}
+
+/// F and the number behind it, by their holders.
+fn crew_of(lead: Option<Msisdn>, second: Option<Msisdn>) -> [u64; 12] {
+    let mut table = [0; 12];
+    table[..6].copy_from_slice(&held_by(lead));
+    table[6..].copy_from_slice(&held_by(second));
+    table[6] += 1;
+    table
+}
+
+fn crew(text: &str) -> Crew {
+    Crew::from_text(text.as_bytes()).unwrap()
+}
+
+#[test]
+fn crews_are_registered_and_erased() {
+    let (register, erase) = (
+        "**214*0492123401***BULK1 02#",
+        "##214*0492123401***BULK1 02#",
+    );
+    let mut table = crew_of(None, None);
+    let both = crew("2 0102 0");
+    let registered = Ok(Outcome::CrewRegistered(both));
+    assert_eq!(ask(&mut table, a(), register), registered);
+    assert_eq!(table, crew_of(Some(a()), Some(a())));
+    assert_eq!(
+        ask(&mut table, b(), erase),
+        Ok(Outcome::CrewErased(crew("0 2 0102")))
+    );
+    assert_eq!(ask(&mut table, c(), erase), Ok(Outcome::NoFollowMe));
+    assert_eq!(table, crew_of(Some(a()), Some(a())));
+    assert_eq!(ask(&mut table, a(), erase), Ok(Outcome::CrewErased(both)));
+    assert_eq!(table, crew_of(None, None));
+
+    let mut table = crew_of(None, Some(b()));
+    assert_eq!(
+        ask(&mut table, a(), "**214*0492123401***BULK2 0203#"),
+        Ok(Outcome::CrewRegistered(crew("1 01 2 0203")))
+    );
+    assert_eq!(table, crew_of(Some(a()), Some(b())));
+    assert_eq!(
+        ask(
+            &mut table,
+            a(),
+            "##214*0492123401***BULK9 020304050607080910#"
+        ),
+        Ok(Outcome::CrewErased(crew("1 01 9 020304050607080910")))
+    );
+    assert_eq!(
+        ask(&mut table, a(), "**214*0492123401***BULK1 01#"),
+        Err(Failure::Error(RequestError::UnexpectedDataValue))
+    );
+    assert_eq!(table, crew_of(None, Some(b())));
+}
+
+#[test]
+fn a_request_is_written_from_codes() {
+    let written = |codes: &[u8]| {
+        let field = CrewField::new(codes).unwrap();
+        let fields = Request {
+            operation: Operation::Register,
+            number: f(),
+            forced: None,
+            additional: field.as_slice(),
+        };
+        let mut out = [UNTOUCHED; 160];
+        write_request(&fields, &mut out).map(|count| read_request(&out[..count]).unwrap().crew)
+    };
+    assert_eq!(written(&[]), Ok(Some(0)));
+    assert_eq!(written(&[2, 0, 99]), Ok(Some(3)));
+    assert_eq!(written(&[2, 1]), Err(Refusal::Unfit));
+    assert_eq!(written(&[2, 2]), Err(Refusal::Unfit));
 }
 
 #[test]
