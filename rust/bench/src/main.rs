@@ -175,6 +175,47 @@ fn line(
     );
 }
 
+/// One request by ours and Rust's, each on its own table, and the bare pass.
+fn request(
+    turns: usize,
+    ours: &mut [u64],
+    theirs: &mut [u64],
+    people: &[u64],
+    requester: u64,
+    string: &[u8],
+) -> [f64; 3] {
+    let (mut a, mut b) = ([1u8; 80], [1u8; 80]);
+    let words = ours.to_vec();
+    best(
+        turns,
+        &mut [
+            &mut || {
+                black_box(c::request(
+                    ours,
+                    black_box(people),
+                    &mut a,
+                    requester,
+                    15,
+                    string,
+                ));
+            },
+            &mut || {
+                black_box(oracle::request(
+                    theirs,
+                    black_box(people),
+                    &mut b,
+                    requester,
+                    15,
+                    string,
+                ));
+            },
+            &mut || {
+                black_box(sum(black_box(&words)).wrapping_add(sum(black_box(people))));
+            },
+        ],
+    )
+}
+
 fn calls(lines: &mut Vec<Line>, numbers: usize, subscribers: usize) {
     let (mut ours, mut theirs, people) = (table(numbers), table(numbers), list(subscribers));
     let middle = numbers / 2;
@@ -185,40 +226,8 @@ fn calls(lines: &mut Vec<Line>, numbers: usize, subscribers: usize) {
     let (words, string) = (ours.clone(), &string[..count]);
     let turns = if numbers + subscribers > 64 { 50 } else { 1000 };
 
-    line(
-        lines,
-        "request",
-        numbers,
-        subscribers,
-        best(
-            turns,
-            &mut [
-                &mut || {
-                    black_box(c::request(
-                        &mut ours,
-                        black_box(&people),
-                        &mut a,
-                        requester,
-                        15,
-                        string,
-                    ));
-                },
-                &mut || {
-                    black_box(oracle::request(
-                        &mut theirs,
-                        black_box(&people),
-                        &mut b,
-                        requester,
-                        15,
-                        string,
-                    ));
-                },
-                &mut || {
-                    black_box(sum(black_box(&words)).wrapping_add(sum(black_box(&people))));
-                },
-            ],
-        ),
-    );
+    let t = request(turns, &mut ours, &mut theirs, &people, requester, string);
+    line(lines, "request", numbers, subscribers, t);
     if subscribers > 0 {
         return;
     }
@@ -297,6 +306,42 @@ fn calls(lines: &mut Vec<Line>, numbers: usize, subscribers: usize) {
     );
 }
 
+/// A crew of one and of ten functions, on full table and list. The requester
+/// holds the numbers that she registers, so each call finds the same table.
+fn crews() {
+    let people = list(4096);
+    let requester = SUBSCRIBERS + 3 * 2048;
+    let rows: Vec<u64> = (0..1024)
+        .flat_map(|i| [NUMBERS + i, requester, 0, 0, 0, 0])
+        .collect();
+    let lead = NUMBERS + 501;
+    let of = |call: &'static str, field: &[u8], reply: &[u8]| {
+        let (mut ours, mut theirs, mut string) = (rows.clone(), rows.clone(), [1u8; 160]);
+        let count = c::write_request(0, lead, 0, field, &mut string).count;
+        let string = &string[..count];
+        let (mut said, mut packed) = ([0; 80], [0; 80]);
+        let answer = c::request(&mut ours, &people, &mut said, requester, 15, string);
+        let octets = c::pack(reply, &mut packed).count;
+        assert_eq!((answer.number, answer.count), (11, octets));
+        assert_eq!(said, packed, "every function succeeds");
+        let t = request(50, &mut ours, &mut theirs, &people, requester, string);
+        line(&mut Vec::new(), call, 1024, 4096, t);
+        t
+    };
+    println!("\ncrews, full table and list:");
+    let one = of("crew of 1", b"BULK0", b"11 1 01 0");
+    let ten = of(
+        "crew of 10",
+        b"BULK9 020304050607080910",
+        b"11 10 01020304050607080910 0",
+    );
+    println!(
+        "ten / one: {:.2}, Rust {:.2}",
+        ten[0] / one[0],
+        ten[1] / one[1]
+    );
+}
+
 /// Nanoseconds that one row more costs, between two sizes.
 fn growth(lines: &[Line]) {
     let at = |call, numbers, subscribers| {
@@ -358,6 +403,7 @@ fn main() {
         }
     }
     growth(&lines);
+    crews();
     harder("a notice in each", |i, row| {
         let addressee = SUBSCRIBERS + 5 * i as u64;
         row[2..].copy_from_slice(&[3, addressee, addressee + 1, 77]);

@@ -1,4 +1,4 @@
-//! The proved library beside the independent implementation of document 01:
+//! The proved library beside the independent implementation of the papers:
 //! both are given the same random calls, each on its own copy of all lent
 //! memory, and must agree on every answer, every word and every octet.
 
@@ -13,12 +13,15 @@ use oracle::{Answer, Fields, Operation};
 /// How often each kind of answer came up.
 pub type Counts = BTreeMap<String, u64>;
 
+/// The fields that a string reads as and, of a crew, how many codes it has.
+type Read = (Fields<Vec<u8>>, Option<usize>);
+
 /// What a call was answered, in the independent implementation's types.
 #[derive(Clone, Debug, PartialEq, Eq)]
 enum Said {
     Answer(Answer),
     Count(Result<usize, u8>),
-    Fields(Option<Fields<Vec<u8>>>),
+    Fields(Option<Read>),
     IsNumber(bool),
 }
 
@@ -81,11 +84,16 @@ fn ask_oracle(lent: &mut Lent) -> Said {
         Reply::Answer(answer) => Said::Answer(answer),
         Reply::Count(count) => Said::Count(count),
         Reply::IsNumber(is_number) => Said::IsNumber(is_number),
-        Reply::Fields(fields) => Said::Fields(fields.map(|f| Fields {
-            operation: f.operation,
-            number: f.number,
-            forced: f.forced,
-            additional: f.additional.as_ref().to_vec(),
+        Reply::Fields(fields) => Said::Fields(fields.map(|f| {
+            let additional = f.additional.as_ref().to_vec();
+            let codes = oracle::crew_codes(&additional).map(<[_]>::len);
+            let fields = Fields {
+                operation: f.operation,
+                number: f.number,
+                forced: f.forced,
+                additional,
+            };
+            (fields, codes)
         })),
     };
     // The text of a string that reads is unpacked where there is room for it.
@@ -144,21 +152,28 @@ fn write(operation: u32, fields: &Fields<Vec<u8>>, out: &mut [u8]) -> c::Answer 
 
 /// The fields, the additional field taken from the text or, where the caller's
 /// has no room for it, from another.
-fn read(octets: &[u8], text: &mut [u8]) -> Option<Fields<Vec<u8>>> {
+fn read(octets: &[u8], text: &mut [u8]) -> Option<Read> {
     let read = c::read_request(octets, text);
     let mut whole = [0; 72];
     assert_eq!(c::read_request(octets, &mut whole), read);
     if read.class == c::ERROR {
         assert_eq!((read.number, whole), (36, [0; 72]));
+        assert_eq!((read.crew, read.codes), (0, 0));
         return None;
     }
     assert_eq!((read.class, read.number), (c::READ, 0));
-    Some(Fields {
+    let codes = match (read.crew, read.codes) {
+        (0, 0) => None,
+        (1, codes) => Some(codes),
+        _ => panic!("{read:?}"),
+    };
+    let fields = Fields {
         operation: operation(read.operation),
         number: read.functional_number,
         forced: Some(read.msisdn).filter(|&msisdn| msisdn != 0),
         additional: whole[read.start..][..read.length].to_vec(),
-    })
+    };
+    Some((fields, codes))
 }
 
 /// A number that is no operation is refused as fields that break the rules
@@ -226,7 +241,7 @@ fn answer(answer: c::Answer) -> Said {
 }
 
 fn octet(number: u32) -> u8 {
-    u8::try_from(number).expect("document 01's numbers are below 256")
+    u8::try_from(number).expect("the papers' numbers are below 256")
 }
 
 /// The kind of an answer, for the counts.
@@ -250,7 +265,8 @@ fn kind(call: &Call, said: &Said) -> String {
         Said::Answer(Answer::Found(_)) => "found".into(),
         Said::Answer(answer) => format!("{answer:?}").to_lowercase(),
         Said::Count(Ok(_)) => "written".into(),
-        Said::Fields(Some(fields)) => format!("{:?}", fields.operation).to_lowercase(),
+        Said::Fields(Some((_, Some(_)))) => "crew".into(),
+        Said::Fields(Some((fields, None))) => format!("{:?}", fields.operation).to_lowercase(),
         Said::Fields(None) => "error 36".into(),
         Said::IsNumber(is_number) => is_number.to_string(),
     };
@@ -273,7 +289,10 @@ mod tests {
         };
         expected("request", "refused 1, refused 2, refused 8");
         expected("request", "error 35, error 36, error 71");
-        expected("request", "01, 02, 03, 22, 41, 42, 61, 62, 63, 67, 68");
+        expected(
+            "request",
+            "01, 02, 03, 11, 12, 22, 41, 42, 61, 62, 63, 67, 68",
+        );
         expected("sending", "refused 1, refused 2, refused 4, refused 5");
         expected("sending", "refused 6, refused 7, sent");
         expected("result", "refused 2, refused 3, refused 4, refused 7");
@@ -282,7 +301,10 @@ mod tests {
         for call in ["pack", "unpack", "write request"] {
             expected(call, "refused 1, refused 9, written");
         }
-        expected("read request", "register, erase, interrogate, error 36");
+        expected(
+            "read request",
+            "register, erase, interrogate, crew, error 36",
+        );
         expected("number", "true, false");
     }
 }
