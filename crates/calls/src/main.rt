@@ -1,6 +1,6 @@
 // The calls of the node by lines of text: a line sets memory or makes one call, and what is printed of a call is its answer, the octets that it
-// wrote, what lies beyond them, and what became of the table. Document 01's examples stand in the file stdin. What they print, in the file stdout,
-// was worked out by hand from document 01; the independent implementation answers the same lines, and random ones beside them.
+// wrote, what lies beyond them, and what became of the table. Document 01's examples and those of crews stand in the file stdin. What they print, in
+// the file stdout, was worked out by hand from the papers; the independent implementation answers the same lines, and random ones beside them.
 //
 // A line is a name and its fields, one space apart: words in decimal (numbers in stored form), and last perhaps a tail, which reaches to the end of
 // the line: 'CHARACTERS or xOCTETS in hexadecimal. Any other line prints `?` and changes nothing.
