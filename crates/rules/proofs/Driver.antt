@@ -26,7 +26,7 @@ use Rattle.rules.specs.Users.{isRequest, bothFlags, mayEndHold, endsHold
 use Rattle.rules.specs.Demand.{isCrewOutcome, mayChange, registers, requesterOf, holderOf}
 use Rattle.tables.proofs.Stored.{flags-small}
 use Rattle.rules.proofs.Unsound.{unsound-call}
-use Rattle.rules.proofs.Steps.{call-single, singles-log, Goes, goes-walks, walk, View, own as alone-step, stops, goes, view}
+use Rattle.rules.proofs.Steps.{call-single, singles-log, goes-answered, View, own as alone-step, stops, goes, view}
 use Rattle.rules.proofs.Calls.{all-steps-single, singly-end}
 use Rattle.rules.proofs.Visits.{naming}
 use Rattle.rules.proofs.Local.{named-some}
@@ -154,17 +154,6 @@ module _ (list : List ℕ) (k : ℕ) where
       ⊎-elim (λ s. ⊎-elim inl (λ x. inr (further (c, v .reply) x)) (begun-along rest s))
       (λ (m, a, q). inr (record { place = 0; entry = (c, v .reply); stands = refl; passes = rw (n, m, a) refl })) (visit-begins (holding d) e)
 
--- a crew that goes is answered 11 or 12
-goes-changes : (list : List ℕ) (delay : ℕ) (requester : Msisdn) (scheme : ℕ) (string reply : List ℕ) (g : Goes list requester scheme string reply) (t : List ℕ)
-    → tableSound t ≡ true → mayChange ((call list delay (request requester scheme string reply) t) .0 .answer) ≡ true
-goes-changes list delay requester scheme string reply g t sound =
-    ap (λ o. mayChange (o .answer)) (goes-walks list requester scheme string reply g t sound) ∙ by-operation (g .fields .operation)
-  where
-    by-operation : (o : Operation) → mayChange (outcome (crewNumber o) (octetCount (crewReply (crewNumber o) (walk list requester scheme string reply g t)))) ≡ true
-    by-operation Register = refl
-    by-operation Erase = refl
-    by-operation Interrogate = refl
-
 -- ---- the driver, over one call that is its own step
 
 module _ (list : List ℕ) (delay k : ℕ) (c : Call) (table : List ℕ) where
@@ -213,7 +202,8 @@ module _ (list : List ℕ) (delay k : ℕ) (c : Call) (table : List ℕ) where
           ap word (kept-once (once (ap codesOf (sym p) ∙ alone)) (inr (or-neither (isOutcome 1 (got .answer)) (isOutcome 2 (got .answer)) (none .0))))
       by-view (stops d r f s) p sound = ap (λ x. holderOf (x .1) k) (ap (λ q. call list delay q table) (sym p) ∙ f table sound)
       by-view (goes {requester = requester} {scheme = scheme} {string = string} {reply = reply} g s) p sound =
-          no-path (sym (ap (λ q. mayChange ((call list delay q table) .0 .answer)) p ∙ e) ∙ goes-changes list delay requester scheme string reply g table sound)
+          no-path (sym (ap (λ q. mayChange ((call list delay q table) .0 .answer)) p ∙ e)
+          ∙ or-right (isOutcome 1 (call list delay (request requester scheme string reply) table .0 .answer) || isOutcome 2 (call list delay (request requester scheme string reply) table .0 .answer)) (isCrewOutcome (call list delay (request requester scheme string reply) table .0 .answer)) (goes-answered list requester scheme string reply g table sound))
 
       by-table : (b : Bool) → tableSound table ≡ b → holderOf after k ≡ holderOf table k
       by-table true sound = by-view (view list delay c) refl sound

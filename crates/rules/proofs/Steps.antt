@@ -33,8 +33,9 @@ use Rattle.rules.specs.Answers.{Answer, Outcome, bufferRoom}
 use Rattle.rules.specs.Requests.{isForced, hasFollowMe, refusalChecks, rightChecks, negative, once, saying}
 use Rattle.rules.specs.Crews.{withCode, memberOf, crewCodes, crewNumber, Walk, walked, setOut, crewOutcome, carriedOutFor, requesting}
 use Rattle.rules.specs.Run.{end, log}
-use Rattle.rules.specs.Calls.{Call, request, sending, result, Reply, replied, call, codesRead, codesOf, namesOne, singleCalls, stepsOf}
+use Rattle.rules.specs.Calls.{Call, request, sending, result, Reply, replied, call, codesRead, codesOf, namesOne, singleCalls, stepsOf, steps}
 use Rattle.rules.specs.Singles.{Roomy}
+use Rattle.rules.specs.Demand.{isCrewOutcome}
 use Rattle.rules.proofs.Once.{requestingOnce, single}
 use Rattle.rules.proofs.Visits.{by-stops, by-asks}
 use Rattle.rules.proofs.Crews.{Small, Shared, member-reads, member-named, Walks, walks}
@@ -72,6 +73,22 @@ module _ (list : List ℕ) (delay : ℕ) where
   singles-log (c ∷ cs) t (e, a) =
       ap (λ (r : Reply × List ℕ). (c, r .0) ∷ log (call list delay) cs (r .1)) (call-single list delay c t e)
       ∙ ap (λ l. (c, single list delay c t .0) ∷ l) (singles-log cs (single list delay c t .1) a)
+
+-- its own step
+pub own-step : (list : List ℕ) (c : Call) → codesOf c ≡ none → stepsOf list c ≡ c ∷ []
+own-step list (request requester scheme string reply) e = go (requestOf string) refl e
+  where
+    go : (read : Option Request) → requestOf string ≡ read → codesRead read ≡ none
+        → stepsOf list (request requester scheme string reply) ≡ request requester scheme string reply ∷ []
+    go none r e = rw r refl
+    go (some f) r e = rw (r, e) refl
+own-step list (sending now number buffer) e = refl
+own-step list (result now number kind) e = refl
+
+-- where no call is a crew's, the single steps are the calls
+pub own-steps : (list : List ℕ) (cs : List Call) → AllSingle cs → steps list cs ≡ cs
+own-steps list [] a = refl
+own-steps list (c ∷ cs) (e, a) = rw (own-step list c e, own-steps list cs a) refl
 
 -- ---- a crew's request
 
@@ -177,6 +194,15 @@ module _ (list : List ℕ) (requester : Msisdn) (scheme : ℕ) (string reply : L
       ∙ passes-rights t reply (flagsOf list (requester .0)) (read .erasing) _ (g .right) (goes-shared .plain)
       ∙ ap (carriedOutFor t reply requester read) (g .crew)
 
+  -- it is answered 11 or 12
+  pub goes-answered : (t : List ℕ) → tableSound t ≡ true → isCrewOutcome (requesting t list reply requester scheme string .answer) ≡ true
+  goes-answered t sound = ap (λ o. isCrewOutcome (o .answer)) (goes-walks t sound) ∙ by-operation (read .operation)
+    where
+      by-operation : (o : Operation) → isCrewOutcome (crewOutcome (crewNumber o) reply (walk t) .answer) ≡ true
+      by-operation Register = refl
+      by-operation Erase = refl
+      by-operation Interrogate = refl
+
 -- ---- a call by its steps
 
 -- its own step; or none, and it leaves every table; or the single requests of a crew
@@ -214,13 +240,13 @@ view list delay (request requester scheme string reply) = by-read (requestOf str
   where
     by-codes : (f : Request) → requestOf string ≡ some f → (codes : Option (List ℕ)) → crewOf (f .additional) ≡ codes
         → View list delay (request requester scheme string reply)
-    by-codes f r none e = own (request requester scheme string reply) (rw (r, e) refl) (rw (r, e) refl)
+    by-codes f r none e = let alone : codesOf (request requester scheme string reply) ≡ none = rw (r, e) refl in own (request requester scheme string reply) alone (own-step list (request requester scheme string reply) alone)
     by-codes f r (some codes) e =
         crew-view list delay requester scheme string reply f codes r e (anyHolds (refusalChecks true list reply requester scheme string))
         (hasFollowMe (flagsOf list (requester .0))) refl refl
 
     by-read : (read : Option Request) → requestOf string ≡ read → View list delay (request requester scheme string reply)
-    by-read none r = own (request requester scheme string reply) (rw r refl) (rw r refl)
+    by-read none r = let alone : codesOf (request requester scheme string reply) ≡ none = rw r refl in own (request requester scheme string reply) alone (own-step list (request requester scheme string reply) alone)
     by-read (some f) r = by-codes f r (crewOf (f .additional)) refl
 view list delay (sending now number buffer) = own (sending now number buffer) refl refl
 view list delay (result now number kind) = own (result now number kind) refl refl
