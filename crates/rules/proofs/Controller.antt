@@ -36,7 +36,8 @@ use Rattle.rules.specs.Visits.{Visited, visitSaying, replySaying, decide
 use Rattle.rules.specs.Demand.{holderOf}
 use Rattle.rules.specs.Users.{bothFlags, WellFormed}
 use Rattle.rules.proofs.Once.{single}
-use Rattle.rules.proofs.Steps.{call-single, forced-alone}
+use Rattle.rules.proofs.Single.{call-single}
+use Rattle.rules.proofs.Steps.{forced-alone}
 use Rattle.rules.proofs.Visits.{found-sound, single-visits}
 use Rattle.rules.proofs.Sound.{single-keeps, single-own}
 use Rattle.rules.proofs.Along.{negative, registration, erasure, own, forced, Does, asks, unsent, sends, untaken, clears, goes-on, delivers, drops, along, answered-02, one-same, not-same}

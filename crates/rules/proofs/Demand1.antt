@@ -35,7 +35,8 @@ use Rattle.rules.specs.Demand.{isCrewOutcome, mayChange, Demand1, regist
 use Rattle.rules.proofs.Once.{requestingOnce, single}
 use Rattle.rules.proofs.Visits.{found-sound, naming}
 use Rattle.rules.proofs.Each.{once-each, request-each}
-use Rattle.rules.proofs.Steps.{call-single, goes-answered, View, own, stops, goes, view}
+use Rattle.rules.proofs.Single.{call-single}
+use Rattle.rules.proofs.Steps.{goes-answered, View, own, stops, goes, view}
 use Rattle.rules.proofs.Calls.{step-end}
 use Rattle.rules.proofs.Unsound.{unsound-call}
 

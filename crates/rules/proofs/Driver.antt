@@ -26,7 +26,8 @@ use Rattle.rules.specs.Users.{isRequest, bothFlags, mayEndHold, endsHold
 use Rattle.rules.specs.Demand.{isCrewOutcome, mayChange, registers, requesterOf, holderOf}
 use Rattle.tables.proofs.Stored.{flags-small}
 use Rattle.rules.proofs.Unsound.{unsound-call}
-use Rattle.rules.proofs.Steps.{call-single, singles-log, goes-answered, View, own as alone-step, stops, goes, view}
+use Rattle.rules.proofs.Single.{call-single, singles-log}
+use Rattle.rules.proofs.Steps.{goes-answered, View, own as alone-step, stops, goes, view}
 use Rattle.rules.proofs.Calls.{all-steps-single, singly-end}
 use Rattle.rules.proofs.Visits.{naming}
 use Rattle.rules.proofs.Local.{named-some}

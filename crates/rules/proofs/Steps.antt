@@ -38,41 +38,9 @@ use Rattle.rules.specs.Singles.{Roomy}
 use Rattle.rules.specs.Demand.{isCrewOutcome}
 use Rattle.rules.proofs.Once.{requestingOnce, single}
 use Rattle.rules.proofs.Visits.{by-stops, by-asks}
-use Rattle.rules.proofs.Crews.{Small, Shared, member-reads, member-named, Walks, walks}
+use Rattle.rules.proofs.Crews.{Small, Shared, member-named, members-single, Walks, walks}
+use Rattle.rules.proofs.Single.{AllSingle}
 use Rattle.rules.proofs.Runs.{anyNames}
-
--- ---- a call that is no crew's is a single one
-
-once-for : (t reply : List ℕ) (requester : Msisdn) (f : Request) → crewOf (f .additional) ≡ none
-    → carriedOutFor t reply requester f (crewOf (f .additional)) ≡ once t reply requester f
-once-for t reply requester f e = ap (carriedOutFor t reply requester f) e
-
-pub call-single : (list : List ℕ) (delay : ℕ) (c : Call) (t : List ℕ) → codesOf c ≡ none → call list delay c t ≡ single list delay c t
-unfolding requesting requestingOnce
-call-single list delay (request requester scheme string reply) t e = go (requestOf string) refl e
-  where
-    go : (read : Option Request) → requestOf string ≡ read → codesRead read ≡ none
-        → call list delay (request requester scheme string reply) t ≡ single list delay (request requester scheme string reply) t
-    go none r e = rw r refl
-    go (some f) r e = rw (r, e) refl
-call-single list delay (sending now number buffer) t e = refl
-call-single list delay (result now number kind) t e = refl
-
--- a list of such calls
-abbrev pub AllSingle : List Call → Type 0
-AllSingle [] = Unit {0}
-AllSingle (c ∷ cs) = (codesOf c ≡ none) × AllSingle cs
-
-module _ (list : List ℕ) (delay : ℕ) where
-  pub singles-end : (cs : List Call) (t : List ℕ) → AllSingle cs → end (call list delay) cs t ≡ end (single list delay) cs t
-  singles-end [] t a = refl
-  singles-end (c ∷ cs) t (e, a) = ap (λ r. end (call list delay) cs (r .1)) (call-single list delay c t e) ∙ singles-end cs (single list delay c t .1) a
-
-  pub singles-log : (cs : List Call) (t : List ℕ) → AllSingle cs → log (call list delay) cs t ≡ log (single list delay) cs t
-  singles-log [] t a = refl
-  singles-log (c ∷ cs) t (e, a) =
-      ap (λ (r : Reply × List ℕ). (c, r .0) ∷ log (call list delay) cs (r .1)) (call-single list delay c t e)
-      ∙ ap (λ l. (c, single list delay c t .0) ∷ l) (singles-log cs (single list delay c t .1) a)
 
 -- its own step
 pub own-step : (list : List ℕ) (c : Call) → codesOf c ≡ none → stepsOf list c ≡ c ∷ []
@@ -155,33 +123,36 @@ pub record Goes (list : List ℕ) (requester : Msisdn) (scheme : ℕ) (string re
   pub passed : anyHolds (refusalChecks true list reply requester scheme string) ≡ false
   pub right : hasFollowMe (flagsOf list (requester .0)) ≡ true
 
+-- its codes have two digits
+pub codes-small : (f : Request) (codes : List ℕ) → crewOf (f .additional) ≡ some codes → Small (crewCodes codes)
+codes-small f codes crew = (omega arith, small-codes codes (sound-codes codes (crew-only (f .additional) crew .1)))
+
+-- what its single requests share
+pub passed-shared : (list : List ℕ) (requester : Msisdn) (scheme : ℕ) (string reply : List ℕ) (f : Request) (codes : List ℕ) → requestOf string ≡ some f
+    → crewOf (f .additional) ≡ some codes → anyHolds (refusalChecks true list reply requester scheme string) ≡ false → Shared list requester scheme f
+passed-shared list requester scheme string reply f codes reads crew passes =
+    let sound = read-only (unpacked string) (request-reads string reads .1) .0 in
+    let passed = all-pass (refusalChecks true list reply requester scheme string) passes in
+    record {
+      listed = not-false _ (passed .1 .0);
+      number = not-false _ (passed .1 .1 .1 .0);
+      coded = not-false _ (passed .1 .1 .1 .1 .0);
+      plain = crew-plain f sound crew;
+      lead = sound-rules f sound .number;
+    }
+
 module _ (list : List ℕ) (requester : Msisdn) (scheme : ℕ) (string reply : List ℕ) (g : Goes list requester scheme string reply) where
   abbrev read : Request
   read = g .fields
 
-  abbrev checks : List (Bool × Answer)
-  checks = refusalChecks true list reply requester scheme string
-
   pub goes-room : bufferRoom ≤ length reply
-  goes-room = omega (arith, ltb-false (length reply) bufferRoom (all-pass checks (g .passed) .0))
-
-  goes-sound : requestSound read ≡ true
-  goes-sound = read-only (unpacked string) (request-reads string (g .reads) .1) .0
+  goes-room = omega (arith, ltb-false (length reply) bufferRoom (all-pass (refusalChecks true list reply requester scheme string) (g .passed) .0))
 
   pub goes-shared : Shared list requester scheme read
-  goes-shared =
-      let passed = all-pass checks (g .passed) in
-      record {
-        listed = not-false _ (passed .1 .0);
-        number = not-false _ (passed .1 .1 .1 .0);
-        coded = not-false _ (passed .1 .1 .1 .1 .0);
-        right = g .right;
-        plain = crew-plain read goes-sound (g .crew);
-        lead = sound-rules read goes-sound .number;
-      }
+  goes-shared = passed-shared list requester scheme string reply read (g .codes) (g .reads) (g .crew) (g .passed)
 
   pub goes-small : Small (crewCodes (g .codes))
-  goes-small = (omega arith, small-codes (g .codes) (sound-codes (g .codes) (crew-only (read .additional) (g .crew) .1)))
+  goes-small = codes-small read (g .codes) (g .crew)
 
   -- the walk over its single requests
   abbrev pub walk : List ℕ → Walk
@@ -267,20 +238,12 @@ module _ (list : List ℕ) (delay : ℕ) (requester : Msisdn) (scheme : ℕ) (st
   abbrev pub singly : List Call
   singly = map one (crewCodes (g .codes))
 
-  one-single : (code : ℕ) → code < 100 → codesOf (one code) ≡ none
-  unfolding crewOf begins
-  one-single code c = ap codesRead (member-reads list delay requester scheme (g .fields) shared buffers roomy code c)
-
-  all-single : (codes : List ℕ) → Small codes → AllSingle (map one codes)
-  all-single [] s = tt
-  all-single (code ∷ codes) (c, s) = (one-single code c, all-single codes s)
-
   pub singly-single : AllSingle singly
-  singly-single = all-single (crewCodes (g .codes)) small
+  singly-single = members-single list delay requester scheme (g .fields) shared buffers roomy (crewCodes (g .codes)) small
 
   pub singly-walks : (t : List ℕ) → tableSound t ≡ true
-      → Walks list delay requester scheme (g .fields) shared buffers roomy (crewCodes (g .codes)) (setOut t)
-  singly-walks t sound = walks list delay requester scheme (g .fields) shared buffers roomy (crewCodes (g .codes)) (setOut t) small sound
+      → Walks list delay requester scheme (g .fields) shared buffers roomy (g .right) (crewCodes (g .codes)) (setOut t)
+  singly-walks t sound = walks list delay requester scheme (g .fields) shared buffers roomy (g .right) (crewCodes (g .codes)) (setOut t) small sound
 
   -- the names of the single requests are the crew's
   pub names-in : (codes : List ℕ) (k : ℕ) → Small codes
