@@ -6,7 +6,6 @@ use mathlib.Core.List.{List, [], map}
 use Prim.Native.Nat.{ℕ}
 use lib.Dec.{eqb}
 use borrow.Author.Tests.{not-true, not-false}
-use Rattle.numbers.specs.Numbers.{twoDigits}
 use Rattle.answers.proofs.Tests.{no-path, and-left, or-neither}
 use Rattle.answers.proofs.Decide.{decide-by, decide-each}
 use Rattle.numbers.specs.declared.FunctionalNumber.{FunctionalNumber}

@@ -1,11 +1,10 @@
--- A helper: a second form of the rules, for the theorems and the code, proved equal to `Requests` and `Notices` (proofs/Visits). Once a request's string reads, and for every sending and result, a call visits the record of one number, and a step of that record decides. Assumes nothing.
+-- A helper: a second form of the rules, for the theorems and the code, proved equal to `Requests` and `Notices` (proofs/Visits). Once a request's string reads, and for every sending and result, a single call visits the record of one number, and a step of that record decides. Assumes nothing.
 use Prim.Native.Nat.{ℕ}
 use mathlib.Core.Bool.{true, not, _&&_}
 use mathlib.Core.Option.{Option, none, some}
 use mathlib.Core.List.{List, [], _∷_}
 use lib.ListN.{length}
 use lib.Dec.{ltb}
-use Rattle.numbers.specs.Numbers.{twoDigits}
 use Rattle.answers.specs.Checks.{decide}
 use Rattle.numbers.specs.declared.FunctionalNumber.{FunctionalNumber}
 use Rattle.numbers.specs.declared.Msisdn.{Msisdn}
