@@ -32,7 +32,7 @@ use Rattle.rules.specs.Calls.{Call, request, Reply, replied, nameOf, cod
 use Rattle.rules.specs.Singles.{succeeds, codesWhere, Roomy}
 use Rattle.rules.proofs.Once.{single}
 use Rattle.rules.proofs.Visits.{request-asks}
-use Rattle.rules.proofs.Sound.{single-keeps}
+use Rattle.rules.proofs.Sound.{step-keeps}
 use Rattle.rules.proofs.Single.{AllSingle}
 
 -- ---- a number with another code is a number
@@ -174,11 +174,8 @@ module _ (list : List ℕ) (delay : ℕ) (requester : Msisdn) (scheme : ℕ) (f 
     abbrev goneOn : ℕ → Walk → Walk
     goneOn code w = walkedOn code (step (w .table) requester (memberOf f code)) w
 
-    gone-sound : (code : ℕ) (w : Walk) → code < 100 → tableSound (w .table) ≡ true → tableSound (goneOn code w .table) ≡ true
-    gone-sound code w small sound =
-        let s = step (w .table) requester (memberOf f code) in
-        let after = sym (replied-table (buffers code) s) ∙ sym (ap (λ r. r .1) (member-once code small right (w .table) sound)) in
-        ap tableSound after ∙ single-keeps list delay (one code) (w .table) sound .sound
+    gone-sound : (code : ℕ) (w : Walk) → tableSound (w .table) ≡ true → tableSound (goneOn code w .table) ≡ true
+    gone-sound code w sound = step-keeps (w .table) sound requester (shared .number) (memberOf f code) (rw (shared .plain) refl) .sound
 
     -- the walk stands where the single requests stand, with the codes of those that were answered 01 or 02, and of the others
     pub record Walks (codes : List ℕ) (w : Walk) : Type 0 where
@@ -217,4 +214,4 @@ module _ (list : List ℕ) (delay : ℕ) (requester : Msisdn) (scheme : ℕ) (f 
     pub walks : (codes : List ℕ) (w : Walk) → Small codes → tableSound (w .table) ≡ true → Walks codes w
     unfolding walked
     walks [] w small sound = record { table = refl; successes = sym (append-nil (w .successes)); failures = sym (append-nil (w .failures)) }
-    walks (code ∷ codes) w (c, small) sound = walk-one code codes w c sound (walks codes (goneOn code w) small (gone-sound code w c sound))
+    walks (code ∷ codes) w (c, small) sound = walk-one code codes w c sound (walks codes (goneOn code w) small (gone-sound code w sound))
