@@ -34,7 +34,7 @@ digits-of a b p q =
     let ones : 48 + codeOf a b % 10 ≡ b = omega arith in
     rw (tens, ones)
 
-two-digits : (c : ℕ) (s : List ℕ) → c < 100 → areDigits s ≡ true → areDigits (twoDigits c ++ s) ≡ true
+pub two-digits : (c : ℕ) (s : List ℕ) → c < 100 → areDigits s ≡ true → areDigits (twoDigits c ++ s) ≡ true
 unfolding each
 two-digits c s h d = rw (digit-is (48 + c / 10) (omega arith) (omega arith), digit-is (48 + c % 10) (omega arith) (omega arith)) d
 

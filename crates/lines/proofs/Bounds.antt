@@ -25,7 +25,8 @@ use Rattle.rows.specs.Rows.{rowWords}
 use Rattle.tables.specs.Tables.{mostNumbers, subscriberWords, mostSubscribers}
 use Rattle.lines.specs.Program.{Program, Effect, mayFollow, mayFill, withNumber, withSubscriber, answered, lentBuffer, numbered, subscribed, asked, requested, dispatched, reported, effectOf, lineEffect}
 use Rattle.replies.specs.Replies.{textIn, behindLetter, Printable, answerRoom}
-use Rattle.replies.proofs.Writing.{numeral-short, text-most}
+use Rattle.writers.proofs.Numerals.{numeral-short}
+use Rattle.replies.proofs.Writing.{text-most}
 use Rattle.lines.proofs.Printing.{digits-short, isSent, Replies, asked-replies, result-replies, sending-sends}
 
 -- ---- what follows the letter

@@ -169,7 +169,7 @@ fn ask(
 {
     let written = packing::pack(string, packed);
     let Written::Count(n) = written else {
-        return replies::put_numbered(b"refused ", 9, out);
+        return writers::put_numbered(b"refused ", 9, out);
     };
     let mut reply = [0u8; BUFFER_ROOM];
     let answer = node::request(

@@ -1,6 +1,6 @@
 -- Texts put over the front of a part. Assumes nothing.
 use mathlib.Core.Path.{_≡_, refl, sym, _∙_}
-use mathlib.Core.Bool.{Bool, true, false, cond}
+use mathlib.Core.Bool.{true}
 use mathlib.Core.List.{List, [], _∷_, _++_}
 use Prim.Native.Nat.{ℕ, _+_, _≤_}
 use native.Mathlib.Nat.{le-refl, le-trans}
@@ -9,7 +9,6 @@ use types.Run.{OneOf}
 use denote.Enum.Declared.{tagOf}
 use lib.ListN.{length, take, drop}
 use lib.Seq.{length-take-le}
-use lib.Dec.{ltb}
 use Rattle.answers.proofs.Written.{the-type}
 use Rattle.answers.specs.Writing.{Stands, madeWrite, wrote}
 use Rattle.answers.specs.declared.Written.{Written}
@@ -20,7 +19,7 @@ use Rattle.packing.specs.Packing.{charsIn, readable, unpacked}
 use Rattle.packing.specs.Outcomes.{unpacking}
 use Rattle.packing.proofs.Laws.{length-unpacked-le}
 use Rattle.packing.proofs.Outcomes.{unpacking-good}
-use Rattle.numbers.specs.Numbers.{mostDigits, isNumber, digitsOf, writingDigits, twoDigits, numeral}
+use Rattle.numbers.specs.Numbers.{mostDigits, isNumber, digitsOf, writingDigits}
 use Rattle.visits.proofs.Texts.{counts-only}
 use Rattle.replies.specs.Replies.{Text}
 
@@ -45,15 +44,6 @@ pub digits-writes :
     → Writes (digitsOf w) old new r
 unfolding writingDigits
 digits-writes w old new r h l e = record { said = e ∙ all-good mostDigits (isNumber w) (digitsOf w) old l h }
-
--- ---- numerals
-
-pub numeral-short : (n : ℕ) → length (numeral n) ≤ 2
-numeral-short n = go (ltb n 10)
-  where
-    go : (b : Bool) → length (cond b ((48 + n) ∷ []) (twoDigits n)) ≤ 2
-    go true = omega arith
-    go false = omega arith
 
 -- ---- the text of an answer
 

@@ -16,29 +16,6 @@ ghost use Rattle.numbers.specs.Numbers.{isNumber, digitsOf, numeral};
 ghost use Rattle.visits.specs.Said.{saidRequest, saidSending, saidResult};
 ghost use Rattle.replies.specs.Replies.{behindLetter, Printable, answerRoom};
 
-// Writes the number of an error or a refusal.
-fn put_numeral(n: u8, out: &mut [u8]) -> usize
-    requires { ⌜ 2 ≤ length (now out) ⌝ }
-    ensures { λ r. ⌜ Stands (numeral n) (now (out .entry)) r (now (out .exit)) ⌝ }
-{
-    if n < 10 {
-        out[0] = b'0' + n;
-        return 1;
-    }
-    out[0] = b'0' + n / 10;
-    out[1] = b'0' + n % 10;
-    2
-}
-
-// Writes `error ` or `refused ` and the number.
-pub fn put_numbered(words: &[u8], n: u8, out: &mut [u8]) -> usize
-    requires { ⌜ length (now words) + 2 ≤ length (now out) ⌝ }
-    ensures { λ r. ⌜ Stands (now (words .entry) ++ numeral n) (now (out .entry)) r (now (out .exit)) ⌝ }
-{
-    let at = writers::put(words, out);
-    at + put_numeral(n, &mut out[at..])
-}
-
 // Writes the characters that readable octets are.
 fn put_text(octets: &[u8], out: &mut [u8]) -> usize
     requires { ⌜ (readable (now octets) ≡ true) × (charsIn (length (now octets)) ≤ length (now out)) ⌝ }
@@ -70,8 +47,8 @@ pub fn put_request_answer(answer: RequestAnswer, reply: &[u8], out: &mut [u8]) -
     ensures { λ r. ⌜ Stands (behindLetter (saidRequest answer) (now (reply .entry))) (now (out .entry)) r (now (out .exit)) ⌝ }
 {
     match answer {
-        RequestAnswer::Refused(n) => put_numbered(b"refused ", n, out),
-        RequestAnswer::Error(n) => put_numbered(b"error ", n, out),
+        RequestAnswer::Refused(n) => writers::put_numbered(b"refused ", n, out),
+        RequestAnswer::Error(n) => writers::put_numbered(b"error ", n, out),
         RequestAnswer::Outcome(_, count) => put_text(&reply[..count], out),
         RequestAnswer::Held(_, count) => put_text(&reply[..count], out),
     }
@@ -84,7 +61,7 @@ pub fn put_sending_answer(answer: SendingAnswer, notice: &[u8], out: &mut [u8]) 
     ensures { λ r. ⌜ Stands (behindLetter (saidSending answer) (now (notice .entry))) (now (out .entry)) r (now (out .exit)) ⌝ }
 {
     match answer {
-        SendingAnswer::Refused(n) => put_numbered(b"refused ", n, out),
+        SendingAnswer::Refused(n) => writers::put_numbered(b"refused ", n, out),
         SendingAnswer::Sent(addressee, count) => {
             let at = put_addressee(addressee, out);
             at + put_text(&notice[..count], &mut out[at..])
@@ -98,7 +75,7 @@ pub fn put_result_answer(answer: ResultAnswer, out: &mut [u8]) -> usize
     ensures { λ r. ⌜ Stands (behindLetter (saidResult answer) []) (now (out .entry)) r (now (out .exit)) ⌝ }
 {
     match answer {
-        ResultAnswer::Refused(n) => put_numbered(b"refused ", n, out),
+        ResultAnswer::Refused(n) => writers::put_numbered(b"refused ", n, out),
         ResultAnswer::Delivered => writers::put(b"delivered", out),
         ResultAnswer::Dropped => writers::put(b"dropped", out),
         ResultAnswer::Again => writers::put(b"again", out),

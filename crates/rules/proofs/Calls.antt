@@ -19,7 +19,8 @@ use Rattle.rules.proofs.Rearrange.{end-inv}
 use Rattle.rules.proofs.Runs.{anyNames, runs-other, runs-log, runs-own}
 use Rattle.rules.proofs.Sound.{Kept, end-keeps}
 use Rattle.rules.proofs.Local.{singles-local}
-use Rattle.rules.proofs.Steps.{call-single, AllSingle, singles-end, Goes, goes-room, goes-walks, walk, View, own, stops, goes, view, singly, small, singly-single, singly-walks, names-in}
+use Rattle.rules.proofs.Single.{call-single, AllSingle, singles-end}
+use Rattle.rules.proofs.Steps.{Goes, goes-room, goes-walks, walk, View, own, stops, goes, view, singly, small, singly-single, singly-walks, names-in}
 
 abbrev look : ℕ → List ℕ → Option Record
 look k t = recordOf t k

@@ -36,7 +36,8 @@ use Rattle.rules.specs.Visits.{Visited, visitSaying, replySaying, decide
 use Rattle.rules.specs.Demand.{holderOf}
 use Rattle.rules.specs.Users.{bothFlags, WellFormed}
 use Rattle.rules.proofs.Once.{single}
-use Rattle.rules.proofs.Steps.{call-single, forced-alone}
+use Rattle.rules.proofs.Single.{call-single}
+use Rattle.rules.proofs.Steps.{forced-alone}
 use Rattle.rules.proofs.Visits.{found-sound, single-visits}
 use Rattle.rules.proofs.Sound.{single-keeps, single-own}
 use Rattle.rules.proofs.Along.{negative, registration, erasure, own, forced, Does, asks, unsent, sends, untaken, clears, goes-on, delivers, drops, along, answered-02, one-same, not-same}
@@ -105,10 +106,10 @@ module _ (list : List ℕ) (delay : ℕ) (table : List ℕ) (s : Msisdn) (scheme
   erased-nobody true = refl
   erased-nobody false = refl
 
-  -- at phase 0, or where s is the holder: 02 in that call, and nobody holds the number
   singly : call list delay asked table ≡ single list delay asked table
   singly = call-single list delay asked table (forced-alone s scheme string reply f (form .reads) forces)
 
+  -- at phase 0, or where s is the holder: 02 in that call, and nobody holds the number
   pub frees-at-once : (isAbsent (r .notice) ≡ true) ⊎ (s ≡ r .holder)
       → ((call list delay asked table) .0 ≡ replySaying 2 reply) × (holderOf ((call list delay asked table) .1) number ≡ 0)
   frees-at-once may =

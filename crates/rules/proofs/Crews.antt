@@ -17,7 +17,7 @@ use Rattle.packing.proofs.Laws.{length-packed}
 use Rattle.numbers.specs.Numbers.{fewestDigits, isNumber}
 use Rattle.numbers.specs.declared.Msisdn.{Msisdn}
 use Rattle.numbers.proofs.Lengths.{length-of, is-number}
-use Rattle.crews.specs.Crews.{countOf}
+use Rattle.crews.specs.Crews.{crewOf, countOf}
 use Rattle.strings.specs.declared.Erasing.the-variants.{Empty}
 use Rattle.strings.specs.Text.{Request, requestSound, textOf}
 use Rattle.strings.specs.Outcomes.{requestOf}
@@ -25,14 +25,15 @@ use Rattle.strings.proofs.Text.{rules-sound, beforeAdditional, text-grows, octe
 use Rattle.strings.proofs.Octets.{reads-written}
 use Rattle.tables.specs.Tables.{tableSound, listSound, flagsOf}
 use Rattle.rules.specs.Answers.{Answer, bufferRoom}
-use Rattle.rules.specs.Requests.{hasFollowMe, codingScheme, mostStringOctets, refusalChecks, Verdict, says, tells, Stepping, step, answered, replying, once}
+use Rattle.rules.specs.Requests.{hasFollowMe, codingScheme, mostStringOctets, refusalChecks, Verdict, says, tells, Stepping, step, answered, replying, once, askingBy}
 use Rattle.rules.specs.Crews.{withCode, memberOf, Walk, isSuccess, walkedOn, walked}
 use Rattle.rules.specs.Run.{end, log}
-use Rattle.rules.specs.Calls.{Call, request, Reply, replied, nameOf}
+use Rattle.rules.specs.Calls.{Call, request, Reply, replied, nameOf, codesRead}
 use Rattle.rules.specs.Singles.{succeeds, codesWhere, Roomy}
 use Rattle.rules.proofs.Once.{single}
 use Rattle.rules.proofs.Visits.{request-asks}
-use Rattle.rules.proofs.Sound.{single-keeps}
+use Rattle.rules.proofs.Sound.{step-keeps}
+use Rattle.rules.proofs.Single.{AllSingle}
 
 -- ---- a number with another code is a number
 
@@ -91,12 +92,11 @@ behind-others : (b : Bool) (before : List ℕ) (code : ℕ) (rest : List ℕ)
 behind-others true before code rest = refl
 behind-others false before code rest = append-assoc before (code ∷ []) rest
 
--- what a crew's single requests share, so that no check stops one
+-- what a crew's single requests share, so that no refusal and no error stops one
 pub record Shared (list : List ℕ) (requester : Msisdn) (scheme : ℕ) (f : Request) : Type 0 where
   pub listed : listSound list ≡ true
   pub number : isNumber (requester .0) ≡ true
   pub coded : eqb scheme codingScheme ≡ true
-  pub right : hasFollowMe (flagsOf list (requester .0)) ≡ true
   pub plain : f .erasing ≡ Empty
   pub lead : isNumber (f .number .0) ≡ true
 
@@ -138,61 +138,80 @@ module _ (list : List ℕ) (delay : ℕ) (requester : Msisdn) (scheme : ℕ) (f 
     pub member-named : nameOf list (one code) ≡ some (withCode (f .number .0) code)
     member-named = rw (member-passes, member-reads) refl
 
-    member-once : (t : List ℕ) → tableSound t ≡ true → single list delay (one code) t ≡ replied (once t (buffers code) requester (memberOf f code))
-    member-once t sound =
-        ap replied (request-asks list (buffers code) requester scheme (packed (textOf (memberOf f code))) t sound (memberOf f code) member-passes member-reads
-        ∙ rw (shared .right, shared .plain))
+    member-asks : (t : List ℕ) → tableSound t ≡ true
+        → single list delay (one code) t
+        ≡ replied (askingBy (once t (buffers code) requester) t (flagsOf list (requester .0)) (buffers code) (some (memberOf f code)))
+    member-asks t sound =
+        ap replied (request-asks list (buffers code) requester scheme (packed (textOf (memberOf f code))) t sound (memberOf f code) member-passes member-reads)
+
+    member-once : hasFollowMe (flagsOf list (requester .0)) ≡ true → (t : List ℕ) → tableSound t ≡ true
+        → single list delay (one code) t ≡ replied (once t (buffers code) requester (memberOf f code))
+    member-once right t sound = member-asks t sound ∙ rw (right, shared .plain) refl
+
+    -- without Follow Me it is answered 42, and leaves the table
+    member-stays : hasFollowMe (flagsOf list (requester .0)) ≡ false → (t : List ℕ) → tableSound t ≡ true → single list delay (one code) t .1 ≡ t
+    member-stays none t sound = ap (λ r. r .1) (member-asks t sound) ∙ rw none refl
+
+  pub members-stay : hasFollowMe (flagsOf list (requester .0)) ≡ false → (codes : List ℕ) → Small codes → (t : List ℕ) → tableSound t ≡ true
+      → end (single list delay) (map one codes) t ≡ t
+  members-stay none [] small t sound = refl
+  members-stay none (code ∷ codes) (c, small) t sound =
+      ap (end (single list delay) (map one codes)) (member-stays code c none t sound) ∙ members-stay none codes small t sound
+
+  -- they are no crew's
+  pub members-single : (codes : List ℕ) → Small codes → AllSingle (map one codes)
+  unfolding crewOf begins
+  members-single [] small = tt
+  members-single (code ∷ codes) (c, small) = (ap codesRead (member-reads code c), members-single codes small)
 
   -- ---- the walk
 
-  -- what the single requests of the codes get, from a table on
-  abbrev got : List ℕ → List ℕ → List (Call × Reply)
-  got codes t = log (single list delay) (map one codes) t
+  module _ (right : hasFollowMe (flagsOf list (requester .0)) ≡ true) where
+    -- what the single requests of the codes get, from a table on
+    abbrev got : List ℕ → List ℕ → List (Call × Reply)
+    got codes t = log (single list delay) (map one codes) t
 
-  abbrev goneOn : ℕ → Walk → Walk
-  goneOn code w = walkedOn code (step (w .table) requester (memberOf f code)) w
+    abbrev goneOn : ℕ → Walk → Walk
+    goneOn code w = walkedOn code (step (w .table) requester (memberOf f code)) w
 
-  gone-sound : (code : ℕ) (w : Walk) → code < 100 → tableSound (w .table) ≡ true → tableSound (goneOn code w .table) ≡ true
-  gone-sound code w small sound =
-      let s = step (w .table) requester (memberOf f code) in
-      let after = sym (replied-table (buffers code) s) ∙ sym (ap (λ r. r .1) (member-once code small (w .table) sound)) in
-      ap tableSound after ∙ single-keeps list delay (one code) (w .table) sound .sound
+    gone-sound : (code : ℕ) (w : Walk) → tableSound (w .table) ≡ true → tableSound (goneOn code w .table) ≡ true
+    gone-sound code w sound = step-keeps (w .table) sound requester (shared .number) (memberOf f code) (rw (shared .plain) refl) .sound
 
-  -- the walk stands where the single requests stand, with the codes of those that were answered 01 or 02, and of the others
-  pub record Walks (codes : List ℕ) (w : Walk) : Type 0 where
-    pub table : walked requester f codes w .table ≡ end (single list delay) (map one codes) (w .table)
-    pub successes : walked requester f codes w .successes ≡ w .successes ++ codesWhere succeeds codes (got codes (w .table))
-    pub failures : walked requester f codes w .failures ≡ w .failures ++ codesWhere (λ a. not (succeeds a)) codes (got codes (w .table))
+    -- the walk stands where the single requests stand, with the codes of those that were answered 01 or 02, and of the others
+    pub record Walks (codes : List ℕ) (w : Walk) : Type 0 where
+      pub table : walked requester f codes w .table ≡ end (single list delay) (map one codes) (w .table)
+      pub successes : walked requester f codes w .successes ≡ w .successes ++ codesWhere succeeds codes (got codes (w .table))
+      pub failures : walked requester f codes w .failures ≡ w .failures ++ codesWhere (λ a. not (succeeds a)) codes (got codes (w .table))
 
-  walk-one : (code : ℕ) (codes : List ℕ) (w : Walk) → code < 100 → tableSound (w .table) ≡ true → Walks codes (goneOn code w) → Walks (code ∷ codes) w
-  unfolding walked
-  walk-one code codes w small sound rest = record {
-    table = rest .table ∙ ap (end (single list delay) (map one codes)) after;
-    successes =
-        rest .successes ∙ ap (λ t. goneOn code w .successes ++ codesWhere succeeds codes (got codes t)) after
-        ∙ behind-some (isSuccess (s .verdict)) (w .successes) code _ ∙ ap (λ b. w .successes ++ cond b (code ∷ rest-of succeeds) (rest-of succeeds)) answers;
-    failures =
-        rest .failures ∙ ap (λ t. goneOn code w .failures ++ codesWhere (λ a. not (succeeds a)) codes (got codes t)) after
-        ∙ behind-others (isSuccess (s .verdict)) (w .failures) code _
-        ∙ ap (λ b. w .failures ++ cond (not b) (code ∷ rest-of (λ a. not (succeeds a))) (rest-of (λ a. not (succeeds a)))) answers;
-  }
-    where
-      s : Stepping
-      s = step (w .table) requester (memberOf f code)
+    walk-one : (code : ℕ) (codes : List ℕ) (w : Walk) → code < 100 → tableSound (w .table) ≡ true → Walks codes (goneOn code w) → Walks (code ∷ codes) w
+    unfolding walked
+    walk-one code codes w small sound rest = record {
+      table = rest .table ∙ ap (end (single list delay) (map one codes)) after;
+      successes =
+          rest .successes ∙ ap (λ t. goneOn code w .successes ++ codesWhere succeeds codes (got codes t)) after
+          ∙ behind-some (isSuccess (s .verdict)) (w .successes) code _ ∙ ap (λ b. w .successes ++ cond b (code ∷ rest-of succeeds) (rest-of succeeds)) answers;
+      failures =
+          rest .failures ∙ ap (λ t. goneOn code w .failures ++ codesWhere (λ a. not (succeeds a)) codes (got codes t)) after
+          ∙ behind-others (isSuccess (s .verdict)) (w .failures) code _
+          ∙ ap (λ b. w .failures ++ cond (not b) (code ∷ rest-of (λ a. not (succeeds a))) (rest-of (λ a. not (succeeds a)))) answers;
+    }
+      where
+        s : Stepping
+        s = step (w .table) requester (memberOf f code)
 
-      now-single : single list delay (one code) (w .table) ≡ replied (replying (buffers code) s)
-      now-single = member-once code small (w .table) sound
+        now-single : single list delay (one code) (w .table) ≡ replied (replying (buffers code) s)
+        now-single = member-once code small right (w .table) sound
 
-      after : goneOn code w .table ≡ single list delay (one code) (w .table) .1
-      after = sym (replied-table (buffers code) s) ∙ sym (ap (λ r. r .1) now-single)
+        after : goneOn code w .table ≡ single list delay (one code) (w .table) .1
+        after = sym (replied-table (buffers code) s) ∙ sym (ap (λ r. r .1) now-single)
 
-      answers : isSuccess (s .verdict) ≡ succeeds (single list delay (one code) (w .table) .0 .answer)
-      answers = sym (replied-succeeds (buffers code) s) ∙ sym (ap (λ r. succeeds (r .0 .answer)) now-single)
+        answers : isSuccess (s .verdict) ≡ succeeds (single list delay (one code) (w .table) .0 .answer)
+        answers = sym (replied-succeeds (buffers code) s) ∙ sym (ap (λ r. succeeds (r .0 .answer)) now-single)
 
-      rest-of : (Answer → Bool) → List ℕ
-      rest-of test = codesWhere test codes (got codes (single list delay (one code) (w .table) .1))
+        rest-of : (Answer → Bool) → List ℕ
+        rest-of test = codesWhere test codes (got codes (single list delay (one code) (w .table) .1))
 
-  pub walks : (codes : List ℕ) (w : Walk) → Small codes → tableSound (w .table) ≡ true → Walks codes w
-  unfolding walked
-  walks [] w small sound = record { table = refl; successes = sym (append-nil (w .successes)); failures = sym (append-nil (w .failures)) }
-  walks (code ∷ codes) w (c, small) sound = walk-one code codes w c sound (walks codes (goneOn code w) small (gone-sound code w c sound))
+    pub walks : (codes : List ℕ) (w : Walk) → Small codes → tableSound (w .table) ≡ true → Walks codes w
+    unfolding walked
+    walks [] w small sound = record { table = refl; successes = sym (append-nil (w .successes)); failures = sym (append-nil (w .failures)) }
+    walks (code ∷ codes) w (c, small) sound = walk-one code codes w c sound (walks codes (goneOn code w) small (gone-sound code w sound))

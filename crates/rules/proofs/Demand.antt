@@ -20,7 +20,7 @@ use Rattle.rules.proofs.Alone.{run-alone}
 use Rattle.rules.proofs.Sound.{Kept}
 use Rattle.rules.proofs.Once.{single}
 use Rattle.rules.proofs.Local.{one-name, singles-local}
-use Rattle.rules.proofs.Steps.{AllSingle, singles-end, singles-log}
+use Rattle.rules.proofs.Single.{AllSingle, singles-end, singles-log}
 use Rattle.rules.proofs.Calls.{calls-local, all-steps-single, steps-end, singly-end, calls-keep}
 use Rattle.rules.proofs.Holder.{held}
 

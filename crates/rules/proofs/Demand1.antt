@@ -5,9 +5,8 @@ use mathlib.Core.Option.{none, some}
 use mathlib.Core.List.{List, [], map}
 use Prim.Native.Nat.{ℕ}
 use lib.Dec.{eqb}
-use borrow.Author.Tests.{not-false}
-use Rattle.numbers.specs.Numbers.{twoDigits}
-use Rattle.answers.proofs.Tests.{no-path, and-left}
+use borrow.Author.Tests.{not-true, not-false}
+use Rattle.answers.proofs.Tests.{no-path, and-left, or-neither}
 use Rattle.answers.proofs.Decide.{decide-by, decide-each}
 use Rattle.numbers.specs.declared.FunctionalNumber.{FunctionalNumber}
 use Rattle.numbers.specs.declared.Msisdn.{Msisdn}
@@ -24,17 +23,19 @@ use Rattle.tables.specs.declared.Found.{Found}
 use Rattle.tables.specs.declared.Found.the-variants.{At, Nothing}
 use Rattle.tables.specs.Tables.{tableSound, rowOf, recordOf, flagsOf}
 use Rattle.tables.proofs.Stored.{record-found}
-use Rattle.rules.specs.Answers.{Answer, refusal, error, delivered, dropped, again as sendAgain, Outcome, made, outcomeClass, numbersOf, isOf, isRefusal, isError, isNegative, packedOver, refusing}
+use Rattle.rules.specs.Answers.{Answer, refusal, error, delivered, dropped, again as sendAgain, Outcome, made, outcomeClass, numbersOf, isOf, isRefusal, isError, isNegativeNumber, isNegative, interrogationNumber, crewRegistered, crewErased, packedOver, refusing}
 use Rattle.rules.specs.Requests as requests
 use Rattle.rules.specs.Crews.{crewNumber, Walk, crewOutcome, requesting}
 use Rattle.rules.specs.Requests.{Verdict, says, tells, Stepping}
 use Rattle.rules.specs.Notices as notices
-use Rattle.rules.specs.Calls.{Call, request, sending, result, bufferOf, clockReading, call, nameOf, codesOf}
+use Rattle.rules.specs.Run.{end}
+use Rattle.rules.specs.Calls.{Call, request, sending, result, bufferOf, clockReading, call, nameOf, codesOf, stepsOf}
 use Rattle.rules.specs.Demand.{isCrewOutcome, mayChange, Demand1, registersAs, registers, requesterOf, holderOf}
-use Rattle.rules.proofs.Once.{requestingOnce}
+use Rattle.rules.proofs.Once.{requestingOnce, single}
 use Rattle.rules.proofs.Visits.{found-sound, naming}
-use Rattle.rules.proofs.Each.{request-each}
-use Rattle.rules.proofs.Steps.{call-single}
+use Rattle.rules.proofs.Each.{once-each, request-each}
+use Rattle.rules.proofs.Single.{call-single}
+use Rattle.rules.proofs.Steps.{goes-answered, View, own, stops, goes, view}
 use Rattle.rules.proofs.Calls.{step-end}
 use Rattle.rules.proofs.Unsound.{unsound-call}
 
@@ -170,13 +171,75 @@ again list delay (request requester scheme string reply) table k named alone reg
 again list delay (sending now number buffer) table k named alone registration holds = no-path registration
 again list delay (result now number kind) table k named alone registration holds = no-path registration
 
--- a crew's outcome comes over a sound table only
-sound-crew : (list : List ℕ) (delay : ℕ) (c : Call) (table : List ℕ) → isCrewOutcome (call list delay c table .0 .answer) ≡ true → tableSound table ≡ true
-sound-crew list delay c table e = go (tableSound table) refl
+-- ---- a crew's request
+
+-- a single request, a sending and a result are not answered 11 or 12
+single-answered : (list : List ℕ) (delay : ℕ) (c : Call) (table : List ℕ) → isCrewOutcome (single list delay c table .0 .answer) ≡ false
+unfolding notices.sendingNotice notices.takingResult
+single-answered list delay (request requester scheme string reply) table =
+    once-each table reply (λ (o : Outcome). isCrewOutcome (o .answer) ≡ false) (λ n. refl) (λ n. refl) (λ n l e. denied n e) (λ new. refl) (λ new. refl) (λ m. refl)
+    list requester scheme string
   where
-    go : (b : Bool) → tableSound table ≡ b → b ≡ true
-    go true s = refl
-    go false s = let (n, buffer, refused) = unsound-call table s list delay c in no-path (sym (ap (λ r. isCrewOutcome (r .0 .answer)) refused) ∙ e)
+    denied : (n : ℕ) → isNegativeNumber n ≡ true → isCrewOutcome (requests.saying n table reply .answer) ≡ false
+    denied n e =
+        let other = or-neither (eqb n 1 || eqb n 2 || eqb n interrogationNumber || eqb n crewRegistered) (eqb n crewErased) (not-true _ e) in
+        rw (or-neither (eqb n 1 || eqb n 2 || eqb n interrogationNumber) (eqb n crewRegistered) (other .0) .1, other .1) refl
+single-answered list delay (sending now number buffer) table =
+    decide-each (λ (o : Outcome). isCrewOutcome (o .answer) ≡ false)
+    (refusing table buffer (notices.sendingChecks (tableSound table) buffer (number .0) (recordOf table (number .0)) delay (clockReading now))) _
+    (refl, (refl, (refl, (refl, (refl, (refl, tt)))))) (at-place (rowOf table (number .0)))
+  where
+    at-place : (place : Found) → isCrewOutcome (notices.sentAt number place table buffer .answer) ≡ false
+    at-place Nothing = refl
+    at-place (At i) = refl
+single-answered list delay (result now number kind) table =
+    decide-each (λ (o : Outcome). isCrewOutcome (o .answer) ≡ false)
+    (refusing table [] (notices.resultChecks (tableSound table) (number .0) (recordOf table (number .0)) kind)) _
+    (refl, (refl, (refl, (refl, tt)))) (at-place (rowOf table (number .0)))
+  where
+    returned-so : (zero clears : Bool) → isCrewOutcome (cond zero delivered (cond clears dropped sendAgain)) ≡ false
+    returned-so true clears = refl
+    returned-so false true = refl
+    returned-so false false = refl
+
+    at-place : (place : Found) → isCrewOutcome (notices.resultAt kind (clockReading now) place table .answer) ≡ false
+    at-place Nothing = refl
+    at-place (At i) = returned-so (eqb kind 0) (notices.clears kind (recordAt table i .notice))
+
+module _ (list : List ℕ) (delay : ℕ) (c : Call) (table : List ℕ) where
+  abbrev answer : Answer
+  answer = call list delay c table .0 .answer
+
+  abbrev after : List ℕ
+  after = call list delay c table .1
+
+  -- a crew's outcome comes over a sound table only
+  unsound-stays : tableSound table ≡ false → (isCrewOutcome answer ≡ false) × (after ≡ table)
+  unsound-stays s = let (n, buffer, refused) = unsound-call table s list delay c in (ap (λ r. isCrewOutcome (r .0 .answer)) refused, ap (λ r. r .1) refused)
+
+  -- a call that is its own step is not answered 11 or 12
+  own-answered : codesOf c ≡ none → isCrewOutcome answer ≡ false
+  own-answered alone = ap (λ r. isCrewOutcome (r .0 .answer)) (call-single list delay c table alone) ∙ single-answered list delay c table
+
+  crew-goes : isCrewOutcome answer ≡ true → (codesOf c ≡ none → ⊥) × (after ≡ end (call list delay) (stepsOf list c) table)
+  crew-goes e = (λ alone. no-path (sym (own-answered alone) ∙ e), by-table (tableSound table) refl)
+    where
+      by-table : (b : Bool) → tableSound table ≡ b → after ≡ end (call list delay) (stepsOf list c) table
+      by-table true sound = step-end list delay c table sound
+      by-table false s = no-path (sym (unsound-stays s .0) ∙ e)
+
+  crew-stops : (codesOf c ≡ none → ⊥) → isCrewOutcome answer ≡ false → (after ≡ table) × (tableSound table ≡ true → stepsOf list c ≡ [])
+  crew-stops crew e = (by-table (tableSound table) refl, λ sound. by-view sound (view list delay c) refl .1)
+    where
+      by-view : tableSound table ≡ true → {d : Call} → View list delay d → d ≡ c → (after ≡ table) × (stepsOf list c ≡ [])
+      by-view sound (own d alone s) p = absurd (crew (ap codesOf (sym p) ∙ alone))
+      by-view sound (stops d r f s) p = (ap (λ q. call list delay q table .1) (sym p) ∙ ap (λ x. x .1) (f table sound), ap (stepsOf list) (sym p) ∙ s)
+      by-view sound (goes {requester = requester} {scheme = scheme} {string = string} {reply = reply} g s) p =
+          no-path (sym (ap (λ q. isCrewOutcome (call list delay q table .0 .answer)) p ∙ e) ∙ goes-answered list requester scheme string reply g table sound)
+
+      by-table : (b : Bool) → tableSound table ≡ b → after ≡ table
+      by-table true sound = by-view sound (view list delay c) refl .0
+      by-table false s = unsound-stays s .1
 
 leaves : (list : List ℕ) (delay : ℕ) (c : Call) (table : List ℕ)
     → Leaves table (bufferOf c) (record { answer = call list delay c table .0 .answer; table = call list delay c table .1; buffer = call list delay c table .0 .buffer })
@@ -190,7 +253,8 @@ demand1 list delay c table =
     record {
       refused = l .refused;
       negative = l .negative;
-      others = l .others;
-      crew = λ e. step-end list delay c table (sound-crew list delay c table e);
+      others = λ alone o n. l .others o (rw n (own-answered list delay c table alone));
+      crew-goes = crew-goes list delay c table;
+      crew-stops = crew-stops list delay c table;
       registered-again = again list delay c table;
     }

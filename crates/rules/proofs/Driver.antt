@@ -6,9 +6,9 @@ use mathlib.Core.Option.{Option, none}
 use mathlib.Core.List.{List, [], _∷_}
 use Prim.Native.Nat.{ℕ, suc}
 use native.Mathlib.Omega.{arith}
-use borrow.Author.Tests.{eqb-true, not-false}
+use borrow.Author.Tests.{eqb-true, eq-eqb, not-false}
 use Rattle.answers.proofs.Decide.{all-pass}
-use Rattle.answers.proofs.Tests.{no-path, or-right, or-neither}
+use Rattle.answers.proofs.Tests.{no-path, or-right, or-neither, same-or-not}
 use Rattle.numbers.specs.declared.Msisdn.{Msisdn}
 use Rattle.strings.specs.declared.Operation.{Operation}
 use Rattle.strings.specs.declared.Operation.the-variants.{Register, Erase, Interrogate}
@@ -26,7 +26,8 @@ use Rattle.rules.specs.Users.{isRequest, bothFlags, mayEndHold, endsHold
 use Rattle.rules.specs.Demand.{isCrewOutcome, mayChange, registers, requesterOf, holderOf}
 use Rattle.tables.proofs.Stored.{flags-small}
 use Rattle.rules.proofs.Unsound.{unsound-call}
-use Rattle.rules.proofs.Steps.{call-single, singles-log, Goes, goes-walks, walk, View, own as alone-step, stops, goes, view}
+use Rattle.rules.proofs.Single.{call-single, singles-log}
+use Rattle.rules.proofs.Steps.{goes-answered, View, own as alone-step, stops, goes, view}
 use Rattle.rules.proofs.Calls.{all-steps-single, singly-end}
 use Rattle.rules.proofs.Visits.{naming}
 use Rattle.rules.proofs.Local.{named-some}
@@ -85,6 +86,16 @@ visit-begins (asking (registration p q h)) e = inr (rw (p, q) refl, refl, refl)
 visit-begins (asking (erasure p q h m)) e = inl refl
 visit-begins (asking (own p q h m w)) e = inl refl
 visit-begins (asking (forced p q h m x y z)) e = inl refl
+
+-- a visit leaves the holder, or nobody, or gives the number to who registers it
+visit-gives : {list : List ℕ} {r : Record} {c : Call} {v : Visited} → Holding list r c v
+    → (v .next .holder ≡ r .holder) ⊎ ((v .next .holder ≡ nobody) ⊎ ((registers c ≡ true) × (isOutcome 1 (v .reply .answer) ≡ true) × (v .next .holder .0 ≡ requesterOf c)))
+visit-gives (keeping s) = inl s
+visit-gives (asking (negative p q)) = inl refl
+visit-gives (asking (registration p q h)) = inr (inr (rw (p, q) refl, refl, refl))
+visit-gives (asking (erasure p q h m)) = inr (inl refl)
+visit-gives (asking (own p q h m w)) = inr (inl refl)
+visit-gives (asking (forced p q h m x y z)) = inr (inl refl)
 
 module _ (list : List ℕ) (k : ℕ) (h : Msisdn) (held : isNobody h ≡ false) where
   -- h holds the number still, or an erasure has ended her hold
@@ -146,24 +157,18 @@ module _ (list : List ℕ) (k : ℕ) where
       (λ (f, a, m). inr (record { place = 0; entry = (c, v .reply); stands = refl; passes = rw (n, m true (λ x. refl), a) refl }))
       (visit-ends list k h held (holding d) n e)
 
-  -- whoever holds what was free has registered it on the way
-  begun-along : {o p : Option Record} {l : List (Call × Reply)} → Along list k o l p → holderIn o ≡ nobody → (holderIn p ≡ nobody) ⊎ Stood (beginsHold list k) l
-  begun-along ends e = inl e
-  begun-along (passes {c = c} {a = a} n rest) e = ⊎-elim inl (λ s. inr (further (c, a) s)) (begun-along rest e)
-  begun-along (visits {c = c} {v = v} n d rest) e =
-      ⊎-elim (λ s. ⊎-elim inl (λ x. inr (further (c, v .reply) x)) (begun-along rest s))
-      (λ (m, a, q). inr (record { place = 0; entry = (c, v .reply); stands = refl; passes = rw (n, m, a) refl })) (visit-begins (holding d) e)
-
--- a crew that goes is answered 11 or 12
-goes-changes : (list : List ℕ) (delay : ℕ) (requester : Msisdn) (scheme : ℕ) (string reply : List ℕ) (g : Goes list requester scheme string reply) (t : List ℕ)
-    → tableSound t ≡ true → mayChange ((call list delay (request requester scheme string reply) t) .0 .answer) ≡ true
-goes-changes list delay requester scheme string reply g t sound =
-    ap (λ o. mayChange (o .answer)) (goes-walks list requester scheme string reply g t sound) ∙ by-operation (g .fields .operation)
-  where
-    by-operation : (o : Operation) → mayChange (outcome (crewNumber o) (octetCount (crewReply (crewNumber o) (walk list requester scheme string reply g t)))) ≡ true
-    by-operation Register = refl
-    by-operation Erase = refl
-    by-operation Interrogate = refl
+  -- whoever holds it now and did not has registered it on the way
+  begun-along : (m : Msisdn) → isNobody m ≡ false → {o p : Option Record} {l : List (Call × Reply)} → Along list k o l p
+      → (holderIn o .0 ≡ m .0 → ⊥) → holderIn p .0 ≡ m .0 → Stood (beginsHold list m k) l
+  begun-along m some-one ends before after = absurd (before after)
+  begun-along m some-one (passes {c = c} {a = a} n rest) before after = further (c, a) (begun-along m some-one rest before after)
+  begun-along m some-one (visits {c = c} {v = v} n d rest) before after =
+      ⊎-elim
+      (λ now. ⊎-elim (λ s. absurd (before (sym (ap word s) ∙ now)))
+      (λ x. ⊎-elim (λ z. no-path (sym some-one ∙ eq-eqb (m .0) 0 (sym now ∙ ap word z)))
+      (λ (r, a, q). record { place = 0; entry = (c, v .reply); stands = refl; passes = rw (n, r, a) (eq-eqb (requesterOf c) (m .0) (sym q ∙ now)) }) x)
+      (visit-gives (holding d)))
+      (λ other. further (c, v .reply) (begun-along m some-one rest other after)) (same-or-not (v .next .holder .0) (m .0))
 
 -- ---- the driver, over one call that is its own step
 
@@ -213,7 +218,8 @@ module _ (list : List ℕ) (delay k : ℕ) (c : Call) (table : List ℕ) where
           ap word (kept-once (once (ap codesOf (sym p) ∙ alone)) (inr (or-neither (isOutcome 1 (got .answer)) (isOutcome 2 (got .answer)) (none .0))))
       by-view (stops d r f s) p sound = ap (λ x. holderOf (x .1) k) (ap (λ q. call list delay q table) (sym p) ∙ f table sound)
       by-view (goes {requester = requester} {scheme = scheme} {string = string} {reply = reply} g s) p sound =
-          no-path (sym (ap (λ q. mayChange ((call list delay q table) .0 .answer)) p ∙ e) ∙ goes-changes list delay requester scheme string reply g table sound)
+          no-path (sym (ap (λ q. mayChange ((call list delay q table) .0 .answer)) p ∙ e)
+          ∙ or-right (isOutcome 1 (call list delay (request requester scheme string reply) table .0 .answer) || isOutcome 2 (call list delay (request requester scheme string reply) table .0 .answer)) (isCrewOutcome (call list delay (request requester scheme string reply) table .0 .answer)) (goes-answered list requester scheme string reply g table sound))
 
       by-table : (b : Bool) → tableSound table ≡ b → holderOf after k ≡ holderOf table k
       by-table true sound = by-view (view list delay c) refl sound
@@ -236,10 +242,10 @@ module _ (list : List ℕ) (delay k : ℕ) (calls : List Call) (table : List ℕ
   hold-ends-by-a-step h held e gone =
       ⊎-elim (λ s. absurd (gone (ap word s))) (λ s. s) (ended-along list k h held seen (one-msisdn (holderIn (recordOf table k)) h e))
 
-  -- if k is free before them and not after them, one of their steps is a registration, answered 01
-  pub hold-begins-by-a-step : holderOf table k ≡ 0 → (holderOf (end (call list delay) calls table) k ≡ 0 → ⊥) → Stood (beginsHold list k) stepsGot
-  hold-begins-by-a-step e gone =
-      ⊎-elim (λ s. absurd (gone (ap word s))) (λ s. s) (begun-along list k seen (one-msisdn (holderIn (recordOf table k)) nobody e))
+  -- if m holds k after them and did not before, one of their steps is her own registration, answered 01, in a crew's request too
+  pub hold-begins-by-a-step : (m : Msisdn) → isNobody m ≡ false → (holderOf table k ≡ m .0 → ⊥) → holderOf (end (call list delay) calls table) k ≡ m .0
+      → Stood (beginsHold list m k) stepsGot
+  hold-begins-by-a-step m some-one before after = begun-along list k m some-one seen before after
 
   -- with no such erasure among their steps, h holds k at the end
   pub holds-to-the-end : (h : Msisdn) → isNobody h ≡ false → holderOf table k ≡ h .0 → never (endsHold list h k) stepsGot ≡ true

@@ -17,13 +17,14 @@ use Rattle.tables.specs.declared.Found.{Found}
 use Rattle.tables.specs.declared.Found.the-variants.{At, Nothing}
 use Rattle.tables.specs.Tables.{tableSound, rowOf, recordOf, flagsOf}
 use Rattle.rules.specs.Answers.{refusal, error, Outcome, made, isNegativeNumber, refusing}
-use Rattle.rules.specs.Requests.{saying, refusalChecks, rightChecks, stepChecks, Stepping, tells, staying, carriedOut, carriedOutAt, step, negative, answered, replying, askingBy}
+use Rattle.rules.specs.Requests.{saying, refusalChecks, rightChecks, stepChecks, Stepping, tells, staying, carriedOut, carriedOutAt, step, negative, answered, replying, once, askingBy, requestingBy}
 use Rattle.rules.specs.Crews.{crewCodes, crewNumber, Walk, walked, setOut, crewOutcome, carriedOutFor, requesting}
+use Rattle.rules.proofs.Once.{requestingOnce}
 
 module _ (t reply : List ℕ) (P : Outcome → Type 0) (refused : (n : ℕ) → P (made (refusal n) t reply)) (erred : (n : ℕ) → P (made (error n) t reply))
     (denied : (n : ℕ) → n < 100 → isNegativeNumber n ≡ true → P (saying n t reply))
     (registered : (new : List ℕ) → P (saying 1 new reply)) (erased : (new : List ℕ) → P (saying 2 new reply))
-    (told : (msisdn : ℕ) → P (answered reply (tells msisdn) t)) (crew : (o : Operation) (w : Walk) → P (crewOutcome (crewNumber o) reply w)) where
+    (told : (msisdn : ℕ) → P (answered reply (tells msisdn) t)) where
   abbrev Replied : Stepping → Type 0
   Replied s = P (replying reply s)
 
@@ -51,20 +52,28 @@ module _ (t reply : List ℕ) (P : Outcome → Type 0) (refused : (n : ℕ) → 
       )
       (done-at-each f (rowOf t (f .number .0)) requester)
 
-  carried-each : (requester : Msisdn) (f : Request) (codes : Option (List ℕ)) → P (carriedOutFor t reply requester f codes)
-  carried-each requester f none = step-each requester f
-  carried-each requester f (some codes) = crew (f .operation) (walked requester f (crewCodes codes) (setOut t))
+  asking-each : (done : Request → Outcome) → ((f : Request) → P (done f)) → (flags : ℕ) (read : Option Request) → P (askingBy done t flags reply read)
+  asking-each done all flags none = erred 36
+  asking-each done all flags (some f) =
+      decide-each P (map (negative t reply) (rightChecks flags (f .erasing))) (done f) (denied 42 (omega arith) refl, (denied 22 (omega arith) refl, tt)) (all f)
 
-  asking-each : (flags : ℕ) (requester : Msisdn) (read : Option Request)
-      → P (askingBy (λ f. carriedOutFor t reply requester f (crewOf (f .additional))) t flags reply read)
-  asking-each flags requester none = erred 36
-  asking-each flags requester (some f) =
-      decide-each P (map (negative t reply) (rightChecks flags (f .erasing))) _ (denied 42 (omega arith) refl, (denied 22 (omega arith) refl, tt))
-      (carried-each requester f (crewOf (f .additional)))
-
-  pub request-each : (list : List ℕ) (requester : Msisdn) (scheme : ℕ) (string : List ℕ) → P (requesting t list reply requester scheme string)
-  unfolding requesting
-  request-each list requester scheme string =
+  by-each : (done : Request → Outcome) → ((f : Request) → P (done f)) → (list : List ℕ) (requester : Msisdn) (scheme : ℕ) (string : List ℕ)
+      → P (requestingBy done t list reply requester scheme string)
+  by-each done all list requester scheme string =
       decide-each P (refusing t reply (refusalChecks (tableSound t) list reply requester scheme string)) _
-      (refused 1, (refused 8, (refused 2, (erred 35, (erred 71, (erred 35, (erred 36, tt)))))))
-      (asking-each (flagsOf list (requester .0)) requester (requestOf string))
+      (refused 1, (refused 8, (refused 2, (erred 35, (erred 71, (erred 35, (erred 36, tt))))))) (asking-each done all (flagsOf list (requester .0)) (requestOf string))
+
+  -- of a single request
+  pub once-each : (list : List ℕ) (requester : Msisdn) (scheme : ℕ) (string : List ℕ) → P (requestingOnce t list reply requester scheme string)
+  unfolding requestingOnce
+  once-each list requester scheme string = by-each (once t reply requester) (step-each requester) list requester scheme string
+
+  -- of any request, a crew's too
+  module _ (crew : (o : Operation) (w : Walk) → P (crewOutcome (crewNumber o) reply w)) where
+    carried-each : (requester : Msisdn) (f : Request) (codes : Option (List ℕ)) → P (carriedOutFor t reply requester f codes)
+    carried-each requester f none = step-each requester f
+    carried-each requester f (some codes) = crew (f .operation) (walked requester f (crewCodes codes) (setOut t))
+
+    pub request-each : (list : List ℕ) (requester : Msisdn) (scheme : ℕ) (string : List ℕ) → P (requesting t list reply requester scheme string)
+    unfolding requesting
+    request-each list requester scheme string = by-each _ (λ f. carried-each requester f (crewOf (f .additional))) list requester scheme string

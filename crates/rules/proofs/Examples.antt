@@ -1,16 +1,16 @@
--- Document 01, "Examples": P1 to P15, of the rules, computed from octets and words, as one list under one statement. Assumes nothing.
+-- Document 01, "Examples": P1 to P15, and document 02's M-100, of the rules, computed from octets and words, as one list under one statement. Assumes nothing.
 use mathlib.Core.Path.{_≡_, refl}
 use mathlib.Core.Bool.{Bool, true}
 use mathlib.Core.List.{List, [], _∷_, _++_, map}
-use Prim.Native.Nat.{ℕ}
+use Prim.Native.Nat.{ℕ, _+_, _-_}
 use lib.ListN.{replicate}
 use Rattle.answers.specs.Begins.{begins}
-use Rattle.answers.specs.Leading.{leading}
+use Rattle.answers.specs.Leading.{each, leading}
 use Rattle.answers.specs.Ascii.{ascii}
 use Rattle.answers.specs.Writing.{over}
 use Rattle.packing.specs.Packing.{valueOf, digits, octetsFor, charsIn, padded, packed, characters, readable, filled, kept, unpacked}
 use Rattle.numbers.specs.Numbers.{isDigit, pushed, storedForm, isNumber, digitsUpTo, digitsOf, leadingNumber}
-use Rattle.crews.specs.Crews.{crewOf, countOf}
+use Rattle.crews.specs.Crews.{isCode, isIn, distinct, codesSound, codesIn, codesAt, soundCodesAt, spacedCodesAt, countedCodesAt, crewOf, countOf}
 use Rattle.strings.specs.Text.{isAdditional, textOf, noticeFields}
 use Rattle.strings.specs.Reader.{operationAt, serviceAt, numberFieldAt, forcedAt, erasingAt, additionalAt, fieldsOf}
 use Rattle.strings.specs.Outcomes.{requestOf}
@@ -162,3 +162,48 @@ pub p1-to-p15 : All examples
 unfolding countOf crewOf valueOf digits octetsFor charsIn padded packed characters readable filled kept unpacked isDigit pushed storedForm isNumber digitsUpTo digitsOf leading leadingNumber isAdditional textOf noticeFields begins operationAt serviceAt numberFieldAt forcedAt erasingAt additionalAt fieldsOf requestOf elapsed delayOf delayAllowed rows.noticeBy rows.rowSound rows.noticeOf rows.recordAt rows.stored placeOf tableSound rowOf recordOf listSound flagsOf requests.step crews.requesting notices.sendingNotice notices.takingResult
 p1-to-p15 =
     refl and refl and refl and refl and refl and refl and refl and refl and refl and refl and refl and refl and refl and refl and refl and refl and done
+
+-- ---- document 02, M-100
+
+-- the row of the number with the code in F's root, held by a subscriber
+abbrev pub member : ℕ → ℕ → List ℕ
+member code msisdn = (F - 1 + code) ∷ msisdn ∷ 0 ∷ 0 ∷ 0 ∷ 0 ∷ []
+
+-- a registration, and an erasure, of F with an additional field
+abbrev pub registersCrew : List ℕ → List ℕ
+registersCrew field = ascii "**214*0492123401***" ++ field ++ ascii "#"
+
+abbrev pub erasesCrew : List ℕ → List ℕ
+erasesCrew field = ascii "##214*0492123401***" ++ field ++ ascii "#"
+
+abbrev pub tenRows : ℕ → List ℕ
+tenRows msisdn =
+    member 1 msisdn ++ member 2 msisdn ++ member 3 msisdn ++ member 4 msisdn ++ member 5 msisdn
+    ++ member 6 msisdn ++ member 7 msisdn ++ member 8 msisdn ++ member 9 msisdn ++ member 10 msisdn
+
+abbrev pub crewExamples : List Example
+crewExamples =
+    -- `11 2 0102 0`
+    answers 100 (member 1 0 ++ member 2 0) (gets (asks A (registersCrew (ascii "BULK1 02"))) (outcome 11 10) (0xB1 ∷ 0x18 ∷ 0x48 ∷ 0x06 ∷ 0x82 ∷ 0xC5 ∷ 0x60 ∷ 0x32 ∷ 0x10 ∷ 0x0C ∷ []) ∷ []) (member 1 A ++ member 2 A)
+    -- one held by another, one unknown: `11 1 01 2 0203`
+    ∷ answers 100 (member 1 0 ++ member 2 B) (gets (asks A (registersCrew (ascii "BULK2 0203"))) (outcome 11 13) (0xB1 ∷ 0x18 ∷ 0x28 ∷ 0x06 ∷ 0x82 ∷ 0xC5 ∷ 0x40 ∷ 0x32 ∷ 0x10 ∷ 0x4C ∷ 0x06 ∷ 0x9B ∷ 0x01 ∷ []) ∷ []) (member 1 A ++ member 2 B)
+    -- none: `11 0 2 0102`
+    ∷ answers 100 (member 1 B ++ member 2 B) (gets (asks A (registersCrew (ascii "BULK1 02"))) (outcome 11 10) (0xB1 ∷ 0x18 ∷ 0x08 ∷ 0x06 ∷ 0x92 ∷ 0x81 ∷ 0x60 ∷ 0x31 ∷ 0x98 ∷ 0x0C ∷ []) ∷ []) (member 1 B ++ member 2 B)
+    -- ten: `11 10 01020304050607080910 0`
+    ∷ answers 100 (tenRows 0)
+    (gets (asks A (registersCrew (ascii "BULK9 020304050607080910"))) (outcome 11 25)
+    (0xB1 ∷ 0x18 ∷ 0x28 ∷ 0x06 ∷ 0x03 ∷ 0xC1 ∷ 0x62 ∷ 0x30 ∷ 0x19 ∷ 0x6C ∷ 0x06 ∷ 0xA3 ∷ 0xC1 ∷ 0x6A ∷ 0x30 ∷ 0x1B ∷ 0xEC ∷ 0x06 ∷ 0xC3 ∷ 0xC1 ∷ 0x72 ∷ 0x31 ∷ 0x18 ∷ 0x08 ∷ 0x06 ∷ []) ∷ []) (tenRows A)
+    -- the lead alone: `11 1 01 0`; then a crew of which she holds half, erased: `12 1 01 1 02`
+    ∷ answers 100 (member 1 0 ++ member 2 B)
+    (gets (asks A (registersCrew (ascii "BULK0"))) (outcome 11 8) (0xB1 ∷ 0x18 ∷ 0x28 ∷ 0x06 ∷ 0x82 ∷ 0xC5 ∷ 0x40 ∷ 0x30 ∷ [])
+    ∷ gets (asks A (erasesCrew (ascii "BULK1 02"))) (outcome 12 11) (0x31 ∷ 0x19 ∷ 0x28 ∷ 0x06 ∷ 0x82 ∷ 0xC5 ∷ 0x40 ∷ 0x31 ∷ 0x10 ∷ 0x4C ∷ 0x06 ∷ [])
+    ∷ [])
+    (member 1 0 ++ member 2 B)
+    -- 42 before any step; 36 for a field that breaks its rules, before 42
+    ∷ answers 100 free
+    (says (asks C (registersCrew (ascii "BULK0"))) 42 (0x34 ∷ 0x19 ∷ []) ∷ gets (asks C (registersCrew (ascii "BULKY GOODS"))) (error 36) [] ∷ []) free
+    ∷ []
+
+pub m-100 : All crewExamples
+unfolding countOf crewOf countedCodesAt spacedCodesAt soundCodesAt codesAt codesIn codesSound isCode isIn distinct each crews.withCode crews.walked valueOf digits octetsFor charsIn padded packed characters readable filled kept unpacked isDigit pushed storedForm isNumber digitsUpTo digitsOf leading leadingNumber isAdditional textOf noticeFields begins operationAt serviceAt numberFieldAt forcedAt erasingAt additionalAt fieldsOf requestOf elapsed delayOf delayAllowed rows.noticeBy rows.rowSound rows.noticeOf rows.recordAt rows.stored placeOf tableSound rowOf recordOf listSound flagsOf requests.step crews.requesting notices.sendingNotice notices.takingResult
+m-100 = refl and refl and refl and refl and refl and refl and done

@@ -1,5 +1,6 @@
 -- The theorems about the rules. `Once`: calls whose requests are single. `Visits`: the second form equals the first. `Each`: a request's answers. `Sound`: a call keeps a sound table sound, and what it does to the records. `Rearrange`, `Alone`: what follows for any local step. `Local`: calls are local. `Holder`: who holds a number. `Demand`, `Demand1`: demands 3 and 1. `Finding`: the lowest due number. `Examples`: P1 to P15. `Along`: a list of calls seen from one number. `NoticeEnds`, `Driver`, `Controller`, `Told`: the users' theorems.
 pub mod Once
+pub mod Single
 pub mod Unsound
 pub mod Visits
 pub mod Each
@@ -11,6 +12,7 @@ pub mod Local
 pub mod Crews
 pub mod Steps
 pub mod Calls
+pub mod Members
 pub mod Singles
 pub mod Holder
 pub mod Demand

@@ -29,7 +29,7 @@ use Rattle.rules.specs.Visits.{Visited}
 use Rattle.rules.specs.Pending.{noticeFor, never, holdsAt, isSendingOf, isResultOf, sendingDone, resultTaken, ResultBetween, noticeCleared}
 use Rattle.rules.proofs.Once.{single}
 use Rattle.rules.proofs.Visits.{found-sound}
-use Rattle.rules.proofs.Steps.{call-single, singles-log}
+use Rattle.rules.proofs.Single.{call-single, singles-log}
 use Rattle.rules.proofs.Calls.{all-steps-single, singly-end, calls-keep}
 use Rattle.rules.proofs.Along.{Asked, negative, registration, erasure, own, forced, Does, asks, unsent, sends, untaken, clears, goes-on, delivers, drops, Passed, unnamed, missing, refused, Along, ends, passes, visits, along, never-first}
 

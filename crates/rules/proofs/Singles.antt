@@ -1,54 +1,118 @@
 -- "the table afterwards equals theirs": a crew's request leaves the table that its single requests leave, asked one after the other, and has a code among the successes exactly if its single request was answered 01 or 02. Assumes nothing.
-use mathlib.Core.Path.{_≡_, sym, ap, _∙_}
-use mathlib.Core.Bool.{true, false, not}
+use mathlib.Core.Path.{_≡_, refl, sym, ap, _∙_}
+use mathlib.Core.Bool.{Bool, true, false, not}
 use mathlib.Core.Option.{some}
-use mathlib.Core.List.{List}
-use Prim.Native.Nat.{ℕ}
+use mathlib.Core.List.{List, [], _∷_, map}
+use Prim.Native.Nat.{ℕ, _<_}
+use native.Mathlib.Omega.{arith}
 use Rattle.answers.specs.Checks.{anyHolds}
+use Rattle.packing.specs.Packing.{packed, unpacked}
+use Rattle.numbers.specs.declared.FunctionalNumber.{FunctionalNumber}
 use Rattle.numbers.specs.declared.Msisdn.{Msisdn}
 use Rattle.crews.specs.Crews.{crewOf}
-use Rattle.strings.specs.Text.{Request}
+use Rattle.strings.specs.declared.Erasing.the-variants.{Empty}
+use Rattle.strings.specs.Text.{Request, requestSound, textOf}
 use Rattle.strings.specs.Outcomes.{requestOf}
+use Rattle.strings.proofs.ReadBack.{read-only}
+use Rattle.strings.proofs.Octets.{request-reads}
 use Rattle.tables.specs.Tables.{tableSound, flagsOf}
 use Rattle.rules.specs.Requests.{hasFollowMe, refusalChecks}
-use Rattle.rules.specs.Crews.{crewCodes, crewNumber, Walk, crewOutcome}
+use Rattle.rules.specs.Crews.{withCode, memberOf, crewCodes, crewNumber, Walk, crewOutcome, carriedOutFor, requesting}
 use Rattle.rules.specs.Run.{end, log}
-use Rattle.rules.specs.Calls.{Call, replied, call}
-use Rattle.rules.specs.Singles.{succeeds, codesWhere, singleRequests, AsSingles, Roomy}
+use Rattle.rules.specs.Calls.{Call, request, replied, call}
+use Rattle.rules.specs.Singles.{succeeds, codesWhere, replaced, plainly, singleRequests, AsSingles, Roomy}
 use Rattle.rules.proofs.Once.{single}
-use Rattle.rules.proofs.Steps.{singles-end, singles-log, Goes, goes-walks, walk, singly-single, singly-walks}
+use Rattle.rules.proofs.Single.{AllSingle, singles-end, singles-log}
+use Rattle.rules.proofs.Visits.{by-asks}
+use Rattle.rules.proofs.Members.{replaced-code}
+use Rattle.rules.proofs.Crews.{Small, Shared, members-single, members-stay}
+use Rattle.rules.proofs.Steps.{crew-plain, lead-number, Goes, goes-walks, walk, singly-walks, passed-shared, codes-small}
 
 same-walk : (w v : Walk) → w .successes ≡ v .successes → w .failures ≡ v .failures → w .table ≡ v .table → w ≡ v
 same-walk w v p q r = λ i. record { successes = p i; failures = q i; table = r i }
 
--- of one that no check stops, with any buffers that have room
+-- of one that no refusal and no error stops, with any buffers that have room
 module _ (list : List ℕ) (delay : ℕ) (requester : Msisdn) (scheme : ℕ) (string reply : List ℕ) (f : Request) (codes table : List ℕ)
     (sound : tableSound table ≡ true) (reads : requestOf string ≡ some f) (crew : crewOf (f .additional) ≡ some codes)
-    (passed : anyHolds (refusalChecks true list reply requester scheme string) ≡ false) (right : hasFollowMe (flagsOf list (requester .0)) ≡ true)
-    (buffers : ℕ → List ℕ) (roomy : Roomy buffers) where
-  abbrev g : Goes list requester scheme string reply
-  g = record { fields = f; codes = codes; reads = reads; crew = crew; passed = passed; right = right }
+    (passed : anyHolds (refusalChecks true list reply requester scheme string) ≡ false) (buffers : ℕ → List ℕ) (roomy : Roomy buffers) where
+  shared : Shared list requester scheme f
+  shared = passed-shared list requester scheme string reply f codes reads crew passed
+
+  small : Small (crewCodes codes)
+  small = codes-small f codes crew
+
+  -- ---- the same single requests
+
+  abbrev one : ℕ → Call
+  one code = request requester scheme (packed (textOf (memberOf f code))) (buffers code)
 
   abbrev singles : List Call
   singles = singleRequests list delay requester scheme string reply f codes table buffers
 
-  same-end : end (single list delay) singles table ≡ end (call list delay) singles table
-  same-end = sym (singles-end list delay singles table (singly-single list delay requester scheme string reply g buffers roomy))
+  member-is : (number : FunctionalNumber) (code : ℕ) → number ≡ record { 0 = withCode (f .number .0) code } → plainly (f .operation) number ≡ memberOf f code
+  member-is number code e = rw (e, shared .plain) refl
 
-  same-log : log (single list delay) singles table ≡ log (call list delay) singles table
-  same-log = sym (singles-log list delay singles table (singly-single list delay requester scheme string reply g buffers roomy))
+  others-are : (cs : List ℕ) → Small cs
+      → map (λ code. request requester scheme (packed (textOf (plainly (f .operation) (replaced (f .number) code)))) (buffers code)) cs ≡ map one cs
+  others-are [] s = refl
+  others-are (code ∷ cs) (c, s) =
+      let same = member-is (replaced (f .number) code) code (replaced-code (f .number .0) code (shared .lead) c) in
+      λ i. request requester scheme (packed (textOf (same i))) (buffers code) ∷ others-are cs s i
 
-  walked-so : walk list requester scheme string reply g table ≡ record {
-    successes = codesWhere succeeds (crewCodes codes) (log (call list delay) singles table);
-    failures = codesWhere (λ a. not (succeeds a)) (crewCodes codes) (log (call list delay) singles table);
-    table = end (call list delay) singles table;
-  }
-  walked-so =
-      let w = singly-walks list delay requester scheme string reply g buffers roomy table sound in
-      same-walk _ _ (w .successes ∙ ap (codesWhere succeeds (crewCodes codes)) same-log)
-      (w .failures ∙ ap (codesWhere (λ a. not (succeeds a)) (crewCodes codes)) same-log) (w .table ∙ same-end)
+  same-singles : singles ≡ map one (crewCodes codes)
+  same-singles =
+      let sound-fields = read-only (unpacked string) (request-reads string reads .1) .0 in
+      let lead = member-is (f .number) 1 (ap (λ n. record { 0 = n }) (sym (lead-number f sound-fields crew))) in
+      λ i. request requester scheme (packed (textOf (lead i))) (buffers 1) ∷ others-are codes (small .1) i
+
+  single-all : AllSingle (map one (crewCodes codes))
+  single-all = members-single list delay requester scheme f shared buffers roomy (crewCodes codes) small
+
+  same-end : end (single list delay) (map one (crewCodes codes)) table ≡ end (call list delay) singles table
+  same-end =
+      sym (singles-end list delay (map one (crewCodes codes)) table single-all) ∙ ap (λ cs. end (call list delay) cs table) (sym same-singles)
+
+  same-log : log (single list delay) (map one (crewCodes codes)) table ≡ log (call list delay) singles table
+  same-log =
+      sym (singles-log list delay (map one (crewCodes codes)) table single-all) ∙ ap (λ cs. log (call list delay) cs table) (sym same-singles)
+
+  -- ---- 11 or 12
+
+  module _ (right : hasFollowMe (flagsOf list (requester .0)) ≡ true) where
+    abbrev g : Goes list requester scheme string reply
+    g = record { fields = f; codes = codes; reads = reads; crew = crew; passed = passed; right = right }
+
+    walked-so : walk list requester scheme string reply g table ≡ record {
+      successes = codesWhere succeeds (crewCodes codes) (log (call list delay) singles table);
+      failures = codesWhere (λ a. not (succeeds a)) (crewCodes codes) (log (call list delay) singles table);
+      table = end (call list delay) singles table;
+    }
+    walked-so =
+        let w = singly-walks list delay requester scheme string reply g buffers roomy table sound in
+        same-walk _ _ (w .successes ∙ ap (codesWhere succeeds (crewCodes codes)) same-log)
+        (w .failures ∙ ap (codesWhere (λ a. not (succeeds a)) (crewCodes codes)) same-log) (w .table ∙ same-end)
+
+    goes : call list delay (request requester scheme string reply) table
+        ≡ replied (crewOutcome (crewNumber (f .operation)) reply (record {
+          successes = codesWhere succeeds (crewCodes codes) (log (call list delay) singles table);
+          failures = codesWhere (λ a. not (succeeds a)) (crewCodes codes) (log (call list delay) singles table);
+          table = end (call list delay) singles table;
+        }))
+    goes = ap replied (goes-walks list requester scheme string reply g table sound ∙ ap (crewOutcome (crewNumber (f .operation)) reply) walked-so)
+
+  -- ---- 42
+
+  stays : hasFollowMe (flagsOf list (requester .0)) ≡ false → call list delay (request requester scheme string reply) table .1 ≡ table
+  unfolding requesting
+  stays none =
+      ap (λ o. replied o .1) (by-asks list reply requester scheme string table sound (λ h. carriedOutFor table reply requester h (crewOf (h .additional))) f passed reads)
+      ∙ rw none refl
 
   pub crew-as-singles : AsSingles list delay requester scheme string reply f codes table buffers
-  crew-as-singles =
-      let all = ap replied (goes-walks list requester scheme string reply g table sound ∙ ap (crewOutcome (crewNumber (f .operation)) reply) walked-so) in
-      record { table-after = ap (λ r. r .1) all; reply-after = all }
+  crew-as-singles = record { table-after = by-right (hasFollowMe (flagsOf list (requester .0))) refl; reply-after = goes }
+    where
+      by-right : (b : Bool) → hasFollowMe (flagsOf list (requester .0)) ≡ b
+          → call list delay (request requester scheme string reply) table .1 ≡ end (call list delay) singles table
+      by-right true right = ap (λ r. r .1) (goes right)
+      by-right false none =
+          stays none ∙ sym (members-stay list delay requester scheme f shared buffers roomy none (crewCodes codes) small table sound) ∙ same-end

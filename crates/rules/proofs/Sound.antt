@@ -17,7 +17,7 @@ use Rattle.strings.specs.declared.Operation.{Operation}
 use Rattle.strings.specs.declared.Operation.the-variants.{Register, Erase, Interrogate}
 use Rattle.strings.specs.declared.Erasing.{Erasing}
 use Rattle.strings.specs.declared.Erasing.the-variants.{Empty, Forced}
-use Rattle.strings.specs.Text.{Request}
+use Rattle.strings.specs.Text.{Request, erasingSound}
 use Rattle.strings.specs.Outcomes.{requestOf}
 use Rattle.records.specs.declared.Record.{Record}
 use Rattle.records.specs.declared.Step.{Step}
@@ -37,12 +37,13 @@ use Rattle.tables.specs.declared.Found.the-variants.{At, Nothing}
 use Rattle.tables.specs.Tables.{tableSound, rowOf, recordFound, recordOf, rowsIn, flagsOf}
 use Rattle.tables.proofs.Stored.{row-found, own-record, other-record, table-stored}
 use Rattle.rules.specs.Answers.{refusal, bufferRoom}
+use Rattle.rules.specs.Requests as requests
 use Rattle.rules.specs.Requests.{rightChecks}
 use Rattle.rules.specs.Run.{end}
 use Rattle.rules.specs.Calls.{Call, request, sending, result, Reply, clockReading, nameOf, isNamed, namesOne}
-use Rattle.rules.specs.Visits.{Visited, visited, visitSaying, stepped, holderAnswered, decides, decided, sentStep, resultStep, visitRequest, visit, missed}
+use Rattle.rules.specs.Visits.{Visited, visited, visitSaying, stepped, holderAnswered, stepAt, tellAt, decidesAt, decides, decided, sentStep, resultStep, visitRequest, visit, missed}
 use Rattle.rules.proofs.Once.{single}
-use Rattle.rules.proofs.Visits.{found-sound, requester-number, single-visits, single-misses, single-stops}
+use Rattle.rules.proofs.Visits.{found-sound, step-visits, step-misses, requester-number, single-visits, single-misses, single-stops}
 
 -- ---- a visit leaves a sound record
 
@@ -110,6 +111,32 @@ kept-twice t u v p q = record { sound = q .sound; long = q .long ∙ p .long; nu
 
 kept-stored : (t : List ℕ) (i : ℕ) (r : Record) → tableSound t ≡ true → i < rowsIn t → recordSound r ≡ true → Kept t (stored t i r)
 kept-stored t i r s l q = record { sound = table-stored t i r s l q; long = stored-length t i r; numbers = stored-number t i r }
+
+-- a single step does
+module _ (t : List ℕ) (sound : tableSound t ≡ true) (requester : Msisdn) (one : isNumber (requester .0) ≡ true) where
+  module _ (i : ℕ) (inside : i < rowsIn t) (row : recordSound (recordAt t i) ≡ true) where
+    step-at-keeps : (n : ℕ) (s : Step) → SoundStep s → Kept t (stepAt t i n s .table)
+    step-at-keeps n (step.Stays m) h = kept-same t sound
+    step-at-keeps n (step.Becomes next) h = kept-stored t i next sound inside h
+
+    tell-at-keeps : (h : Holder) → Kept t (tellAt t h .table)
+    tell-at-keeps (holds.Stays m) = kept-same t sound
+    tell-at-keeps (holds.Held msisdn) = kept-same t sound
+
+    decides-at-keeps : (o : Operation) (e : Erasing) (number : FunctionalNumber) → Kept t (decidesAt o e number requester t i .table)
+    decides-at-keeps Register e number = step-at-keeps 1 (steps.registered number requester (recordAt t i)) (registered-sound (recordAt t i) row number requester one)
+    decides-at-keeps Erase Empty number = step-at-keeps 2 (steps.erased requester (recordAt t i)) (erased-sound (recordAt t i) row requester)
+    decides-at-keeps Erase (Forced m) number = step-at-keeps 2 (steps.forced requester m (recordAt t i)) (forced-sound (recordAt t i) row requester m one)
+    decides-at-keeps Interrogate e number = tell-at-keeps (steps.interrogated (recordAt t i))
+
+  pub step-keeps : (f : Request) → erasingSound (f .operation) (f .erasing) ≡ true → Kept t (requests.step t requester f .table)
+  step-keeps f h = placed (rowOf t (f .number .0)) refl
+    where
+      placed : (place : Found) → rowOf t (f .number .0) ≡ place → Kept t (requests.step t requester f .table)
+      placed Nothing e = rw (step-misses t requester f e) (kept-same t sound)
+      placed (At i) e =
+          rw (step-visits t requester f i e h)
+          (decides-at-keeps i (row-found t (f .number .0) i e .0) (record-sound t i (found-sound t (f .number .0) i sound e)) (f .operation) (f .erasing) (f .number))
 
 -- the row of a record that the table has, and that there is none for one that it does not have
 record-place : (t : List ℕ) (k : ℕ) (r : Record) → recordOf t k ≡ some r → (i : ℕ) × (rowOf t k ≡ At i) × (recordAt t i ≡ r)

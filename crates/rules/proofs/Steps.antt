@@ -33,45 +33,30 @@ use Rattle.rules.specs.Answers.{Answer, Outcome, bufferRoom}
 use Rattle.rules.specs.Requests.{isForced, hasFollowMe, refusalChecks, rightChecks, negative, once, saying}
 use Rattle.rules.specs.Crews.{withCode, memberOf, crewCodes, crewNumber, Walk, walked, setOut, crewOutcome, carriedOutFor, requesting}
 use Rattle.rules.specs.Run.{end, log}
-use Rattle.rules.specs.Calls.{Call, request, sending, result, Reply, replied, call, codesRead, codesOf, namesOne, singleCalls, stepsOf}
+use Rattle.rules.specs.Calls.{Call, request, sending, result, Reply, replied, call, codesRead, codesOf, namesOne, singleCalls, stepsOf, steps}
 use Rattle.rules.specs.Singles.{Roomy}
+use Rattle.rules.specs.Demand.{isCrewOutcome}
 use Rattle.rules.proofs.Once.{requestingOnce, single}
 use Rattle.rules.proofs.Visits.{by-stops, by-asks}
-use Rattle.rules.proofs.Crews.{Small, Shared, member-reads, member-named, Walks, walks}
+use Rattle.rules.proofs.Crews.{Small, Shared, member-named, members-single, Walks, walks}
+use Rattle.rules.proofs.Single.{AllSingle}
 use Rattle.rules.proofs.Runs.{anyNames}
 
--- ---- a call that is no crew's is a single one
-
-once-for : (t reply : List ℕ) (requester : Msisdn) (f : Request) → crewOf (f .additional) ≡ none
-    → carriedOutFor t reply requester f (crewOf (f .additional)) ≡ once t reply requester f
-once-for t reply requester f e = ap (carriedOutFor t reply requester f) e
-
-pub call-single : (list : List ℕ) (delay : ℕ) (c : Call) (t : List ℕ) → codesOf c ≡ none → call list delay c t ≡ single list delay c t
-unfolding requesting requestingOnce
-call-single list delay (request requester scheme string reply) t e = go (requestOf string) refl e
+-- its own step
+pub own-step : (list : List ℕ) (c : Call) → codesOf c ≡ none → stepsOf list c ≡ c ∷ []
+own-step list (request requester scheme string reply) e = go (requestOf string) refl e
   where
     go : (read : Option Request) → requestOf string ≡ read → codesRead read ≡ none
-        → call list delay (request requester scheme string reply) t ≡ single list delay (request requester scheme string reply) t
+        → stepsOf list (request requester scheme string reply) ≡ request requester scheme string reply ∷ []
     go none r e = rw r refl
     go (some f) r e = rw (r, e) refl
-call-single list delay (sending now number buffer) t e = refl
-call-single list delay (result now number kind) t e = refl
+own-step list (sending now number buffer) e = refl
+own-step list (result now number kind) e = refl
 
--- a list of such calls
-abbrev pub AllSingle : List Call → Type 0
-AllSingle [] = Unit {0}
-AllSingle (c ∷ cs) = (codesOf c ≡ none) × AllSingle cs
-
-module _ (list : List ℕ) (delay : ℕ) where
-  pub singles-end : (cs : List Call) (t : List ℕ) → AllSingle cs → end (call list delay) cs t ≡ end (single list delay) cs t
-  singles-end [] t a = refl
-  singles-end (c ∷ cs) t (e, a) = ap (λ r. end (call list delay) cs (r .1)) (call-single list delay c t e) ∙ singles-end cs (single list delay c t .1) a
-
-  pub singles-log : (cs : List Call) (t : List ℕ) → AllSingle cs → log (call list delay) cs t ≡ log (single list delay) cs t
-  singles-log [] t a = refl
-  singles-log (c ∷ cs) t (e, a) =
-      ap (λ (r : Reply × List ℕ). (c, r .0) ∷ log (call list delay) cs (r .1)) (call-single list delay c t e)
-      ∙ ap (λ l. (c, single list delay c t .0) ∷ l) (singles-log cs (single list delay c t .1) a)
+-- where no call is a crew's, the single steps are the calls
+pub own-steps : (list : List ℕ) (cs : List Call) → AllSingle cs → steps list cs ≡ cs
+own-steps list [] a = refl
+own-steps list (c ∷ cs) (e, a) = rw (own-step list c e, own-steps list cs a) refl
 
 -- ---- a crew's request
 
@@ -138,33 +123,36 @@ pub record Goes (list : List ℕ) (requester : Msisdn) (scheme : ℕ) (string re
   pub passed : anyHolds (refusalChecks true list reply requester scheme string) ≡ false
   pub right : hasFollowMe (flagsOf list (requester .0)) ≡ true
 
+-- its codes have two digits
+pub codes-small : (f : Request) (codes : List ℕ) → crewOf (f .additional) ≡ some codes → Small (crewCodes codes)
+codes-small f codes crew = (omega arith, small-codes codes (sound-codes codes (crew-only (f .additional) crew .1)))
+
+-- what its single requests share
+pub passed-shared : (list : List ℕ) (requester : Msisdn) (scheme : ℕ) (string reply : List ℕ) (f : Request) (codes : List ℕ) → requestOf string ≡ some f
+    → crewOf (f .additional) ≡ some codes → anyHolds (refusalChecks true list reply requester scheme string) ≡ false → Shared list requester scheme f
+passed-shared list requester scheme string reply f codes reads crew passes =
+    let sound = read-only (unpacked string) (request-reads string reads .1) .0 in
+    let passed = all-pass (refusalChecks true list reply requester scheme string) passes in
+    record {
+      listed = not-false _ (passed .1 .0);
+      number = not-false _ (passed .1 .1 .1 .0);
+      coded = not-false _ (passed .1 .1 .1 .1 .0);
+      plain = crew-plain f sound crew;
+      lead = sound-rules f sound .number;
+    }
+
 module _ (list : List ℕ) (requester : Msisdn) (scheme : ℕ) (string reply : List ℕ) (g : Goes list requester scheme string reply) where
   abbrev read : Request
   read = g .fields
 
-  abbrev checks : List (Bool × Answer)
-  checks = refusalChecks true list reply requester scheme string
-
   pub goes-room : bufferRoom ≤ length reply
-  goes-room = omega (arith, ltb-false (length reply) bufferRoom (all-pass checks (g .passed) .0))
-
-  goes-sound : requestSound read ≡ true
-  goes-sound = read-only (unpacked string) (request-reads string (g .reads) .1) .0
+  goes-room = omega (arith, ltb-false (length reply) bufferRoom (all-pass (refusalChecks true list reply requester scheme string) (g .passed) .0))
 
   pub goes-shared : Shared list requester scheme read
-  goes-shared =
-      let passed = all-pass checks (g .passed) in
-      record {
-        listed = not-false _ (passed .1 .0);
-        number = not-false _ (passed .1 .1 .1 .0);
-        coded = not-false _ (passed .1 .1 .1 .1 .0);
-        right = g .right;
-        plain = crew-plain read goes-sound (g .crew);
-        lead = sound-rules read goes-sound .number;
-      }
+  goes-shared = passed-shared list requester scheme string reply read (g .codes) (g .reads) (g .crew) (g .passed)
 
   pub goes-small : Small (crewCodes (g .codes))
-  goes-small = (omega arith, small-codes (g .codes) (sound-codes (g .codes) (crew-only (read .additional) (g .crew) .1)))
+  goes-small = codes-small read (g .codes) (g .crew)
 
   -- the walk over its single requests
   abbrev pub walk : List ℕ → Walk
@@ -176,6 +164,15 @@ module _ (list : List ℕ) (requester : Msisdn) (scheme : ℕ) (string reply : L
       by-asks list reply requester scheme string t sound (λ h. carriedOutFor t reply requester h (crewOf (h .additional))) read (g .passed) (g .reads)
       ∙ passes-rights t reply (flagsOf list (requester .0)) (read .erasing) _ (g .right) (goes-shared .plain)
       ∙ ap (carriedOutFor t reply requester read) (g .crew)
+
+  -- it is answered 11 or 12
+  pub goes-answered : (t : List ℕ) → tableSound t ≡ true → isCrewOutcome (requesting t list reply requester scheme string .answer) ≡ true
+  goes-answered t sound = ap (λ o. isCrewOutcome (o .answer)) (goes-walks t sound) ∙ by-operation (read .operation)
+    where
+      by-operation : (o : Operation) → isCrewOutcome (crewOutcome (crewNumber o) reply (walk t) .answer) ≡ true
+      by-operation Register = refl
+      by-operation Erase = refl
+      by-operation Interrogate = refl
 
 -- ---- a call by its steps
 
@@ -214,13 +211,13 @@ view list delay (request requester scheme string reply) = by-read (requestOf str
   where
     by-codes : (f : Request) → requestOf string ≡ some f → (codes : Option (List ℕ)) → crewOf (f .additional) ≡ codes
         → View list delay (request requester scheme string reply)
-    by-codes f r none e = own (request requester scheme string reply) (rw (r, e) refl) (rw (r, e) refl)
+    by-codes f r none e = let alone : codesOf (request requester scheme string reply) ≡ none = rw (r, e) refl in own (request requester scheme string reply) alone (own-step list (request requester scheme string reply) alone)
     by-codes f r (some codes) e =
         crew-view list delay requester scheme string reply f codes r e (anyHolds (refusalChecks true list reply requester scheme string))
         (hasFollowMe (flagsOf list (requester .0))) refl refl
 
     by-read : (read : Option Request) → requestOf string ≡ read → View list delay (request requester scheme string reply)
-    by-read none r = own (request requester scheme string reply) (rw r refl) (rw r refl)
+    by-read none r = let alone : codesOf (request requester scheme string reply) ≡ none = rw r refl in own (request requester scheme string reply) alone (own-step list (request requester scheme string reply) alone)
     by-read (some f) r = by-codes f r (crewOf (f .additional)) refl
 view list delay (sending now number buffer) = own (sending now number buffer) refl refl
 view list delay (result now number kind) = own (result now number kind) refl refl
@@ -241,20 +238,12 @@ module _ (list : List ℕ) (delay : ℕ) (requester : Msisdn) (scheme : ℕ) (st
   abbrev pub singly : List Call
   singly = map one (crewCodes (g .codes))
 
-  one-single : (code : ℕ) → code < 100 → codesOf (one code) ≡ none
-  unfolding crewOf begins
-  one-single code c = ap codesRead (member-reads list delay requester scheme (g .fields) shared buffers roomy code c)
-
-  all-single : (codes : List ℕ) → Small codes → AllSingle (map one codes)
-  all-single [] s = tt
-  all-single (code ∷ codes) (c, s) = (one-single code c, all-single codes s)
-
   pub singly-single : AllSingle singly
-  singly-single = all-single (crewCodes (g .codes)) small
+  singly-single = members-single list delay requester scheme (g .fields) shared buffers roomy (crewCodes (g .codes)) small
 
   pub singly-walks : (t : List ℕ) → tableSound t ≡ true
-      → Walks list delay requester scheme (g .fields) shared buffers roomy (crewCodes (g .codes)) (setOut t)
-  singly-walks t sound = walks list delay requester scheme (g .fields) shared buffers roomy (crewCodes (g .codes)) (setOut t) small sound
+      → Walks list delay requester scheme (g .fields) shared buffers roomy (g .right) (crewCodes (g .codes)) (setOut t)
+  singly-walks t sound = walks list delay requester scheme (g .fields) shared buffers roomy (g .right) (crewCodes (g .codes)) (setOut t) small sound
 
   -- the names of the single requests are the crew's
   pub names-in : (codes : List ℕ) (k : ℕ) → Small codes

@@ -23,7 +23,8 @@ use Rattle.rules.specs.Visits.{Visited}
 use Rattle.rules.specs.Pending.{never, holdsOf, sendingDone, noticeCleared}
 use Rattle.rules.specs.Users.{telling}
 use Rattle.rules.proofs.Once.{single}
-use Rattle.rules.proofs.Steps.{call-single, singles-log, forced-alone}
+use Rattle.rules.proofs.Single.{call-single, singles-log}
+use Rattle.rules.proofs.Steps.{forced-alone}
 use Rattle.rules.proofs.Calls.{all-steps-single}
 use Rattle.rules.proofs.Along.{Asked, negative, registration, erasure, own, forced, Does, asks, unsent, sends, untaken, clears, goes-on, Along, ends, passes, visits, along, answered-02, same-one, not-same, never-first}
 use Rattle.rules.proofs.NoticeEnds.{passed-unsent, still-pending}

@@ -42,10 +42,10 @@ use Rattle.tables.proofs.Sound.{table-row}
 use Rattle.tables.proofs.Stored.{row-found}
 use Rattle.rules.specs.Answers.{Answer, refusal, error, delivered, dropped, again, Outcome, made, bufferRoom, refusing}
 use Rattle.rules.specs.Requests as requests
-use Rattle.rules.specs.Requests.{Stepping, comesTo, says, tells}
+use Rattle.rules.specs.Requests.{Stepping, comesTo, says}
 use Rattle.rules.specs.Notices as notices
 use Rattle.rules.specs.Calls.{Call, request, sending, result, replied, clockReading, numberRead, nameOf}
-use Rattle.rules.specs.Visits.{visited, storing, leaving, visitSaying, stepped, holderAnswered, erases, decides, decided, sentStep, resultStep, visitSending, visitResult, visitRequest, visit, replySaying, missedSending, missedResult, missedRequest, missed, stopped}
+use Rattle.rules.specs.Visits.{stepAt, tellAt, decidesAt, visited, storing, leaving, visitSaying, stepped, holderAnswered, erases, decides, decided, sentStep, resultStep, visitSending, visitResult, visitRequest, visit, replySaying, missedSending, missedResult, missedRequest, missed, stopped}
 use Rattle.rules.proofs.Once.{requestingOnce, single}
 
 -- ---- the row of a number in a sound table
@@ -78,21 +78,6 @@ recordChecks Erase (Forced m) number requester r =
     ∷ (not (steps.same (r .holder) requester) && not (steps.isAbsent (r .notice)), 68)
     ∷ []
 recordChecks Interrogate e number requester r = (steps.isNobody (r .holder), 62) ∷ []
-
--- a step where the number is in row i: that row's record decides
-abbrev pub stepAt : List ℕ → ℕ → ℕ → Step → Stepping
-stepAt t i n (step.Stays m) = comesTo (says m) t
-stepAt t i n (step.Becomes next) = comesTo (says n) (stored t i next)
-
-abbrev tellAt : List ℕ → Holder → Stepping
-tellAt t (holds.Stays m) = comesTo (says m) t
-tellAt t (holds.Held msisdn) = comesTo (tells (msisdn .0)) t
-
--- what the record of row i makes of a step, by the operation
-abbrev pub decidesAt : Operation → Erasing → FunctionalNumber → Msisdn → List ℕ → ℕ → Stepping
-decidesAt Register e number requester t i = stepAt t i 1 (steps.registered number requester (recordAt t i))
-decidesAt Erase e number requester t i = stepAt t i 2 (erases e requester (recordAt t i))
-decidesAt Interrogate e number requester t i = tellAt t (steps.interrogated (recordAt t i))
 
 module _ (t : List ℕ) (i : ℕ) (requester : Msisdn) where
   abbrev it : Record

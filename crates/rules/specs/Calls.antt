@@ -99,7 +99,7 @@ names list c k = isIn k (allNamed (nameOf list c) (codesOf c))
 abbrev pub singleCalls : Msisdn → ℕ → List ℕ → Request → List ℕ → List Call
 singleCalls requester scheme reply f codes = map (λ code. request requester scheme (packed (textOf (memberOf f code))) reply) (crewCodes codes)
 
--- a crew's request that is refused, in error or answered 42 has no step; any other call is its own step
+-- a crew's request that is refused, in error or answered 42 has no step, one that goes on has its single requests; a call that is no crew's is its own step
 abbrev pub stepsFor : Call → Bool → Msisdn → ℕ → List ℕ → Request → Option (List ℕ) → List Call
 stepsFor c stops requester scheme reply f none = c ∷ []
 stepsFor c stops requester scheme reply f (some codes) = cond stops [] (singleCalls requester scheme reply f codes)

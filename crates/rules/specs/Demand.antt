@@ -2,13 +2,13 @@
 use mathlib.Core.Path.{_≡_}
 use mathlib.Core.Bool.{Bool, true, false, cond, _&&_, _||_}
 use mathlib.Core.Option.{Option, none, some}
-use mathlib.Core.List.{List}
+use mathlib.Core.List.{List, []}
 use Prim.Native.Nat.{ℕ, _<_}
 use lib.ListN.{length, getElem?}
 use Rattle.numbers.specs.Numbers.{twoDigits}
 use Rattle.strings.specs.Text.{Request}
 use Rattle.strings.specs.Outcomes.{requestOf}
-use Rattle.tables.specs.Tables.{recordOf}
+use Rattle.tables.specs.Tables.{tableSound, recordOf}
 use Rattle.rules.specs.Answers.{Answer, numbersOf, outcomeClass, crewRegistered, crewErased, isOf, isRefusal, isError, isOutcome, isNegative, packedOver}
 use Rattle.rules.specs.Requests.{isRegister, holderIn}
 use Rattle.rules.specs.Run.{only, last, end, log, Rearranged}
@@ -51,7 +51,7 @@ registers (result now number kind) = false
 abbrev pub isCrewOutcome : Answer → Bool
 isCrewOutcome a = isOutcome crewRegistered a || isOutcome crewErased a
 
--- 01 or 02, or a crew's
+-- 01 or 02, or a crew's: an answer after which the table may be another
 abbrev pub mayChange : Answer → Bool
 mayChange a = isOutcome 1 a || isOutcome 2 a || isCrewOutcome a
 
@@ -69,9 +69,11 @@ module _ (list : List ℕ) (delay : ℕ) (c : Call) (table : List ℕ) where
     -- a negative outcome writes its two characters and changes no table
     pub negative :
         isNegative (got .answer) ≡ true → (after ≡ table) × (got .buffer ≡ packedOver (twoDigits (numbersOf (got .answer) .number)) (bufferOf c))
-    -- "outcomes other than a changing 01 or 02 leave the table", each step of a crew read as a call
-    pub others : isOf outcomeClass (got .answer) ≡ true → mayChange (got .answer) ≡ false → after ≡ table
-    pub crew : isCrewOutcome (got .answer) ≡ true → after ≡ end (call list delay) (stepsOf list c) table
+    -- "outcomes other than a changing 01 or 02 leave the table"
+    pub others : codesOf c ≡ none → isOf outcomeClass (got .answer) ≡ true → (isOutcome 1 (got .answer) || isOutcome 2 (got .answer)) ≡ false → after ≡ table
+    -- of a crew's request each step is read as a call: it is answered 11 or 12, and its steps leave the table; or it has no step, and the table stays
+    pub crew-goes : isCrewOutcome (got .answer) ≡ true → (codesOf c ≡ none → ⊥) × (after ≡ end (call list delay) (stepsOf list c) table)
+    pub crew-stops : (codesOf c ≡ none → ⊥) → isCrewOutcome (got .answer) ≡ false → (after ≡ table) × (tableSound table ≡ true → stepsOf list c ≡ [])
     -- 01 is "no change if already so": a holder who registers again changes nothing
     pub registered-again : (k : ℕ) → nameOf list c ≡ some k → codesOf c ≡ none → registers c ≡ true → holderOf table k ≡ requesterOf c → after ≡ table
 

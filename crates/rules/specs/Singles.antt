@@ -1,14 +1,21 @@
 -- Document 02, M-100: "the table afterwards equals theirs": what is proved of a crew's request beside its single requests. Assumes nothing.
 use mathlib.Core.Path.{_≡_}
-use mathlib.Core.Bool.{Bool, cond, not, _||_}
-use mathlib.Core.List.{List, [], _∷_, map}
-use Prim.Native.Nat.{ℕ, _≤_}
-use lib.ListN.{length}
+use mathlib.Core.Bool.{Bool, true, cond, not, _||_}
+use mathlib.Core.List.{List, [], _∷_, _++_, map}
+use Prim.Native.Nat.{ℕ, _-_, _≤_}
+use lib.ListN.{length, take}
 use Rattle.packing.specs.Packing.{packed}
+use Rattle.numbers.specs.Numbers.{storedForm, digitsOf, twoDigits}
+use Rattle.numbers.specs.declared.FunctionalNumber.{FunctionalNumber}
 use Rattle.numbers.specs.declared.Msisdn.{Msisdn}
-use Rattle.strings.specs.Text.{Request, textOf}
+use Rattle.crews.specs.Crews.{leadCode}
+use Rattle.strings.specs.declared.Operation.{Operation}
+use Rattle.strings.specs.declared.Erasing.the-variants.{Empty}
+use Rattle.strings.specs.Text.{Request, requestFrom, textOf}
+use Rattle.tables.specs.Tables.{flagsOf}
 use Rattle.rules.specs.Answers.{Answer, isOutcome, bufferRoom}
-use Rattle.rules.specs.Crews.{memberOf, crewCodes, crewNumber, crewOutcome}
+use Rattle.rules.specs.Requests.{hasFollowMe}
+use Rattle.rules.specs.Crews.{crewCodes, crewNumber, crewOutcome}
 use Rattle.rules.specs.Run.{end, log}
 use Rattle.rules.specs.Calls.{Call, request, Reply, replied, call}
 
@@ -22,24 +29,42 @@ codesWhere test [] got = []
 codesWhere test (code ∷ codes) [] = []
 codesWhere test (code ∷ codes) (p ∷ got) = cond (test (p .1 .answer)) (code ∷ codesWhere test codes got) (codesWhere test codes got)
 
-module _ (list : List ℕ) (delay : ℕ) (requester : Msisdn) (scheme : ℕ) (string reply : List ℕ) (f : Request) (codes : List ℕ) (table : List ℕ) where
-  -- a single request, its string made by the request writer, each with a buffer of its own
-  abbrev pub singleRequest : (ℕ → List ℕ) → ℕ → Call
-  singleRequest buffers code = request requester scheme (packed (textOf (memberOf f code))) (buffers code)
+-- ---- the single requests, once more: by the digits of their numbers
 
+-- a number "with its last two digits replaced"
+abbrev pub replaced : FunctionalNumber → ℕ → FunctionalNumber
+replaced number code = record { 0 = storedForm (take (length (digitsOf (number .0)) - 2) (digitsOf (number .0)) ++ twoDigits code) }
+
+-- a single request: the operation, plain, and nothing in the additional field
+abbrev pub plainly : Operation → FunctionalNumber → Request
+plainly o number = requestFrom o number Empty []
+
+module _ (list : List ℕ) (delay : ℕ) (requester : Msisdn) (scheme : ℕ) (string reply : List ℕ) (f : Request) (codes : List ℕ) (table : List ℕ) where
+  abbrev pub asked : List ℕ → Request → Call
+  asked buffer g = request requester scheme (packed (textOf g)) buffer
+
+  -- "The lead number and then each number with its last two digits replaced are treated as single requests, in that order":
+  -- their strings made by the request writer, the same requester and scheme, and a buffer for each
   abbrev pub singleRequests : (ℕ → List ℕ) → List Call
-  singleRequests buffers = map (singleRequest buffers) (crewCodes codes)
+  singleRequests buffers =
+      asked (buffers leadCode) (plainly (f .operation) (f .number))
+      ∷ map (λ code. asked (buffers code) (plainly (f .operation) (replaced (f .number) code))) codes
 
   -- what the single requests got, asked one after the other
   abbrev pub gotSingly : (ℕ → List ℕ) → List (Call × Reply)
   gotSingly buffers = log (call list delay) (singleRequests buffers) table
 
-  -- the table is theirs, and a code stands among the successes exactly if its single request was answered 01 or 02
+  abbrev pub whole : Reply × List ℕ
+  whole = call list delay (request requester scheme string reply) table
+
+  -- of a crew's request that is neither refused nor in error
   pub record AsSingles (buffers : ℕ → List ℕ) : Type 0 where
-    pub table-after : call list delay (request requester scheme string reply) table .1 ≡ end (call list delay) (singleRequests buffers) table
+    -- "the table afterwards equals theirs"
+    pub table-after : whole .1 ≡ end (call list delay) (singleRequests buffers) table
+    -- where it is not answered 42: a code stands among the successes exactly if its single request was answered 01 or 02, and so the reply is
     pub reply-after :
-        call list delay (request requester scheme string reply) table
-        ≡ replied (crewOutcome (crewNumber (f .operation)) reply (record {
+        hasFollowMe (flagsOf list (requester .0)) ≡ true
+        → whole ≡ replied (crewOutcome (crewNumber (f .operation)) reply (record {
           successes = codesWhere succeeds (crewCodes codes) (gotSingly buffers);
           failures = codesWhere (λ a. not (succeeds a)) (crewCodes codes) (gotSingly buffers);
           table = end (call list delay) (singleRequests buffers) table;

@@ -64,9 +64,10 @@ pub record HoldBegun (list : List ℕ) (k : ℕ) (c : Call) (a : Reply) (after :
 abbrev pub endsHold : List ℕ → Msisdn → ℕ → Call × Reply → Bool
 endsHold list h k entry = namesOne list (entry .0) k && mayEndHold list h true (entry .0) && isOutcome 2 (entry .1 .answer)
 
--- an entry that may have begun a hold of k: it names k, is a registration, and was answered 01
-abbrev pub beginsHold : List ℕ → ℕ → Call × Reply → Bool
-beginsHold list k entry = namesOne list (entry .0) k && registers (entry .0) && isOutcome 1 (entry .1 .answer)
+-- an entry that may have begun m's hold of k: it names k, is a registration by m, and was answered 01
+abbrev pub beginsHold : List ℕ → Msisdn → ℕ → Call × Reply → Bool
+beginsHold list m k entry =
+    namesOne list (entry .0) k && registers (entry .0) && isOutcome 1 (entry .1 .answer) && eqb (requesterOf (entry .0)) (m .0)
 
 -- an entry of a log that passes a test, and its place
 pub record Stood (test : Call × Reply → Bool) (entries : List (Call × Reply)) : Type 0 where

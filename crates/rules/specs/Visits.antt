@@ -1,11 +1,10 @@
--- A helper: a second form of the rules, for the theorems and the code, proved equal to `Requests` and `Notices` (proofs/Visits). Once a request's string reads, and for every sending and result, a call visits the record of one number, and a step of that record decides. Assumes nothing.
+-- A helper: a second form of the rules, for the theorems and the code, proved equal to `Requests` and `Notices` (proofs/Visits). Once a request's string reads, and for every sending and result, a single call visits the record of one number, and a step of that record decides. Assumes nothing.
 use Prim.Native.Nat.{ℕ}
 use mathlib.Core.Bool.{true, not, _&&_}
 use mathlib.Core.Option.{Option, none, some}
 use mathlib.Core.List.{List, [], _∷_}
 use lib.ListN.{length}
 use lib.Dec.{ltb}
-use Rattle.numbers.specs.Numbers.{twoDigits}
 use Rattle.answers.specs.Checks.{decide}
 use Rattle.numbers.specs.declared.FunctionalNumber.{FunctionalNumber}
 use Rattle.numbers.specs.declared.Msisdn.{Msisdn}
@@ -26,10 +25,10 @@ use Rattle.records.specs.declared.Sending.the-variants as launches
 use Rattle.records.specs.declared.Resulted.{Resulted}
 use Rattle.records.specs.declared.Resulted.the-variants.{Refused, Delivered, Dropped, Again}
 use Rattle.records.specs.Steps as steps
-use Rattle.rows.specs.Rows.{stored}
+use Rattle.rows.specs.Rows.{recordAt, stored}
 use Rattle.tables.specs.Tables.{flagsOf}
 use Rattle.rules.specs.Answers.{Answer, refusal, error, outcome, holderIs, sentTo, delivered, dropped, again, Outcome, made, bufferRoom, holderText, packedOver, octetCount}
-use Rattle.rules.specs.Requests.{hasFollowMe, isSupervisor, isForced, refusalChecks}
+use Rattle.rules.specs.Requests.{hasFollowMe, isSupervisor, isForced, refusalChecks, Stepping, comesTo, says, tells}
 use Rattle.rules.specs.Calls.{Call, request, sending, result, Reply, clockReading}
 
 -- what a call gets, and the record that it leaves
@@ -75,6 +74,21 @@ decides Interrogate erasing number requester reply r = holderAnswered reply r (s
 
 unfoldable pub decided : Request → Msisdn → List ℕ → Record → Visited
 decided f requester reply r = decides (f .operation) (f .erasing) (f .number) requester reply r
+
+-- a step where the number is in row i: that row's record decides
+abbrev pub stepAt : List ℕ → ℕ → ℕ → Step → Stepping
+stepAt t i n (step.Stays m) = comesTo (says m) t
+stepAt t i n (step.Becomes next) = comesTo (says n) (stored t i next)
+
+abbrev pub tellAt : List ℕ → Holder → Stepping
+tellAt t (holds.Stays m) = comesTo (says m) t
+tellAt t (holds.Held msisdn) = comesTo (tells (msisdn .0)) t
+
+-- what the record of row i makes of a step, by the operation
+abbrev pub decidesAt : Operation → Erasing → FunctionalNumber → Msisdn → List ℕ → ℕ → Stepping
+decidesAt Register e number requester t i = stepAt t i 1 (steps.registered number requester (recordAt t i))
+decidesAt Erase e number requester t i = stepAt t i 2 (erases e requester (recordAt t i))
+decidesAt Interrogate e number requester t i = tellAt t (steps.interrogated (recordAt t i))
 
 -- ---- sendings and results
 

@@ -1,4 +1,4 @@
--- Document 01, "Request string": how the fields are read from a text. "Each field is read from the remaining part of the string; the first field that cannot be read ends the reading." Assumes nothing.
+-- Document 01, "Request string": how the fields are read from a text. "Each field is read from the remaining part of the string; the first field that cannot be read ends the reading with error 36." Assumes nothing.
 use Prim.Native.Nat.{ℕ, _+_}
 use mathlib.Core.Bool.{_&&_}
 use mathlib.Core.Option.{Option, none, some}

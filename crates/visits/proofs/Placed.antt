@@ -7,16 +7,13 @@ use native.Mathlib.Omega.{arith}
 use Rattle.numbers.specs.Numbers.{isNumber, twoDigits}
 use Rattle.numbers.specs.declared.FunctionalNumber.{FunctionalNumber}
 use Rattle.numbers.specs.declared.Msisdn.{Msisdn}
-use Rattle.strings.specs.declared.Operation.the-variants.{Register, Erase, Interrogate}
-use Rattle.strings.specs.Text.{Request, textOf, noticeFields}
+use Rattle.strings.specs.Text.{textOf, noticeFields}
 use Rattle.answers.specs.Checks.{decide}
 use Rattle.answers.specs.Writing.{Stands}
 use Rattle.packing.specs.Packing.{packed}
 use Rattle.records.specs.declared.Notice.{Notice}
 use Rattle.records.specs.declared.Notice.the-variants.{Absent, Waiting, InFlight}
 use Rattle.records.specs.declared.Record.{Record}
-use Rattle.records.specs.declared.Step.{Step}
-use Rattle.records.specs.declared.Step.the-variants.{Stays, Becomes}
 use Rattle.records.specs.declared.Sending.{Sending}
 use Rattle.records.specs.declared.Sending.the-variants as launches
 use Rattle.records.specs.declared.Holder.{Holder}
@@ -24,22 +21,18 @@ use Rattle.records.specs.declared.Holder.the-variants as holder
 use Rattle.records.specs.declared.Resulted.{Resulted}
 use Rattle.records.specs.declared.Resulted.the-variants.{Refused, Delivered, Dropped, Again}
 use Rattle.rows.specs.Rows.{rowSound, recordSound, recordAt, stored}
-use Rattle.records.specs.Steps.{isAbsent, isWaiting, isDue, isNobody, withNotice, launched, delayAllowed, registered, interrogated, sent}
+use Rattle.records.specs.Steps.{isAbsent, isWaiting, isDue, isNobody, withNotice, launched, delayAllowed, interrogated, sent}
 use Rattle.rows.proofs.Rows.{words-stored}
 use Rattle.rows.proofs.Kept.{holder-number, pending-words}
 use Rattle.rules.specs.Answers.{Answer, outcome, refusal, sentTo, delivered, dropped, again, made, packedOver, octetCount}
-use Rattle.rules.specs.Visits.{Visited, visited, storing, stepped, holderAnswered, erases, decided, sentStep, resultStep}
+use Rattle.rules.specs.Requests.{Stepping, comesTo, says, replying}
+use Rattle.rules.specs.Visits.{Visited, visited, storing, tellAt, holderAnswered, sentStep, resultStep}
 
-module _ (t : List ℕ) (i k : ℕ) (b after : List ℕ) (said : Answer) (step : Step) where
-  pub stays-placed :
-      (n : ℕ) → rowSound t i ≡ true → step ≡ Stays n → said ≡ outcome n (octetCount (twoDigits n)) → after ≡ packedOver (twoDigits n) b
-      → made said t after ≡ storing t i (stepped k b (recordAt t i) step)
-  stays-placed n sound e s f = rw (e, s, f, words-stored t i sound)
-
-  pub becomes-placed :
-      (next : Record) (new : List ℕ) → step ≡ Becomes next → new ≡ stored t i next → said ≡ outcome k (octetCount (twoDigits k)) → after ≡ packedOver (twoDigits k) b
-      → made said new after ≡ storing t i (stepped k b (recordAt t i) step)
-  becomes-placed next new e g s f = rw (e, g, s, f)
+-- what a step comes to, said in the reply
+pub said-placed :
+    (new b after : List ℕ) (n : ℕ) (said : Answer) (s : Stepping) → comesTo (says n) new ≡ s → said ≡ outcome n (octetCount (twoDigits n)) → after ≡ packedOver (twoDigits n) b
+    → made said new after ≡ replying b s
+said-placed new b after n said s e f g = rw (f, g) (ap (replying b) e)
 
 -- the holder that an interrogation of a sound record finds
 pub holder-found : (r : Record) (m : Msisdn) → recordSound r ≡ true → interrogated r ≡ holder.Held m → isNumber (m .0) ≡ true
@@ -52,29 +45,9 @@ holder-found r m sound e = go (isNobody (r .holder)) refl e
 
 -- what an interrogation of a row's record answers leaves the table
 pub told-placed :
-    (t : List ℕ) (i : ℕ) (b after : List ℕ) (said : Answer) (r : Record) → rowSound t i ≡ true → r ≡ recordAt t i
-    → visited said after r ≡ holderAnswered b r (interrogated r) → made said t after ≡ storing t i (holderAnswered b (recordAt t i) (interrogated (recordAt t i)))
-told-placed t i b after said r sound e f = rw (← e) (go (interrogated r) f)
-  where
-    same : stored t i r ≡ t
-    same = rw e (words-stored t i sound)
-
-    go : (h : Holder) → visited said after r ≡ holderAnswered b r h → made said t after ≡ storing t i (holderAnswered b r h)
-    go (holder.Stays n) g = rw (same) (ap (λ (v : Visited). made (v .reply .answer) t (v .reply .buffer)) g)
-    go (holder.Held m) g = rw (same) (ap (λ (v : Visited). made (v .reply .answer) t (v .reply .buffer)) g)
-
-module _ (f : Request) (requester : Msisdn) (b : List ℕ) (r : Record) where
-  pub decided-register : f .operation ≡ Register → decided f requester b r ≡ stepped 1 b r (registered (f .number) requester r)
-  unfolding decided
-  decided-register e = rw e
-
-  pub decided-erase : f .operation ≡ Erase → decided f requester b r ≡ stepped 2 b r (erases (f .erasing) requester r)
-  unfolding decided
-  decided-erase e = rw e
-
-  pub decided-interrogate : f .operation ≡ Interrogate → decided f requester b r ≡ holderAnswered b r (interrogated r)
-  unfolding decided
-  decided-interrogate e = rw e
+    (t b after : List ℕ) (said : Answer) (r : Record) (h : Holder) → visited said after r ≡ holderAnswered b r h → made said t after ≡ replying b (tellAt t h)
+told-placed t b after said r (holder.Stays n) g = ap (λ (v : Visited). made (v .reply .answer) t (v .reply .buffer)) g
+told-placed t b after said r (holder.Held m) g = ap (λ (v : Visited). made (v .reply .answer) t (v .reply .buffer)) g
 
 -- a result's step, returned and stored
 module _ (t : List ℕ) (i : ℕ) (step : Resulted) where

@@ -22,7 +22,7 @@ use Rattle.numbers.proofs.Digits.{digit-range, digits-are, digits-most}
 use Rattle.rules.specs.Answers.{holderText, bufferRoom}
 
 -- a character of digits, as of any octet's two digits, is taken
-taken-low : (c : ℕ) → 48 ≤ c → c < 128 → taken c ≡ true
+pub taken-low : (c : ℕ) → 48 ≤ c → c < 128 → taken c ≡ true
 unfolding taken
 taken-low c h l = simp (lt-ltb c 128 l, ne-eqb c 13 (λ e. omega arith))
 
@@ -30,7 +30,7 @@ pub takes-two : (n : ℕ) → n < 256 → takes (twoDigits n) ≡ true
 unfolding each
 takes-two n h = simp (taken-low (48 + n / 10) (omega arith) (omega arith), taken-low (48 + n % 10) (omega arith) (omega arith))
 
-digit-taken : (c : ℕ) → isDigit c ≡ true → taken c ≡ true
+pub digit-taken : (c : ℕ) → isDigit c ≡ true → taken c ≡ true
 digit-taken c e = let r = digit-range c e in taken-low c (r .0) (omega (arith, r .1))
 
 pub takes-holder : (w : ℕ) → isNumber w ≡ true → takes (holderText w) ≡ true

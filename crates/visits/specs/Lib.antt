@@ -1,3 +1,2 @@
--- `Said`: the paper's class, number and values for each case of an answer. `Deciding`: the fields of a request that decide.
+-- `Said`: the paper's class, number and values for each case of an answer.
 pub mod Said
-pub mod Deciding

@@ -21,9 +21,9 @@ ghost use Rattle.records.specs.Steps.{interrogated, sent, isDue};
 ghost use Rattle.rows.specs.Rows.{recordAt, rowSound, recordSound};
 ghost use Rattle.tables.specs.Tables.{tableSound, rowsIn};
 ghost use Rattle.rules.specs.Answers.{made, outcome, holderIs, bufferRoom, packedOver, octetCount, holderText};
+ghost use Rattle.rules.specs.Requests.{says, comesTo, replying};
 ghost use Rattle.rules.specs.Notices as notices;
-ghost use Rattle.rules.specs.Visits.{visited, storing, stepped, holderAnswered, erases, decided, sentStep, visitResult};
-ghost use Rattle.visits.specs.Deciding.{deciding};
+ghost use Rattle.rules.specs.Visits.{visited, storing, stepAt, decidesAt, holderAnswered, erases, sentStep, visitResult};
 ghost use Rattle.visits.specs.Said.{saidRequest, saidSending, saidResult, saidFinding};
 
 // The answer to a request: a refusal, an error or an outcome by its number, an outcome with its octet count; 03 with the holder.
@@ -56,7 +56,7 @@ pub enum FindingAnswer {
 }
 
 // Packs a text that the packer takes into a buffer that has room for it.
-fn put(text: &[u8], out: &mut [u8]) -> usize
+pub fn put(text: &[u8], out: &mut [u8]) -> usize
     requires { ⌜ (takes (now text) ≡ true) × (octetsFor (length (now text)) ≤ length (now out)) ⌝ }
     ensures { λ r. ⌜ (r ≡ octetCount (now (text .entry))) × (now (out .exit) ≡ packedOver (now (text .entry)) (now (out .entry))) ⌝ }
 {
@@ -94,16 +94,16 @@ fn tell(msisdn: Msisdn, reply: &mut [u8]) -> RequestAnswer
     RequestAnswer::Held(msisdn, octets)
 }
 
-// A step of the record of a row: what stays answers by its own number, what becomes the next record by `success`.
-fn settle(table: &mut [u64], row: usize, reply: &mut [u8], success: u8, step: Step) -> RequestAnswer
-    requires { ⌜ (row < rowsIn (now table)) × (rowSound (now table) row ≡ true) × (bufferRoom ≤ length (now reply)) ⌝ }
-    ensures { λ r. ⌜ made (saidRequest r) (now (table .exit)) (now (reply .exit)) ≡ storing (now (table .entry)) row (stepped success (now (reply .entry)) (recordAt (now (table .entry)) row) step) ⌝ }
+// A step of the record of a row, stored where the record becomes the next one: the outcome's number, `success` there.
+pub fn settle(table: &mut [u64], row: usize, success: u8, step: Step) -> u8
+    requires { ⌜ row < rowsIn (now table) ⌝ }
+    ensures { λ r. ⌜ comesTo (says r) (now (table .exit)) ≡ stepAt (now (table .entry)) row success step ⌝ }
 {
     match step {
-        Step::Stays(n) => say(n, reply),
+        Step::Stays(n) => n,
         Step::Becomes(next) => {
             rows::store(table, row, next);
-            say(success, reply)
+            success
         }
     }
 }
@@ -139,7 +139,7 @@ pub fn decide_at(
     fields: Fields,
 ) -> RequestAnswer
     requires { ⌜ (row < rowsIn (now table)) × (rowSound (now table) row ≡ true) × (bufferRoom ≤ length (now reply)) ⌝ }
-    ensures { λ r. ⌜ made (saidRequest r) (now (table .exit)) (now (reply .exit)) ≡ storing (now (table .entry)) row (decided (deciding fields) requester (now (reply .entry)) (recordAt (now (table .entry)) row)) ⌝ }
+    ensures { λ r. ⌜ made (saidRequest r) (now (table .exit)) (now (reply .exit)) ≡ replying (now (reply .entry)) (decidesAt (fields .operation) (fields .erasing) (fields .number) requester (now (table .entry)) row) ⌝ }
 {
     let record = rows::load(table, row);
     let operation = fields.operation;
@@ -148,11 +148,13 @@ pub fn decide_at(
     match operation {
         Operation::Register => {
             let step = record.register(number, requester);
-            settle(table, row, reply, 1, step)
+            let n = settle(table, row, 1, step);
+            say(n, reply)
         }
         Operation::Erase => {
             let step = erasure(record, erasing, requester);
-            settle(table, row, reply, 2, step)
+            let n = settle(table, row, 2, step);
+            say(n, reply)
         }
         Operation::Interrogate => answer_holder(record, reply),
     }

@@ -13,7 +13,7 @@ ghost use Prim.Native.Nat.{_+_, _<_, _≤_};
 ghost use lib.ListN.{length};
 ghost use Rattle.answers.specs.Writing.{madeWrite, Stands};
 ghost use Rattle.packing.specs.Packing.{packed};
-ghost use Rattle.numbers.specs.Numbers.{mostDigits, isNumber, digitsOf};
+ghost use Rattle.numbers.specs.Numbers.{mostDigits, isNumber, digitsOf, numeral};
 ghost use Rattle.strings.specs.declared.Operation.the-variants.{Erase};
 ghost use Rattle.strings.specs.Text.{erasingSound, requestFrom, requestSound, operationText, serviceText, star, hash, supervisorText, msisdnText, textOf, noticeFields, mostCharacters, mostOctets};
 ghost use Rattle.strings.specs.Outcomes.{writingRequest};
@@ -27,6 +27,29 @@ pub fn put(characters: &[u8], out: &mut [u8]) -> usize
     ensures { λ r. ⌜ Stands (now (characters .entry)) (now (out .entry)) r (now (out .exit)) ⌝ }
 {
     bytes::copy(characters, out)
+}
+
+// Writes a number below 100 in its one or two digits.
+pub fn put_numeral(n: u8, out: &mut [u8]) -> usize
+    requires { ⌜ 2 ≤ length (now out) ⌝ }
+    ensures { λ r. ⌜ Stands (numeral n) (now (out .entry)) r (now (out .exit)) ⌝ }
+{
+    if n < 10 {
+        out[0] = b'0' + n;
+        return 1;
+    }
+    out[0] = b'0' + n / 10;
+    out[1] = b'0' + n % 10;
+    2
+}
+
+// Writes words and a number behind them.
+pub fn put_numbered(words: &[u8], n: u8, out: &mut [u8]) -> usize
+    requires { ⌜ length (now words) + 2 ≤ length (now out) ⌝ }
+    ensures { λ r. ⌜ Stands (now (words .entry) ++ numeral n) (now (out .entry)) r (now (out .exit)) ⌝ }
+{
+    let at = put(words, out);
+    at + put_numeral(n, &mut out[at..])
 }
 
 // Writes the operation, `214` and the star.

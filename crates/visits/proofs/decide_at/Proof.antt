@@ -5,24 +5,21 @@ use borrow.Author.Needs.{needs}
 use denote.Ref.{now}
 use Rattle.records.specs.declared.Record.{Record}
 use Rattle.records.specs.declared.Step.{Step}
-use Rattle.records.specs.Steps.{registered}
+use Rattle.records.specs.Steps.{registered, interrogated}
 use Rattle.rows.specs.Rows.{recordAt}
 use Rattle.rows.proofs.Rows.{record-sound}
-use Rattle.rules.specs.Visits.{storing, stepped, erases}
-use Rattle.visits.specs.Deciding.{deciding}
-use Rattle.visits.proofs.Placed.{decided-register, decided-erase, decided-interrogate, told-placed}
+use Rattle.rules.specs.Requests.{replying}
+use Rattle.rules.specs.Visits.{stepAt, tellAt, erases}
+use Rattle.visits.proofs.Placed.{said-placed, told-placed}
 use Rattle.visits.proofs.decide_at.Statement.{statement}
 use Rattle.visits.proofs.decide_at.Tie as tie
 
--- the table and the reply as they were lent, and the row's record
+-- the table and the reply as they were lent
 abbrev T : tie.Start → List ℕ
 T c = now (c .args .table)
 
 abbrev B : tie.Start → List ℕ
 B c = now (c .args .reply)
-
-abbrev R : tie.Start → Record
-R c = recordAt (T c) (c .args .row)
 
 abbrev start : tie.After-load → tie.Start
 start c = c .before .before .before .before
@@ -39,6 +36,9 @@ register-requires c κs = search needs
 settle-requires : tie.Need-settle-requires
 settle-requires c κs = search needs
 
+say-requires : tie.Need-say-requires
+say-requires c κs = search needs
+
 enum-told-2 : tie.Need-enum-told-2
 enum-told-2 c = search needs
 
@@ -47,6 +47,9 @@ erasure-requires c κs = search needs
 
 settle-requires-2 : tie.Need-settle-requires-2
 settle-requires-2 c κs = search needs
+
+say-requires-2 : tie.Need-say-requires-2
+say-requires-2 c κs = search needs
 
 enum-told-3 : tie.Need-enum-told-3
 enum-told-3 c = search needs
@@ -64,14 +67,15 @@ same-length-2 c = search needs
 
 returns : tie.Need-returns
 returns c =
-    let q = c .before .before .before .before in
-    let g = q .before .before .before in
+    let q = c .before .before in
+    let w = q .before .before .before .before in
+    let g = w .before .before in
     let l = g .before .before .before .before in
     let s = start l in
     let a = s .args in
-    q .settle .ensures
-    ∙ ap (λ (x : Step). storing (T s) (a .row) (stepped 1 (B s) (R s) x)) (g .register .ensures ∙ ap (registered (a .fields .number) (a .requester)) (l .load .ensures))
-    ∙ ap (storing (T s) (a .row)) (sym (decided-register (deciding (a .fields)) (a .requester) (B s) (R s) (g .before .enum-told .given .1)))
+    rw (g .before .enum-told .given .1)
+    (said-placed _ (B s) _ _ _ _ (w .settle .ensures) (q .say .ensures .0) (q .say .ensures .1)
+    ∙ ap (λ (x : Step). replying (B s) (stepAt (T s) (a .row) 1 x)) (g .register .ensures ∙ ap (registered (a .fields .number) (a .requester)) (l .load .ensures)))
 
 same-length-3 : tie.Need-same-length-3
 same-length-3 c = search needs
@@ -81,14 +85,15 @@ same-length-4 c = search needs
 
 returns-2 : tie.Need-returns-2
 returns-2 c =
-    let q = c .before .before .before .before in
-    let g = q .before .before .before in
+    let q = c .before .before in
+    let w = q .before .before .before .before in
+    let g = w .before .before in
     let l = g .before .before .before .before in
     let s = start l in
     let a = s .args in
-    q .settle2 .ensures
-    ∙ ap (λ (x : Step). storing (T s) (a .row) (stepped 2 (B s) (R s) x)) (g .erasure .ensures ∙ ap (erases (a .fields .erasing) (a .requester)) (l .load .ensures))
-    ∙ ap (storing (T s) (a .row)) (sym (decided-erase (deciding (a .fields)) (a .requester) (B s) (R s) (g .before .enum-told2 .given .1)))
+    rw (g .before .enum-told2 .given .1)
+    (said-placed _ (B s) _ _ _ _ (w .settle2 .ensures) (q .say2 .ensures .0) (q .say2 .ensures .1)
+    ∙ ap (λ (x : Step). replying (B s) (stepAt (T s) (a .row) 2 x)) (g .erasure .ensures ∙ ap (erases (a .fields .erasing) (a .requester)) (l .load .ensures)))
 
 same-length-5 : tie.Need-same-length-5
 same-length-5 c = search needs
@@ -102,9 +107,9 @@ returns-3 c =
     let e = q .before .before in
     let l = e .before .before .before in
     let s = start l in
-    let a = s .args in
-    told-placed (T s) (a .row) (B s) _ _ _ (s .pre .1) (l .load .ensures) (q .answer-holder .ensures)
-    ∙ ap (storing (T s) (a .row)) (sym (decided-interrogate (deciding (a .fields)) (a .requester) (B s) (R s) (e .enum-told3 .given .1)))
+    rw (e .enum-told3 .given .1)
+    (told-placed (T s) (B s) _ _ _ (interrogated (l .load .result)) (q .answer-holder .ensures)
+    ∙ ap (λ (r : Record). replying (B s) (tellAt (T s) (interrogated r))) (l .load .ensures))
 
 pub decide-at-spec : {M : Type 1} → statement M
 decide-at-spec =
@@ -114,9 +119,11 @@ decide-at-spec =
     enum-told
     register-requires
     settle-requires
+    say-requires
     enum-told-2
     erasure-requires
     settle-requires-2
+    say-requires-2
     enum-told-3
     answer-holder-requires
     same-length

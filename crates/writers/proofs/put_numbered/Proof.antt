@@ -1,10 +1,10 @@
--- `replies::put_numbered` meets its contract. Assumes nothing.
+-- `writers::put_numbered` meets its contract. Assumes nothing.
 use native.Mathlib.Omega.{arith}
 use Rattle.answers.proofs.Parts.{stands-behind}
-use Rattle.replies.proofs.Writing.{numeral-short}
+use Rattle.writers.proofs.Numerals.{numeral-short}
 use borrow.Author.Needs.{needs}
-use Rattle.replies.proofs.put_numbered.Statement.{statement}
-use Rattle.replies.proofs.put_numbered.Tie as tie
+use Rattle.writers.proofs.put_numbered.Statement.{statement}
+use Rattle.writers.proofs.put_numbered.Tie as tie
 
 put-requires : tie.Need-put-requires
 put-requires c κs = search needs

@@ -1,15 +1,15 @@
--- `replies::put_numeral` meets its contract. Assumes nothing.
+-- `writers::put_numeral` meets its contract. Assumes nothing.
 use mathlib.Core.Path.{refl}
 use mathlib.Core.List.{List, [], _∷_}
 use Prim.Native.Nat.{ℕ, _+_, _/_, _%_, _≤_, _<_}
 use native.Mathlib.Omega.{arith}
 use lib.ListN.{length, set}
 use borrow.Author.Tests.{lt-ltb, le-ltb}
-use Rattle.replies.specs.Replies.{numeral}
+use Rattle.numbers.specs.Numbers.{numeral}
 use Rattle.answers.specs.Writing.{Stands}
 use borrow.Author.Needs.{needs}
-use Rattle.replies.proofs.put_numeral.Statement.{statement}
-use Rattle.replies.proofs.put_numeral.Tie as tie
+use Rattle.writers.proofs.put_numeral.Statement.{statement}
+use Rattle.writers.proofs.put_numeral.Tie as tie
 
 one : (n : ℕ) (out : List ℕ) → n < 10 → 2 ≤ length out → Stands (numeral n) out 1 (set out 0 (48 + n))
 one n [] h l = absurd (omega arith)

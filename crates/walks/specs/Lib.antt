@@ -1,0 +1,2 @@
+-- `Tallies`: what the code counts beside the walk of the rules.
+pub mod Tallies
