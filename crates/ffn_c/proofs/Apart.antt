@@ -9,6 +9,8 @@ use Rattle.answers.proofs.Tests.{or-neither}
 use Rattle.answers.proofs.Decide.{decide-each}
 use Rattle.numbers.specs.declared.FunctionalNumber.{FunctionalNumber}
 use Rattle.numbers.specs.declared.Msisdn.{Msisdn}
+use Rattle.strings.specs.declared.Operation.{Operation}
+use Rattle.strings.specs.declared.Operation.the-variants.{Register, Erase, Interrogate}
 use Rattle.records.specs.Steps.{isDue, delayAllowed}
 use Rattle.rows.specs.Rows.{numberAt, recordAt}
 use Rattle.tables.specs.declared.Found.{Found}
@@ -16,7 +18,8 @@ use Rattle.tables.specs.declared.Found.the-variants.{At, Nothing}
 use Rattle.tables.specs.Tables.{tableSound, rowsIn, rowOf, recordOf}
 use Rattle.rules.specs.Answers.{Answer, refusal, error, outcome, holderIs, sentTo, delivered, dropped, again, found, noneDue, Outcome, isNegativeNumber, refusing}
 use Rattle.rules.specs.Answers as class
-use Rattle.rules.specs.Requests.{saying, requesting}
+use Rattle.rules.specs.Requests.{saying}
+use Rattle.rules.specs.Crews.{crewNumber, Walk, crewOutcome, requesting}
 use Rattle.rules.specs.Notices as notices
 use Rattle.rules.proofs.Each.{request-each}
 use Rattle.structs.specs.declared.Answer as numbers
@@ -75,11 +78,19 @@ pub request-back :
     → let a = requesting table list reply requester scheme string .answer in readBack (ofAnswer a) ≡ a
 unfolding tells IsTold Tells
 request-back table list reply requester scheme string =
-    back _ (request-each table reply Tells (λ n. refl) (λ n. refl) denied (λ new. refl) (λ new. refl) (λ msisdn. refl) list requester scheme string)
+    back _ (request-each table reply Tells (λ n. refl) (λ n. refl) denied (λ new. refl) (λ new. refl) (λ msisdn. refl) (λ o w tallied. crew o w) list requester scheme string)
   where
     -- a negative outcome is not 03
     denied : (n : ℕ) → n < 100 → isNegativeNumber n ≡ true → Tells (saying n table reply)
-    denied n l e = let other = or-neither (eqb n 1 || eqb n 2) (eqb n class.interrogationNumber) (not-true _ e) in rw (other .1)
+    denied n l e =
+        let other = or-neither (eqb n 1 || eqb n 2 || eqb n class.interrogationNumber || eqb n class.crewRegistered) (eqb n class.crewErased) (not-true _ e) in
+        let third = or-neither (eqb n 1 || eqb n 2 || eqb n class.interrogationNumber) (eqb n class.crewRegistered) (other .0) in
+        rw (or-neither (eqb n 1 || eqb n 2) (eqb n class.interrogationNumber) (third .0) .1)
+
+    crew : (o : Operation) (w : Walk) → Tells (crewOutcome (crewNumber o) reply w)
+    crew Register w = refl
+    crew Erase w = refl
+    crew Interrogate w = refl
 
 -- ---- a sending
 

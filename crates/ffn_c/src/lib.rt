@@ -10,7 +10,7 @@ use structs::RequestRead;
 ghost use mathlib.Core.Path.{_≡_};
 ghost use mathlib.Core.List.{[]};
 ghost use Rattle.packing.specs.Outcomes.{packing, unpacking};
-ghost use Rattle.rules.specs.Requests as requests;
+ghost use Rattle.rules.specs.Crews.{requesting};
 ghost use Rattle.rules.specs.Notices as notices;
 ghost use Rattle.structs.specs.Numbers.{ofAnswer, operationOf, erasingOf};
 ghost use Rattle.ffn_c.specs.Calls.{returning, ofCall, ofWriter, writingFields, readingInto};
@@ -96,7 +96,7 @@ pub extern "C" fn ffn_request(
     scheme: u8,
     string: &[u8],
 ) -> Answer
-    ensures { λ r. ⌜ returning r (now (table .exit)) (now (reply .exit)) ≡ ofCall (requests.requesting (now (table .entry)) (now (list .entry)) (now (reply .entry)) (record { 0 = requester }) scheme (now (string .entry))) ⌝ }
+    ensures { λ r. ⌜ returning r (now (table .exit)) (now (reply .exit)) ≡ ofCall (requesting (now (table .entry)) (now (list .entry)) (now (reply .entry)) (record { 0 = requester }) scheme (now (string .entry))) ⌝ }
 {
     structs::of_request(node::request(table, list, reply, Msisdn(requester), scheme, string))
 }

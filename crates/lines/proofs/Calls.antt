@@ -18,6 +18,7 @@ use Rattle.packing.proofs.Outcomes.{pack-short, pack-unfit}
 use Rattle.numbers.specs.declared.Msisdn.{Msisdn}
 use Rattle.rules.specs.Answers.{Answer, refusal, Outcome, made}
 use Rattle.rules.specs.Requests as requests
+use Rattle.rules.specs.Crews as crews
 use Rattle.visits.proofs.Texts.{counts-only}
 use Rattle.replies.specs.Replies.{behindLetter, Printable}
 use Rattle.lines.specs.Program.{lentBuffer, asked}
@@ -48,7 +49,7 @@ asked-unfit m string table list t = rw t
 
 pub asked-fit :
     (m : Msisdn) (string table list : List ℕ) → takes string ≡ true
-    → requests.requesting table list lentBuffer m requests.codingScheme (packed string) ≡ asked m string table list
+    → crews.requesting table list lentBuffer m requests.codingScheme (packed string) ≡ asked m string table list
 unfolding asked
 asked-fit m string table list t = rw t
 

@@ -33,10 +33,15 @@ use Rattle.tables.specs.Tables.{tableSound, rowOf, recordOf}
 use Rattle.tables.proofs.Stored.{record-found}
 use Rattle.rules.specs.Answers.{Answer, refusal, error, outcome, holderIs, sentTo, delivered, dropped, again, found, noneDue, Outcome, made, holderText, packedOver, octetCount, refusing}
 use Rattle.rules.specs.Requests as requests
+use Rattle.rules.specs.Crews as crews
+use Rattle.rules.specs.Crews.{crewNumber, Walk, crewReply}
+use Rattle.strings.specs.declared.Operation.{Operation}
 use Rattle.rules.specs.Notices as notices
 use Rattle.rules.proofs.Visits.{found-sound, found-number}
+use Rattle.rules.proofs.Tallied.{Tallied, reply-short, reply-taken}
 use Rattle.rules.proofs.Each.{request-each}
-use Rattle.visits.proofs.Texts.{takes-two}
+use Rattle.walks.proofs.Replies.{crew-small}
+use Rattle.rules.proofs.Taken.{takes-two}
 use Rattle.lines.specs.Program.{lentBuffer, asked}
 use Rattle.replies.specs.Replies.{Text, mostReplyOctets, mostNoticeOctets, Printable}
 
@@ -79,6 +84,13 @@ held-stands : (w : ℕ) (reply : List ℕ) → Text mostReplyOctets (octetCount 
 unfolding octetsFor each taken digitsOf
 held-stands w reply = text-stands mostReplyOctets (holderText w) reply (takes-digits 15 w) (omega (arith, digits-short 15 w))
 
+crew-stands : (o : Operation) (w : Walk) (reply : List ℕ) → Tallied w
+    → Text mostReplyOctets (octetCount (crewReply (crewNumber o) w)) (packedOver (crewReply (crewNumber o) w) reply)
+unfolding octetsFor
+crew-stands o w reply tallied =
+    text-stands mostReplyOctets (crewReply (crewNumber o) w) reply (reply-taken (crewNumber o) (crew-small o) w tallied)
+    (omega (arith, reply-short (crewNumber o) w tallied))
+
 abbrev pub isSent : Answer → Bool
 isSent (refusal n) = false
 isSent (error n) = false
@@ -98,16 +110,16 @@ Replies o = Printable (o .answer) (o .buffer) × (isSent (o .answer) ≡ false)
 says : (n : ℕ) (table reply : List ℕ) → n < 256 → Replies (requests.saying n table reply)
 says n table reply h = (said-stands n reply h, refl)
 
-request-replies : (table list reply : List ℕ) (requester : Msisdn) (scheme : ℕ) (string : List ℕ) → Replies (requests.requesting table list reply requester scheme string)
+request-replies : (table list reply : List ℕ) (requester : Msisdn) (scheme : ℕ) (string : List ℕ) → Replies (crews.requesting table list reply requester scheme string)
 request-replies table list reply =
     request-each table reply Replies (λ n. (tt, refl)) (λ n. (tt, refl)) (λ n l e. says n table reply (omega arith)) (λ new. says 1 new reply (omega arith))
-    (λ new. says 2 new reply (omega arith)) (λ msisdn. (held-stands msisdn reply, refl)) list
+    (λ new. says 2 new reply (omega arith)) (λ msisdn. (held-stands msisdn reply, refl)) (λ o w tallied. (crew-stands o w reply tallied, refl)) list
 
 pub asked-replies : (m : Msisdn) (string table list : List ℕ) → Replies (asked m string table list)
 unfolding asked
 asked-replies m string table list = go (takes string)
   where
-    go : (b : Bool) → Replies (cond b (requests.requesting table list lentBuffer m requests.codingScheme (packed string)) (made (refusal 9) table lentBuffer))
+    go : (b : Bool) → Replies (cond b (crews.requesting table list lentBuffer m requests.codingScheme (packed string)) (made (refusal 9) table lentBuffer))
     go true = request-replies table list lentBuffer m requests.codingScheme (packed string)
     go false = (tt, refl)
 

@@ -14,6 +14,7 @@ use Rattle.rows.specs.Rows.{rowWords}
 use Rattle.tables.specs.Tables.{mostNumbers, subscriberWords, mostSubscribers}
 use Rattle.rules.specs.Answers.{refusal, Outcome, made, bufferRoom}
 use Rattle.rules.specs.Requests as requests
+use Rattle.rules.specs.Crews as crews
 use Rattle.rules.specs.Notices as notices
 use Rattle.replies.specs.Replies.{behindLetter}
 use Rattle.forms.specs.Lines.{lineFeed, space, linesOf, Form, numberLine, subscriberLine, requestLine, sendingLine, resultLine, formOf}
@@ -85,7 +86,7 @@ lentBuffer = replicate bufferRoom 0
 -- "the program packs it", and "one the packer refuses" is refused 9, whoever the requester is
 unfoldable pub asked : Msisdn → List ℕ → List ℕ → List ℕ → Outcome
 asked m string table list =
-    cond (takes string) (requests.requesting table list lentBuffer m requests.codingScheme (packed string)) (made (refusal 9) table lentBuffer)
+    cond (takes string) (crews.requesting table list lentBuffer m requests.codingScheme (packed string)) (made (refusal 9) table lentBuffer)
 
 -- "`R` requester string (unpacked …) prints `R` and the reply text"
 unfoldable pub requested : Msisdn → List ℕ → Program → Effect

@@ -36,9 +36,9 @@ pub record Text (most count : ℕ) (buffer : List ℕ) : Type 0 where
   pub short : count ≤ most
   pub reads : readable (take count buffer) ≡ true
 
--- `03`, a space and 15 digits; `##214*`, 15 digits, `*88*`, 15 digits and `*#`: 18 and 42 characters
+-- `11 10 `, ten codes and ` 0`; `##214*`, 15 digits, `*88*`, 15 digits and `*#`: 28 and 42 characters
 abbrev pub mostReplyOctets : ℕ
-mostReplyOctets = 16
+mostReplyOctets = 25
 
 abbrev pub mostNoticeOctets : ℕ
 mostNoticeOctets = 37

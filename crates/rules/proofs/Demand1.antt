@@ -80,7 +80,7 @@ module _ (table buffer : List ℕ) where
   request-leaves : (list : List ℕ) (requester : Msisdn) (scheme : ℕ) (string : List ℕ) → Leaves (requesting table list buffer requester scheme string)
   request-leaves list requester scheme string =
       request-each table buffer Leaves (λ n. silent (refusal n) refl) (λ n. silent (error n) refl) (λ n l e. denies n) (λ new. changes 1 new refl refl)
-      (λ new. changes 2 new refl refl) tells-holder crew-changes list requester scheme string
+      (λ new. changes 2 new refl refl) tells-holder (λ o w tallied. crew-changes o w) list requester scheme string
 
   sent-leaves : (number : FunctionalNumber) (place : Found) → Leaves (notices.sentAt number place table buffer)
   sent-leaves number Nothing = silent _ refl

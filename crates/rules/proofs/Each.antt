@@ -20,6 +20,7 @@ use Rattle.rules.specs.Answers.{refusal, error, Outcome, made, isNegativ
 use Rattle.rules.specs.Requests.{saying, refusalChecks, rightChecks, stepChecks, Stepping, tells, staying, carriedOut, carriedOutAt, step, negative, answered, replying, once, askingBy, requestingBy}
 use Rattle.rules.specs.Crews.{crewCodes, crewNumber, Walk, walked, setOut, crewOutcome, carriedOutFor, requesting}
 use Rattle.rules.proofs.Once.{requestingOnce}
+use Rattle.rules.proofs.Tallied.{Tallied, crew-tallied}
 
 module _ (t reply : List ℕ) (P : Outcome → Type 0) (refused : (n : ℕ) → P (made (refusal n) t reply)) (erred : (n : ℕ) → P (made (error n) t reply))
     (denied : (n : ℕ) → n < 100 → isNegativeNumber n ≡ true → P (saying n t reply))
@@ -69,11 +70,11 @@ module _ (t reply : List ℕ) (P : Outcome → Type 0) (refused : (n : ℕ) → 
   once-each list requester scheme string = by-each (once t reply requester) (step-each requester) list requester scheme string
 
   -- of any request, a crew's too
-  module _ (crew : (o : Operation) (w : Walk) → P (crewOutcome (crewNumber o) reply w)) where
-    carried-each : (requester : Msisdn) (f : Request) (codes : Option (List ℕ)) → P (carriedOutFor t reply requester f codes)
-    carried-each requester f none = step-each requester f
-    carried-each requester f (some codes) = crew (f .operation) (walked requester f (crewCodes codes) (setOut t))
+  module _ (crew : (o : Operation) (w : Walk) → Tallied w → P (crewOutcome (crewNumber o) reply w)) where
+    carried-each : (requester : Msisdn) (f : Request) (codes : Option (List ℕ)) → crewOf (f .additional) ≡ codes → P (carriedOutFor t reply requester f codes)
+    carried-each requester f none e = step-each requester f
+    carried-each requester f (some codes) e = crew (f .operation) (walked requester f (crewCodes codes) (setOut t)) (crew-tallied requester f codes t e)
 
     pub request-each : (list : List ℕ) (requester : Msisdn) (scheme : ℕ) (string : List ℕ) → P (requesting t list reply requester scheme string)
     unfolding requesting
-    request-each list requester scheme string = by-each _ (λ f. carried-each requester f (crewOf (f .additional))) list requester scheme string
+    request-each list requester scheme string = by-each _ (λ f. carried-each requester f (crewOf (f .additional)) refl) list requester scheme string

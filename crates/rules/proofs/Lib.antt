@@ -3,7 +3,6 @@ pub mod Once
 pub mod Single
 pub mod Unsound
 pub mod Visits
-pub mod Each
 pub mod Sound
 pub mod Rearrange
 pub mod Runs
@@ -11,6 +10,9 @@ pub mod Alone
 pub mod Local
 pub mod Crews
 pub mod Steps
+pub mod Taken
+pub mod Tallied
+pub mod Each
 pub mod Calls
 pub mod Members
 pub mod Singles

@@ -20,15 +20,7 @@ use Rattle.packing.specs.Packing.{taken, takes, octetsFor}
 use Rattle.numbers.specs.Numbers.{isDigit, isNumber, digitsOf, twoDigits}
 use Rattle.numbers.proofs.Digits.{digit-range, digits-are, digits-most}
 use Rattle.rules.specs.Answers.{holderText, bufferRoom}
-
--- a character of digits, as of any octet's two digits, is taken
-pub taken-low : (c : ℕ) → 48 ≤ c → c < 128 → taken c ≡ true
-unfolding taken
-taken-low c h l = simp (lt-ltb c 128 l, ne-eqb c 13 (λ e. omega arith))
-
-pub takes-two : (n : ℕ) → n < 256 → takes (twoDigits n) ≡ true
-unfolding each
-takes-two n h = simp (taken-low (48 + n / 10) (omega arith) (omega arith), taken-low (48 + n % 10) (omega arith) (omega arith))
+use Rattle.rules.proofs.Taken.{taken-low}
 
 pub digit-taken : (c : ℕ) → isDigit c ≡ true → taken c ≡ true
 digit-taken c e = let r = digit-range c e in taken-low c (r .0) (omega (arith, r .1))

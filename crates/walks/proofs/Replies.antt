@@ -17,7 +17,8 @@ use Rattle.strings.specs.declared.Operation.the-variants.{Register, Erase, Inte
 use Rattle.rules.specs.Answers.{Answer, outcome, made, packedOver, octetCount}
 use Rattle.rules.specs.Crews.{Walk, crewNumber, codesAndSpace, crewReply, crewOutcome}
 use Rattle.writers.proofs.Numerals.{numeral-short}
-use Rattle.visits.proofs.Texts.{taken-low, takes-two, digit-taken}
+use Rattle.rules.proofs.Taken.{takes-numeral, takes-both, takes-space}
+use Rattle.visits.proofs.Texts.{digit-taken}
 use Rattle.walks.specs.declared.Codes.{Codes}
 use Rattle.walks.specs.declared.Tally.{Tally}
 use Rattle.walks.specs.Tallies.{mostSteps, Holds, counted, Fits, Tallies, partOf, replyRoom, tallyText}
@@ -78,28 +79,13 @@ module _ (tally : Tally) (t : List ℕ) (w : Walk) (stands : Tallies tally t w) 
 
 -- ---- the packer takes it
 
-takes-both : (a b : List ℕ) → takes a ≡ true → takes b ≡ true → takes (a ++ b) ≡ true
-takes-both a b p q = each-append taken a b ∙ rw (p, q) refl
-
-takes-spaced : (a : List ℕ) → takes a ≡ true → takes (32 ∷ a) ≡ true
-unfolding each taken
-takes-spaced a p = p
-
-takes-numeral : (n : ℕ) → n < 256 → takes (numeral n) ≡ true
-unfolding each
-takes-numeral n h = go (ltb n 10) refl
-  where
-    go : (b : Bool) → ltb n 10 ≡ b → takes (cond b ((48 + n) ∷ []) (twoDigits n)) ≡ true
-    go true e = let l = ltb-true n 10 e in rw (taken-low (48 + n) (omega arith) (omega arith)) refl
-    go false e = takes-two n h
-
 takes-part : (c : Codes) (l : List ℕ) → c .count ≤ mostSteps → Holds c l → takes (partOf c) ≡ true
 unfolding each
-takes-part c l few h = ap takes (part-text c l h) ∙ (takes-spaced (numeral (length l) ++ spacedCodes l) (takes-both (numeral (length l)) (spacedCodes l) (takes-numeral (length l) (omega (arith, h .count))) (codes l (h .digits))))
+takes-part c l few h = ap takes (part-text c l h) ∙ (takes-space (numeral (length l) ++ spacedCodes l) (takes-both (numeral (length l)) (spacedCodes l) (takes-numeral (length l) (omega (arith, h .count))) (codes l (h .digits))))
   where
     codes : (l : List ℕ) → areDigits (codesText l) ≡ true → takes (spacedCodes l) ≡ true
     codes [] d = refl
-    codes (x ∷ l) d = takes-spaced (codesText (x ∷ l)) (each-implies isDigit taken digit-taken (codesText (x ∷ l)) d)
+    codes (x ∷ l) d = takes-space (codesText (x ∷ l)) (each-implies isDigit taken digit-taken (codesText (x ∷ l)) d)
 
 pub takes-tally : (n : ℕ) (tally : Tally) (t : List ℕ) (w : Walk) → n < 256 → counted tally ≤ mostSteps → Tallies tally t w → takes (tallyText n tally) ≡ true
 takes-tally n tally t w small few stands =

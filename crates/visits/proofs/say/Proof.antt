@@ -1,7 +1,7 @@
 use native.Mathlib.Omega.{arith}
 use borrow.Author.Needs.{needs}
 use Rattle.packing.specs.Packing.{octetsFor}
-use Rattle.visits.proofs.Texts.{takes-two}
+use Rattle.rules.proofs.Taken.{takes-two}
 use Rattle.visits.proofs.say.Statement.{statement}
 use Rattle.visits.proofs.say.Tie as tie
 
