@@ -14,7 +14,8 @@ use Rattle.strings.specs.Text.{Request}
 use Rattle.strings.specs.Outcomes.{requestOf}
 use Rattle.tables.specs.Tables.{tableSound, listSound}
 use Rattle.rules.specs.Answers.{refusal, error, made, bufferRoom, Outcome}
-use Rattle.rules.specs.Requests.{codingScheme, mostStringOctets, refusalChecks, requesting}
+use Rattle.rules.specs.Requests.{codingScheme, mostStringOctets, refusalChecks}
+use Rattle.rules.specs.Crews.{requesting}
 use Rattle.rules.specs.Notices.{sendingNotice, takingResult, finding, firstDue}
 use Rattle.rules.specs.Visits.{storing, leaving, sentStep, visitSending, missedSending}
 use Rattle.rows.specs.Rows.{recordAt}

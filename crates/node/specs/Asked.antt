@@ -1,16 +1,19 @@
--- A helper: what a request comes to once its string was read, in the words of `Visits`; proved a part of `requesting` (proofs/Asked). Assumes nothing.
+-- A helper: what a request comes to once its string was read; proved a part of `requesting` (proofs/Asked). Assumes nothing.
 use Prim.Native.Nat.{ℕ}
 use mathlib.Core.Option.{some}
 use mathlib.Core.List.{List}
 use Rattle.numbers.specs.declared.Msisdn.{Msisdn}
-use Rattle.strings.specs.Text.{Request}
-use Rattle.rows.specs.Rows.{recordAt}
-use Rattle.tables.specs.declared.Found.{Found}
-use Rattle.tables.specs.declared.Found.the-variants.{At, Nothing}
+use Rattle.crews.specs.Crews.{crewOf}
+use Rattle.strings.specs.declared.Fields.{Fields}
+use Rattle.strings.specs.Text.{Request, requestFrom}
 use Rattle.rules.specs.Answers.{Outcome}
-use Rattle.rules.specs.Visits.{storing, leaving, visitRequest, missedRequest}
+use Rattle.rules.specs.Requests.{askingBy}
+use Rattle.rules.specs.Crews.{carriedOutFor}
 
--- a request whose string was read, by the row of its number
-abbrev pub askedAt : List ℕ → ℕ → List ℕ → Msisdn → Request → Found → Outcome
-askedAt table flags reply requester f Nothing = leaving table (missedRequest flags reply (some f))
-askedAt table flags reply requester f (At i) = storing table i (visitRequest flags requester reply (some f) (recordAt table i))
+-- the fields of the code's answer, beside the additional field's characters
+abbrev pub withAdditional : Fields → List ℕ → Request
+withAdditional f additional = requestFrom (f .operation) (f .number) (f .erasing) additional
+
+-- a request whose string was read
+abbrev pub asked : List ℕ → ℕ → List ℕ → Msisdn → Request → Outcome
+asked table flags reply requester f = askingBy (λ g. carriedOutFor table reply requester g (crewOf (g .additional))) table flags reply (some f)

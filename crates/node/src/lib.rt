@@ -1,4 +1,5 @@
 // The four calls of the node over lent memory: a request, a sending, a result and a finding, each equal to document 01's rules for every input.
+use crews::Crew;
 use numbers::FunctionalNumber;
 use numbers::Msisdn;
 use strings::Erasing;
@@ -14,13 +15,16 @@ ghost use mathlib.Core.Bool.{true, not, _&&_};
 ghost use mathlib.Core.List.{[]};
 ghost use Prim.Native.Nat.{_≤_};
 ghost use lib.ListN.{length};
-ghost use Rattle.tables.specs.Tables.{tableSound, listSound, rowOf, flagsOf};
+ghost use Rattle.numbers.specs.Numbers.{isNumber};
+ghost use Rattle.crews.specs.Crews.{countOf};
+ghost use Rattle.strings.specs.Text.{erasingSound, requestSound};
+ghost use Rattle.tables.specs.Tables.{tableSound, listSound, flagsOf};
 ghost use Rattle.rules.specs.Answers.{made, bufferRoom};
 ghost use Rattle.rules.specs.Requests.{isForced, isSupervisor};
 ghost use Rattle.rules.specs.Requests as requests;
+ghost use Rattle.rules.specs.Crews as crews;
 ghost use Rattle.rules.specs.Notices as notices;
-ghost use Rattle.visits.specs.Deciding.{deciding};
-ghost use Rattle.node.specs.Asked.{askedAt};
+ghost use Rattle.node.specs.Asked.{withAdditional, asked};
 ghost use Rattle.visits.specs.Said.{saidRequest, saidSending, saidResult, saidFinding};
 
 // Reply and notice buffers have at least so many octets.
@@ -42,19 +46,41 @@ fn is_forbidden(erasing: Erasing, flags: u64) -> bool
     }
 }
 
-// A request whose string was read: the requester's flags, the number's row, and what its record decides.
+// A single request: the number's row, and what its record decides.
+fn ask_single(
+    table: &mut [u64],
+    reply: &mut [u8],
+    requester: Msisdn,
+    fields: Fields,
+) -> RequestAnswer
+    requires { ⌜ (tableSound (now table) ≡ true) × (bufferRoom ≤ length (now reply)) × (erasingSound (fields .operation) (fields .erasing) ≡ true) ⌝ }
+    ensures { λ r. ⌜ made (saidRequest r) (now (table .exit)) (now (reply .exit)) ≡ requests.once (now (table .entry)) (now (reply .entry)) requester (withAdditional fields []) ⌝ }
+{
+    let number = fields.number;
+    let found = tables::row_of(table, number);
+    let Found::At(row) = found else {
+        return visits::say(41, reply);
+    };
+    visits::decide_at(table, row, reply, requester, fields)
+}
+
+// A request whose string was read: the requester's flags, and then the single request or the crew's.
 fn ask(
     table: &mut [u64],
     list: &[u64],
     reply: &mut [u8],
     requester: Msisdn,
     fields: Fields,
+    additional: &[u8],
 ) -> RequestAnswer
-    requires { ⌜ (tableSound (now table) ≡ true) × (listSound (now list) ≡ true) × (bufferRoom ≤ length (now reply)) ⌝ }
-    ensures { λ r. ⌜ made (saidRequest r) (now (table .exit)) (now (reply .exit)) ≡ askedAt (now (table .entry)) (flagsOf (now (list .entry)) (requester .0)) (now (reply .entry)) requester (deciding fields) (rowOf (now (table .entry)) (fields .number .0)) ⌝ }
+    requires { ⌜ (tableSound (now table) ≡ true) × (listSound (now list) ≡ true) × (bufferRoom ≤ length (now reply)) × (isNumber (requester .0) ≡ true) ⌝ }
+    requires { ⌜ (requestSound (withAdditional fields (now additional)) ≡ true) × (fields .crew ≡ countOf (now additional)) ⌝ }
+    ensures { λ r. ⌜ made (saidRequest r) (now (table .exit)) (now (reply .exit)) ≡ asked (now (table .entry)) (flagsOf (now (list .entry)) (requester .0)) (now (reply .entry)) requester (withAdditional fields (now (additional .entry))) ⌝ }
 {
-    let erasing = fields.erasing;
+    let operation = fields.operation;
     let number = fields.number;
+    let erasing = fields.erasing;
+    let crew = fields.crew;
     let flags = tables::flags_of(list, requester);
     if flags % 2 != 1 {
         return visits::say(42, reply);
@@ -62,11 +88,15 @@ fn ask(
     if is_forbidden(erasing, flags) {
         return visits::say(22, reply);
     }
-    let found = tables::row_of(table, number);
-    let Found::At(row) = found else {
-        return visits::say(41, reply);
-    };
-    visits::decide_at(table, row, reply, requester, fields)
+    match crew {
+        Crew::Single => ask_single(table, reply, requester, fields),
+        Crew::Codes(n) => {
+            let digits = &additional[additional.len() - 2 * n..];
+            walks::request_crew(table, reply, requester, operation, number, digits)
+        }
+        // No string reads so.
+        Crew::Broken => RequestAnswer::Error(36),
+    }
 }
 
 // A request: the checks with a refusal or an error, in document 01's order, and what its string asks for.
@@ -78,7 +108,7 @@ pub fn request(
     scheme: u8,
     string: &[u8],
 ) -> RequestAnswer
-    ensures { λ r. ⌜ made (saidRequest r) (now (table .exit)) (now (reply .exit)) ≡ requests.requesting (now (table .entry)) (now (list .entry)) (now (reply .entry)) requester scheme (now (string .entry)) ⌝ }
+    ensures { λ r. ⌜ made (saidRequest r) (now (table .exit)) (now (reply .exit)) ≡ crews.requesting (now (table .entry)) (now (list .entry)) (now (reply .entry)) requester scheme (now (string .entry)) ⌝ }
 {
     if reply.len() < BUFFER_ROOM {
         return RequestAnswer::Refused(1);
@@ -106,7 +136,10 @@ pub fn request(
     let Reading::Read(fields) = reading else {
         return RequestAnswer::Error(36);
     };
-    ask(table, list, reply, requester, fields)
+    let text = read.text;
+    let start = fields.start;
+    let end = start + fields.count;
+    ask(table, list, reply, requester, fields, &text[start..end])
 }
 
 // A sending names a number.

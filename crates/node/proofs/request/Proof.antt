@@ -1,15 +1,20 @@
-use mathlib.Core.Path.{_≡_, sym, _∙_}
+use mathlib.Core.Path.{_≡_, sym, ap, _∙_}
 use mathlib.Core.Bool.{true}
 use mathlib.Core.List.{List}
 use Prim.Native.Nat.{ℕ, _≤_}
+use native.Mathlib.Omega.{arith}
 use lib.ListN.{length}
 use denote.Ref.{now}
 use borrow.Author.Tests.{not-true, not-false}
 use Rattle.numbers.specs.Numbers.{isNumber}
 use Rattle.numbers.specs.declared.Msisdn.{Msisdn}
-use Rattle.tables.specs.Tables.{tableSound, listSound}
+use Rattle.crews.specs.Crews.{countOf}
+use Rattle.strings.specs.declared.Fields.{Fields}
+use Rattle.strings.specs.Text.{requestSound}
+use Rattle.tables.specs.Tables.{tableSound, listSound, flagsOf}
 use Rattle.rules.specs.Answers.{bufferRoom}
-use Rattle.node.proofs.Asked.{not-read, was-read, request-asked}
+use Rattle.node.specs.Asked.{withAdditional, asked}
+use Rattle.node.proofs.Asked.{not-read, was-read, read-crew, read-sound, read-within, read-short, read-part, request-asked}
 use Rattle.node.proofs.Checks.{refused-1, refused-8, refused-2, error-35-requester, error-71, error-35-empty, error-36-long, error-36-unread, none-refuses}
 use borrow.Author.Needs.{needs}
 use Rattle.node.proofs.request.Statement.{statement}
@@ -152,10 +157,50 @@ returns-8 c =
     let s = from4 e in
     sym (error-36-unread (T s) (L s) (B s) (Q s) (C s) (S s) (room (up2 (up3 (up4 e)))) (soundList (up3 (up4 e))) (soundTable (up4 e)) (number e) (l .before .before .if5 .left) (l .before .if6 .left) (l .if7 .left) (not-read (S s) _ (r .read-request .ensures) (c .enum-told .given .1)))
 
+-- the reader's answer
+abbrev reader : tie.After-known-told → tie.After-read-request
+reader c = c .before .before .before
+
+abbrev from5 : tie.After-read-request → tie.Else4
+from5 c = c .before .before .before .before
+
+abbrev fields : tie.After-known-told → Fields
+fields c = c .before .reading .given .0 .0
+
+abbrev string : tie.After-known-told → List ℕ
+string c = S (from4 (from5 (reader c)))
+
+add-end : tie.Need-add-end
+add-end c =
+    let k = c .before .before in
+    let r = reader k in
+    omega (arith, read-short (string k) (r .read-request .result) (r .read-request .ensures) (fields k) (k .before .reading .given .1))
+
+sub-ask : tie.Need-sub-ask
+sub-ask c = search needs
+
+part-ask-start : tie.Need-part-ask-start
+part-ask-start c = search needs
+
+part-ask-end : tie.Need-part-ask-end
+part-ask-end c =
+    let k = c .before .before .before .before .before in
+    let r = reader k in
+    read-within (string k) (r .read-request .result) (r .read-request .ensures) (fields k) (k .before .reading .given .1)
+
 ask-requires : tie.Need-ask-requires
 ask-requires c κs =
-    let e = c .before .before .before .before .before .before .before .before .before in
-    (soundTable (up4 e), soundList (up3 (up4 e)), room (up2 (up3 (up4 e))))
+    let k = c .before .before .before .before .before .before in
+    let r = reader k in
+    let e = from5 r in
+    let told = k .before .reading .given .1 in
+    let part = read-part (string k) (r .read-request .result) (r .read-request .ensures) (fields k) told in (
+      (soundTable (up4 e), soundList (up3 (up4 e)), room (up2 (up3 (up4 e))), number e),
+      (
+        ap (λ (l : List ℕ). requestSound (withAdditional (fields k) l)) part ∙ read-sound (string k) (r .read-request .result) (r .read-request .ensures) (fields k) told,
+        read-crew (string k) (r .read-request .result) (r .read-request .ensures) (fields k) told ∙ ap countOf (sym part),
+      ),
+    )
 
 same-length-7 : tie.Need-same-length-7
 same-length-7 c = search needs
@@ -166,15 +211,17 @@ same-length-8 c = search needs
 returns-9 : tie.Need-returns-9
 returns-9 c =
     let a = c .before .before .before .before in
-    let k = a .before .before .before in
-    let r = k .before .before .before in
+    let k = a .before .before .before .before .before .before .before in
+    let r = reader k in
     let l = r .before in
-    let e = l .before .before .before in
+    let e = from5 r in
     let s = from4 e in
-    let f = k .before .reading .given .0 .0 in
-    let reads = was-read (S s) (r .read-request .result) (r .read-request .ensures) f (k .before .reading .given .1) in
+    let told = k .before .reading .given .1 in
+    let reads = was-read (S s) (r .read-request .result) (r .read-request .ensures) (fields k) told in
     let passed = none-refuses (T s) (L s) (B s) (Q s) (C s) (S s) (room (up2 (up3 (up4 e)))) (soundList (up3 (up4 e))) (soundTable (up4 e)) (number e) (l .before .before .if5 .left) (l .before .if6 .left) (l .if7 .left) _ reads in
-    a .ask .ensures ∙ sym (request-asked (T s) (L s) (B s) (Q s) (C s) (S s) (r .read-request .result .text) f (soundTable (up4 e)) passed reads)
+    a .ask .ensures
+    ∙ ap (λ (x : List ℕ). asked (T s) (flagsOf (L s) (Q s .0)) (B s) (Q s) (withAdditional (fields k) x)) (read-part (S s) (r .read-request .result) (r .read-request .ensures) (fields k) told)
+    ∙ sym (request-asked (T s) (L s) (B s) (Q s) (C s) (S s) _ (soundTable (up4 e)) passed reads)
 
 pub request-spec : {M : Type 1} → statement M
 request-spec =
@@ -200,6 +247,10 @@ request-spec =
     enum-told
     same-length-6
     returns-8
+    add-end
+    sub-ask
+    part-ask-start
+    part-ask-end
     ask-requires
     same-length-7
     same-length-8
