@@ -7,14 +7,14 @@ use Prim.Native.Nat.{ℕ, suc, _+_, _*_, _^_, _≤_}
 use native.Mathlib.Omega.{arith}
 use Prim.Native.Char.{code}
 use lib.ListN.{length, length-append}
-use lib.Dec.{eqb, leb}
+use lib.Dec.{eqb, leb, ltb}
 use borrow.Author.Tests.{leb-true}
 use Rattle.answers.specs.Checks.{_>>=_}
-use Rattle.answers.proofs.Tests.{and-left}
+use Rattle.answers.proofs.Tests.{no-path, and-left}
 use Rattle.answers.proofs.Decide.{decide-each}
 use Rattle.answers.proofs.Checks.{not-some, onlyIf-some}
 use Rattle.packing.specs.Packing.{charsIn}
-use Rattle.numbers.specs.Numbers.{mostDigits, isNumber, digitsOf, storedForm}
+use Rattle.numbers.specs.Numbers.{mostDigits, isNumber, digitsOf, pushed, storedForm}
 use Rattle.numbers.specs.declared.FunctionalNumber.{FunctionalNumber}
 use Rattle.numbers.proofs.Lengths.{number-some}
 use Rattle.rules.specs.Answers.{Answer, refusal, error, outcome, holderIs, sentTo, delivered, dropped, again, found, noneDue, Outcome}
@@ -27,13 +27,14 @@ use Rattle.lines.specs.Program.{Program, Effect, mayFollow, mayFill, wit
 use Rattle.replies.specs.Replies.{textIn, behindLetter, Printable, answerRoom}
 use Rattle.writers.proofs.Numerals.{numeral-short}
 use Rattle.replies.proofs.Writing.{text-most}
+use Rattle.rules.proofs.Tallied.{mostReply}
 use Rattle.lines.proofs.Printing.{digits-short, isSent, Replies, asked-replies, result-replies, sending-sends}
 
 -- ---- what follows the letter
 
--- a notice and its addressee, or at most `03`, a space and 15 digits
+-- a notice and its addressee, or at most a crew's reply
 abbrev mostSaid : Bool → ℕ
-mostSaid isNotice = cond isNotice answerRoom 18
+mostSaid isNotice = cond isNotice answerRoom mostReply
 
 said-most : (a : Answer) (b : List ℕ) → Printable a b → length (behindLetter a b) ≤ mostSaid (isSent a)
 unfolding charsIn digitsOf
@@ -59,19 +60,35 @@ said-room o h = go (isSent (o .answer)) (said-most (o .answer) (o .buffer) h)
 answered-most : (letter : ℕ) (o : Outcome) (p : Program) → Printable (o .answer) (o .buffer) → length (answered letter o p .prints) ≤ 3 + mostSaid (isSent (o .answer))
 answered-most letter o p h = omega (arith, said-most (o .answer) (o .buffer) h, length-append (behindLetter (o .answer) (o .buffer)) (lineFeed ∷ []))
 
-replied-most : (letter : ℕ) (o : Outcome) (p : Program) → Replies o → length (answered letter o p .prints) ≤ 21
+replied-most : (letter : ℕ) (o : Outcome) (p : Program) → Replies o → length (answered letter o p .prints) ≤ 3 + mostReply
 replied-most letter o p h = rw (h .1) at (answered-most letter o p (h .0))
 
 -- ---- how long a line of each form is
 
-behind-shorter : (s r : List ℕ) → behindField s ≡ some r → suc (length r) ≤ length s
-unfolding behindField
-behind-shorter [] r e = not-some e
-behind-shorter (c ∷ s) r e = go (eqb c space) e (behind-shorter s r)
+-- a field, the space behind it, and what stands behind that
+field-behind : (s r : List ℕ) → behindField s ≡ some r → suc (length (firstField s) + length r) ≤ length s
+unfolding behindField firstField
+field-behind [] r e = not-some e
+field-behind (c ∷ s) r e = go (eqb c space) e (field-behind s r)
   where
-    go : (b : Bool) → cond b (some s) (behindField s) ≡ some r → (behindField s ≡ some r → suc (length r) ≤ length s) → suc (length r) ≤ suc (length s)
+    go : (b : Bool) → cond b (some s) (behindField s) ≡ some r → (behindField s ≡ some r → suc (length (firstField s) + length r) ≤ length s)
+        → suc (length (cond b [] (c ∷ firstField s)) + length r) ≤ suc (length s)
     go true e rest = let same : s ≡ r = cc in omega (arith, ap length same)
     go false e rest = let h = rest e in omega arith
+
+-- digits that can be read are some
+digits-some : (s : List ℕ) → isDigits s ≡ true → 1 ≤ length s
+unfolding isDigits
+digits-some [] e = no-path e
+digits-some (c ∷ s) e = omega arith
+
+asked-some : (s : List ℕ) (w : ℕ) → askedOf s ≡ some w → 1 ≤ length s
+unfolding askedOf
+asked-some s w e = digits-some s (onlyIf-some (isDigits s) e .0)
+
+value-some : (limit : ℕ) (s : List ℕ) (v : ℕ) → valueBelow limit s ≡ some v → 1 ≤ length s
+unfolding valueBelow
+value-some limit s v e = digits-some s (and-left (isDigits s) (ltb (pushed 0 s) limit) (onlyIf-some (isDigits s && ltb (pushed 0 s) limit) e .0))
 
 -- a number that was asked for has 5 digits at least
 asked-long : (s : List ℕ) (w : ℕ) → askedOf s ≡ some w → isNumber w ≡ true → 5 ≤ length s
@@ -82,14 +99,14 @@ asked-long s w e h = go (isNumberLong s) refl (onlyIf-some (isDigits s) e .1)
     go true l same = leb-true 5 (length s) (and-left (leb 5 (length s)) (leb (length s) mostDigits) l)
     go false l same = absurd (number-some w h (sym same))
 
--- a form of a line: a `T` with a number has a space and 5 digits at least behind the letter and its space
+-- a form of a line: behind the letter and its space an `R`, a `T` and a `D` have a digit and a space, a `T` with a number a space and 5 digits at least
 abbrev Long : ℕ → Option Form → Type 0
 Long n none = Unit {0}
 Long n (some (form.numberLine number)) = Unit {0}
 Long n (some (form.subscriberLine msisdn flags)) = Unit {0}
-Long n (some (form.requestLine msisdn string)) = Unit {0}
-Long n (some (form.sendingLine clock number)) = isNumber (number .0) ≡ true → 6 ≤ n
-Long n (some (form.resultLine clock number kind)) = Unit {0}
+Long n (some (form.requestLine msisdn string)) = 2 ≤ n
+Long n (some (form.sendingLine clock number)) = (2 ≤ n) × (isNumber (number .0) ≡ true → 6 ≤ n)
+Long n (some (form.resultLine clock number kind)) = 2 ≤ n
 
 -- what holds of nothing, and of what is read from everything that can be read first
 bind-each : {X Y : Type 0} (P : Option Y → Type 0) (m : Option X) (f : X → Option Y) → P none → ((x : X) → m ≡ some x → P (f x)) → P (m >>= f)
@@ -105,7 +122,10 @@ module _ (rest : List ℕ) where
   sending-long =
       bind-each IsLong (behindField rest) _ tt (λ last b.
       bind-each IsLong (valueBelow (2 ^ 32) (firstField rest)) _ tt (λ clock c.
-      bind-each IsLong (askedOf last) _ tt (λ w a h. omega (arith, asked-long last w a h, behind-shorter rest last b))))
+      bind-each IsLong (askedOf last) _ tt (λ w a.
+      let whole = field-behind rest last b in
+      let first = value-some (2 ^ 32) (firstField rest) clock c in
+      (omega arith, λ h. omega (arith, asked-long last w a h)))))
 
   number-long : IsLong (form.numberForm rest)
   unfolding form.numberForm
@@ -119,7 +139,8 @@ module _ (rest : List ℕ) where
 
   request-long : IsLong (form.requestForm rest)
   unfolding form.requestForm
-  request-long = bind-each IsLong (behindField rest) _ tt (λ string b. bind-each IsLong (askedOf (firstField rest)) _ tt (λ w a. tt))
+  request-long = bind-each IsLong (behindField rest) _ tt (λ string b.
+      bind-each IsLong (askedOf (firstField rest)) _ tt (λ w a. omega (arith, field-behind rest string b, asked-some (firstField rest) w a)))
 
   result-long : IsLong (form.resultForm rest)
   unfolding form.resultForm form.resultFields
@@ -127,7 +148,8 @@ module _ (rest : List ℕ) where
       bind-each IsLong (behindField rest) _ tt (λ fields b.
       bind-each IsLong (valueBelow (2 ^ 32) (firstField rest)) _ tt (λ clock c.
       bind-each IsLong (behindField fields) _ tt (λ last d.
-      bind-each IsLong (askedOf (firstField fields)) _ tt (λ w a. bind-each IsLong (valueBelow (2 ^ 32) last) _ tt (λ kind v. tt)))))
+      bind-each IsLong (askedOf (firstField fields)) _ tt (λ w a. bind-each IsLong (valueBelow (2 ^ 32) last) _ tt (λ kind v.
+      omega (arith, field-behind rest fields b, value-some (2 ^ 32) (firstField rest) clock c))))))
 
   letter-long : (letter : ℕ) → IsLong (lettered letter rest)
   unfolding lettered
@@ -159,11 +181,11 @@ filled-bounded line true next p = record { most = omega arith; times = omega ari
 filled-bounded line false next p = record { most = omega arith; times = omega arith }
 
 module _ (line : List ℕ) (p : Program) where
-  replied-bounded : (letter : ℕ) (o : Outcome) → 2 ≤ length line → Replies o → Bounded line (answered letter o p)
+  replied-bounded : (letter : ℕ) (o : Outcome) → 4 ≤ length line → Replies o → Bounded line (answered letter o p)
   replied-bounded letter o h r = let m = replied-most letter o p r in record { most = omega arith; times = omega arith }
 
   sent-bounded :
-      (letter : ℕ) (o : Outcome) (n : FunctionalNumber) → 2 ≤ length line → (isNumber (n .0) ≡ true → 8 ≤ length line)
+      (letter : ℕ) (o : Outcome) (n : FunctionalNumber) → 4 ≤ length line → (isNumber (n .0) ≡ true → 8 ≤ length line)
       → Printable (o .answer) (o .buffer) × (isSent (o .answer) ≡ true → isNumber (n .0) ≡ true) → Bounded line (answered letter o p)
   sent-bounded letter o n h l s = go (isSent (o .answer)) refl
     where
@@ -183,13 +205,16 @@ module _ (line : List ℕ) (p : Program) where
       filled-bounded line (p .filling && mayFollow subscriberWords mostSubscribers (m .0) (p .list)) (withSubscriber m flags p) p
   effect-bounded (some (form.requestLine m string)) e =
       let l = form-long line (form.requestLine m string) e in
+      let long = l .2 in
       replied-bounded (code "R") (asked m string (p .table) (p .list)) (omega arith) (asked-replies m string (p .table) (p .list))
   effect-bounded (some (form.sendingLine clock n)) e =
       let l = form-long line (form.sendingLine clock n) e in
-      let longer : isNumber (n .0) ≡ true → 8 ≤ length line = λ h. let k = l .2 h in omega arith in
+      let longer : isNumber (n .0) ≡ true → 8 ≤ length line = λ h. let k = l .2 .1 h in omega arith in
+      let long = l .2 .0 in
       sent-bounded (code "T") (notices.sendingNotice (p .table) lentBuffer n 0 clock) n (omega arith) longer (sending-sends (p .table) lentBuffer n 0 clock)
   effect-bounded (some (form.resultLine clock n kind)) e =
       let l = form-long line (form.resultLine clock n kind) e in
+      let long = l .2 in
       replied-bounded (code "D") (notices.takingResult (p .table) n kind clock) (omega arith) (result-replies (p .table) n kind clock)
 
   pub line-bounded : Bounded line (lineEffect line p)
