@@ -4,7 +4,7 @@
  * Every function works on memory that the caller lends for the one call, keeps
  * nothing, and allocates nothing. It returns one struct by value. Each is
  * proved, for every input, to return and to leave in all lent memory exactly
- * what document 01 says; no input is undefined. What a caller owes is only
+ * what documents 01 and 02 say; no input is undefined. What a caller owes is only
  * what C itself asks:
  *  - a pointer is not null and points at as many elements as its length says,
  *    also where that length is 0 (the pointer is not followed then);

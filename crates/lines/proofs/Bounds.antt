@@ -23,7 +23,7 @@ use Rattle.forms.specs.Lines as form
 use Rattle.forms.specs.Lines.{lineFeed, space, firstField, behindField, isDigits, isNumberLong, askedOf, valueBelow, Form, sendingForm, lettered, formOf}
 use Rattle.rows.specs.Rows.{rowWords}
 use Rattle.tables.specs.Tables.{mostNumbers, subscriberWords, mostSubscribers}
-use Rattle.lines.specs.Program.{Program, Effect, mayFollow, mayFill, withNumber, withSubscriber, answered, lentBuffer, numbered, subscribed, asked, requested, dispatched, reported, effectOf, lineEffect}
+use Rattle.lines.specs.Program.{Program, Effect, mayFollow, mayFill, withNumber, withSubscriber, answeredLine, lentBuffer, numbered, subscribed, asked, requested, dispatched, reported, effectOf, lineEffect}
 use Rattle.replies.specs.Replies.{textIn, behindLetter, Printable, answerRoom}
 use Rattle.writers.proofs.Numerals.{numeral-short}
 use Rattle.replies.proofs.Writing.{text-most}
@@ -57,10 +57,10 @@ said-room o h = go (isSent (o .answer)) (said-most (o .answer) (o .buffer) h)
     go false m = omega arith
 
 -- with the letter, the space and the line feed
-answered-most : (letter : ℕ) (o : Outcome) (p : Program) → Printable (o .answer) (o .buffer) → length (answered letter o p .prints) ≤ 3 + mostSaid (isSent (o .answer))
+answered-most : (letter : ℕ) (o : Outcome) (p : Program) → Printable (o .answer) (o .buffer) → length (answeredLine letter o p .prints) ≤ 3 + mostSaid (isSent (o .answer))
 answered-most letter o p h = omega (arith, said-most (o .answer) (o .buffer) h, length-append (behindLetter (o .answer) (o .buffer)) (lineFeed ∷ []))
 
-replied-most : (letter : ℕ) (o : Outcome) (p : Program) → Replies o → length (answered letter o p .prints) ≤ 3 + mostReply
+replied-most : (letter : ℕ) (o : Outcome) (p : Program) → Replies o → length (answeredLine letter o p .prints) ≤ 3 + mostReply
 replied-most letter o p h = rw (h .1) at (answered-most letter o p (h .0))
 
 -- ---- how long a line of each form is
@@ -181,15 +181,15 @@ filled-bounded line true next p = record { most = omega arith; times = omega ari
 filled-bounded line false next p = record { most = omega arith; times = omega arith }
 
 module _ (line : List ℕ) (p : Program) where
-  replied-bounded : (letter : ℕ) (o : Outcome) → 4 ≤ length line → Replies o → Bounded line (answered letter o p)
+  replied-bounded : (letter : ℕ) (o : Outcome) → 4 ≤ length line → Replies o → Bounded line (answeredLine letter o p)
   replied-bounded letter o h r = let m = replied-most letter o p r in record { most = omega arith; times = omega arith }
 
   sent-bounded :
       (letter : ℕ) (o : Outcome) (n : FunctionalNumber) → 4 ≤ length line → (isNumber (n .0) ≡ true → 8 ≤ length line)
-      → Printable (o .answer) (o .buffer) × (isSent (o .answer) ≡ true → isNumber (n .0) ≡ true) → Bounded line (answered letter o p)
+      → Printable (o .answer) (o .buffer) × (isSent (o .answer) ≡ true → isNumber (n .0) ≡ true) → Bounded line (answeredLine letter o p)
   sent-bounded letter o n h l s = go (isSent (o .answer)) refl
     where
-      go : (b : Bool) → isSent (o .answer) ≡ b → Bounded line (answered letter o p)
+      go : (b : Bool) → isSent (o .answer) ≡ b → Bounded line (answeredLine letter o p)
       go true e =
           let m = rw e at (answered-most letter o p (s .0)) in
           let long = l (s .1 e) in

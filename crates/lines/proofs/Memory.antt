@@ -19,7 +19,7 @@ use Rattle.rules.specs.Answers.{Outcome}
 use Rattle.lines.specs.declared.State.{State}
 use Rattle.lines.specs.declared.Done.{Done}
 use Rattle.forms.specs.Lines.{lineFeed, space}
-use Rattle.lines.specs.Program.{Program, Effect, questioned, lastKey, mayFollow, mayFill, withNumber, numbered, withSubscriber, subscribed, answered}
+use Rattle.lines.specs.Program.{Program, Effect, questioned, lastKey, mayFollow, mayFill, withNumber, numbered, withSubscriber, subscribed, answeredLine}
 use Rattle.answers.specs.Writing.{Stands}
 use Rattle.lines.specs.Memory.{Answered, programIn, Fits, lineRoom, Did, ending}
 use Rattle.answers.proofs.Parts.{rest-of, rest-back}
@@ -124,7 +124,7 @@ pub line-did :
     → Fits s table list → Stands (letter ∷ space ∷ []) out h mid → Answered o t (take (length mid - h) (drop h mid)) part n
     → length t ≡ rowWords * s .numbers → h + n < length (putMid h (length mid - h) mid part)
     → d ≡ ending s (h + n) → new ≡ set (putMid h (length mid - h) mid part) (h + n) lineFeed
-    → Did (answered letter o (programIn s table list)) s table list out d (t ++ drop (rowWords * s .numbers) table) list new
+    → Did (answeredLine letter o (programIn s table list)) s table list out d (t ++ drop (rowWords * s .numbers) table) list new
 line-did {s = s} {table} {list} stands head body rows room ended written =
     rw (ended, written)
     (record {

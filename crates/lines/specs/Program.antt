@@ -73,8 +73,8 @@ subscribed m flags p = mayFill (p .filling && mayFollow subscriberWords mostSubs
 -- ---- answers
 
 -- an answer to an `R`, `T` or `D`, which ends the filling
-abbrev pub answered : ℕ → Outcome → Program → Effect
-answered letter o p = record {
+abbrev pub answeredLine : ℕ → Outcome → Program → Effect
+answeredLine letter o p = record {
   prints = letter ∷ space ∷ behindLetter (o .answer) (o .buffer) ++ (lineFeed ∷ []);
   leaves = record { table = o .table; list = p .list; filling = false };
 }
@@ -90,15 +90,15 @@ asked m string table list =
 
 -- "`R` requester string (unpacked …) prints `R` and the reply text"
 unfoldable pub requested : Msisdn → List ℕ → Program → Effect
-requested m string p = answered (code "R") (asked m string (p .table) (p .list)) p
+requested m string p = answeredLine (code "R") (asked m string (p .table) (p .list)) p
 
 -- "`T` now number prints `T`, addressee, notice", with "delay 0"
 unfoldable pub dispatched : ℕ → FunctionalNumber → Program → Effect
-dispatched now n p = answered (code "T") (notices.sendingNotice (p .table) lentBuffer n 0 now) p
+dispatched now n p = answeredLine (code "T") (notices.sendingNotice (p .table) lentBuffer n 0 now) p
 
 -- "`D` now number kind prints `D delivered`, `D dropped` or `D again`"
 unfoldable pub reported : ℕ → FunctionalNumber → ℕ → Program → Effect
-reported now n kind p = answered (code "D") (notices.takingResult (p .table) n kind now) p
+reported now n kind p = answeredLine (code "D") (notices.takingResult (p .table) n kind now) p
 
 -- ---- lines
 

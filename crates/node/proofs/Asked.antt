@@ -15,9 +15,9 @@ use Rattle.numbers.specs.declared.FunctionalNumber.{FunctionalNumber}
 use Rattle.numbers.specs.declared.Msisdn.{Msisdn}
 use Rattle.crews.specs.declared.Crew.{Crew}
 use Rattle.crews.specs.declared.Crew.the-variants.{Single, Codes, Broken}
-use Rattle.crews.specs.Crews.{mostCodes, bulkText, codesText, spacedCodes, crewText, codesSound, codesIn, countedCodesAt, crewOf, counted, countOf}
+use Rattle.crews.specs.Crews.{mostCodes, bulkText, codesText, crewText, codesSound, codesIn, countedCodesAt, crewOf, counted, countOf}
 use Rattle.crews.proofs.Codes.{length-codes, digits-codes, codes-back, codes-only}
-use Rattle.crews.proofs.Crews.{sound-few, sound-codes, crew-only, codes-last}
+use Rattle.crews.proofs.Crews.{sound-few, sound-codes, crew-only, codes-last, crew-count}
 use Rattle.strings.specs.declared.Operation.{Operation}
 use Rattle.strings.specs.declared.Operation.the-variants.{Register, Erase, Interrogate}
 use Rattle.strings.specs.declared.Erasing.{Erasing}
@@ -26,7 +26,7 @@ use Rattle.strings.specs.declared.Fields.{Fields}
 use Rattle.strings.specs.declared.Reading.the-variants.{Read, Unreadable}
 use Rattle.strings.specs.declared.ReadRequest.{ReadRequest}
 use Rattle.strings.specs.Text.{Request, requestFrom, erasingSound, mayCarry, isLead, requestSound, mostCharacters}
-use Rattle.strings.specs.Outcomes.{Told, ReadOutcome, requestOf, requestIn, tell, madeRead, textBeside, reading}
+use Rattle.strings.specs.Outcomes.{Told, ReadOutcome, requestOf, requestIn, tell, madeRead, reading}
 use Rattle.strings.proofs.Text.{sound-rules, text-short}
 use Rattle.strings.proofs.ReadBack.{read-only}
 use Rattle.strings.proofs.Octets.{request-reads}
@@ -41,8 +41,9 @@ use Rattle.rules.specs.Crews.{crewCodes, crewNumber, Walk, walked, setOut, crew
 use Rattle.rules.specs.Visits.{decidesAt}
 use Rattle.rules.proofs.Visits.{step-visits, step-misses, by-asks}
 use Rattle.rules.proofs.Steps.{crew-plain}
-use Rattle.walks.specs.Tallies.{mostSteps, plainOf}
-use Rattle.node.specs.Asked.{withAdditional, asked}
+use Rattle.rules.specs.Crews.{mostSteps}
+use Rattle.rules.specs.Singles.{plainly}
+use Rattle.node.specs.Asked.{withAdditional, askedBy}
 
 -- ---- the checks of the requester's rights
 
@@ -51,14 +52,14 @@ module _ (t : List ℕ) (flags : ℕ) (b : List ℕ) (q : Msisdn) (f : Request) 
   abbrev Says : Answer → List ℕ → ℕ → Type 0
   Says said after n = (said ≡ outcome n (octetCount (twoDigits n))) × (after ≡ packedOver (twoDigits n) b)
 
-  pub says-42 : (said : Answer) (after : List ℕ) → hasFollowMe flags ≡ false → Says said after 42 → made said t after ≡ asked t flags b q f
+  pub says-42 : (said : Answer) (after : List ℕ) → hasFollowMe flags ≡ false → Says said after 42 → made said t after ≡ askedBy t flags b q f
   says-42 said after e s = rw (e, s .0, s .1)
 
   module _ (allowed : hasFollowMe flags ≡ true) where
-    pub says-22 : (said : Answer) (after : List ℕ) → (isForced (f .erasing) && not (isSupervisor flags)) ≡ true → Says said after 22 → made said t after ≡ asked t flags b q f
+    pub says-22 : (said : Answer) (after : List ℕ) → (isForced (f .erasing) && not (isSupervisor flags)) ≡ true → Says said after 22 → made said t after ≡ askedBy t flags b q f
     says-22 said after e s = rw (allowed, e, s .0, s .1)
 
-    pub passes : (isForced (f .erasing) && not (isSupervisor flags)) ≡ false → asked t flags b q f ≡ carriedOutFor t b q f (crewOf (f .additional))
+    pub passes : (isForced (f .erasing) && not (isSupervisor flags)) ≡ false → askedBy t flags b q f ≡ carriedOutFor t b q f (crewOf (f .additional))
     passes e = rw (allowed, e) refl
 
 -- ---- what the additional field says of a crew
@@ -76,15 +77,6 @@ single-crew field e = go (begins bulkText field) refl (crewOf field) refl (by-co
     go bulk p none r h = r
     go true p (some codes) r h = absurd (let z : _≡_ {A = ℕ} 0 1 = cc in omega arith)
     go false p (some codes) r h = ap (λ (o : Bool). onlyIf o (drop (length bulkText) field) >>= countedCodesAt) p
-
-pub codes-crew : (field : List ℕ) (n : ℕ) → countOf field ≡ Codes n → (codes : List ℕ) × (crewOf field ≡ some codes) × (n ≡ length codes)
-codes-crew field n e = go (begins bulkText field) (crewOf field) refl (by-count field (Codes n) e _ refl _ refl)
-  where
-    go : (bulk : Bool) (read : Option (List ℕ)) → crewOf field ≡ read → cond bulk (counted read) Single ≡ Codes n
-        → (codes : List ℕ) × (crewOf field ≡ some codes) × (n ≡ length codes)
-    go true none r h = absurd (let z : _≡_ {A = ℕ} 0 1 = cc in omega arith)
-    go true (some codes) r h = (codes, r, cc)
-    go false read r h = absurd (let z : _≡_ {A = ℕ} 0 1 = cc in omega arith)
 
 -- a sound request has no broken one
 pub no-broken : (f : Request) → requestSound f ≡ true → countOf (f .additional) ≡ Broken → ⊥
@@ -124,7 +116,7 @@ may-carry Interrogate Empty h = no-path h
 may-carry Interrogate (Forced m) h = no-path h
 
 walked-plain : (q : Msisdn) (o : Operation) (number : FunctionalNumber) (field codes : List ℕ) (w : Walk)
-    → walked q (requestFrom o number Empty field) codes w ≡ walked q (plainOf o number) codes w
+    → walked q (requestFrom o number Empty field) codes w ≡ walked q (plainly o number) codes w
 unfolding walked
 walked-plain q o number field [] w = refl
 walked-plain q o number field (code ∷ codes) w = walked-plain q o number field codes _
@@ -137,19 +129,19 @@ crew-long (code ∷ codes) = omega (arith, length-codes (code ∷ codes))
 -- the digits of its codes, and what `walks` asks for
 module _ (f : Fields) (field : List ℕ) (n : ℕ) (sound : requestSound (withAdditional f field) ≡ true) (count : countOf field ≡ Codes n) where
   abbrev codes : List ℕ
-  codes = codes-crew field n count .0
+  codes = crew-count field n count .0
 
   abbrev digits : List ℕ
   digits = drop (length field - 2 * n) field
 
   reads : crewOf field ≡ some codes
-  reads = codes-crew field n count .1
+  reads = crew-count field n count .1
 
   codes-sound : codesSound codes ≡ true
   codes-sound = crew-only field reads .1
 
   is-codes : digits ≡ codesText codes
-  is-codes = ap (λ (m : ℕ). drop (length field - 2 * m) field) (codes-crew field n count .2) ∙ codes-last field reads
+  is-codes = ap (λ (m : ℕ). drop (length field - 2 * m) field) (crew-count field n count .2) ∙ codes-last field reads
 
   pub crew-digits : areDigits digits ≡ true
   crew-digits = ap areDigits is-codes ∙ digits-codes codes (sound-codes codes codes-sound)
@@ -158,11 +150,11 @@ module _ (f : Fields) (field : List ℕ) (n : ℕ) (sound : requestSound (withAd
   crew-few = omega (arith, ap length is-codes, length-codes codes, sound-few codes codes-sound)
 
   pub crew-most : n ≤ mostCodes
-  crew-most = omega (arith, codes-crew field n count .2, sound-few codes codes-sound)
+  crew-most = omega (arith, crew-count field n count .2, sound-few codes codes-sound)
 
   -- the codes stand at the end of the field
   pub crew-within : 2 * n ≤ length field
-  crew-within = omega (arith, codes-crew field n count .2, ap length (crew-only field reads .0), crew-long codes)
+  crew-within = omega (arith, crew-count field n count .2, ap length (crew-only field reads .0), crew-long codes)
 
   pub crew-carried : isInterrogate (f .operation) ≡ false
   crew-carried =
@@ -174,13 +166,13 @@ module _ (f : Fields) (field : List ℕ) (n : ℕ) (sound : requestSound (withAd
 
   pub crew-asked : (t b : List ℕ) (q : Msisdn)
       → carriedOutFor t b q (withAdditional f field) (crewOf field)
-      ≡ crewOutcome (crewNumber (f .operation)) b (walked q (plainOf (f .operation) (f .number)) (crewCodes (codesIn digits)) (setOut t))
+      ≡ crewOutcome (crewNumber (f .operation)) b (walked q (plainly (f .operation) (f .number)) (crewCodes (codesIn digits)) (setOut t))
   crew-asked t b q =
       ap (carriedOutFor t b q (withAdditional f field)) reads
       ∙ ap (crewOutcome (crewNumber (f .operation)) b)
       (ap (λ (e : Erasing). walked q (requestFrom (f .operation) (f .number) e field) (crewCodes codes) (setOut t)) (crew-plain (withAdditional f field) sound reads)
       ∙ walked-plain q (f .operation) (f .number) field (crewCodes codes) (setOut t)
-      ∙ ap (λ (l : List ℕ). walked q (plainOf (f .operation) (f .number)) (crewCodes l) (setOut t)) (sym back))
+      ∙ ap (λ (l : List ℕ). walked q (plainly (f .operation) (f .number)) (crewCodes l) (setOut t)) (sym back))
     where
       back : codesIn digits ≡ codes
       back = ap codesIn is-codes ∙ codes-only (codesText codes) (codes-back codes (sound-codes codes codes-sound)) .same
@@ -239,6 +231,6 @@ module _ (os : List ℕ) (r : ReadRequest) (done : madeRead r ≡ reading os) wh
 -- a request that no check refuses is asked
 pub request-asked :
     (t list b : List ℕ) (q : Msisdn) (scheme : ℕ) (os : List ℕ) (f : Request) → tableSound t ≡ true
-    → anyHolds (refusalChecks true list b q scheme os) ≡ false → requestOf os ≡ some f → requesting t list b q scheme os ≡ asked t (flagsOf list (q .0)) b q f
+    → anyHolds (refusalChecks true list b q scheme os) ≡ false → requestOf os ≡ some f → requesting t list b q scheme os ≡ askedBy t (flagsOf list (q .0)) b q f
 unfolding requesting
 request-asked t list b q scheme os f sound passed reads = by-asks list b q scheme os t sound (λ g. carriedOutFor t b q g (crewOf (g .additional))) f passed reads

@@ -15,5 +15,5 @@ abbrev pub withAdditional : Fields → List ℕ → Request
 withAdditional f additional = requestFrom (f .operation) (f .number) (f .erasing) additional
 
 -- a request whose string was read
-abbrev pub asked : List ℕ → ℕ → List ℕ → Msisdn → Request → Outcome
-asked table flags reply requester f = askingBy (λ g. carriedOutFor table reply requester g (crewOf (g .additional))) table flags reply (some f)
+abbrev pub askedBy : List ℕ → ℕ → List ℕ → Msisdn → Request → Outcome
+askedBy table flags reply requester f = askingBy (λ g. carriedOutFor table reply requester g (crewOf (g .additional))) table flags reply (some f)

@@ -1,4 +1,4 @@
-// The four calls of the node over lent memory: a request, a sending, a result and a finding, each equal to document 01's rules for every input.
+// The four calls of the node over lent memory: a request, a sending, a result and a finding, each equal to the rules of documents 01 and 02 for every input.
 use crews::Crew;
 use numbers::FunctionalNumber;
 use numbers::Msisdn;
@@ -24,7 +24,7 @@ ghost use Rattle.rules.specs.Requests.{isForced, isSupervisor};
 ghost use Rattle.rules.specs.Requests as requests;
 ghost use Rattle.rules.specs.Crews as crews;
 ghost use Rattle.rules.specs.Notices as notices;
-ghost use Rattle.node.specs.Asked.{withAdditional, asked};
+ghost use Rattle.node.specs.Asked.{withAdditional, askedBy};
 ghost use Rattle.visits.specs.Said.{saidRequest, saidSending, saidResult, saidFinding};
 
 // Reply and notice buffers have at least so many octets.
@@ -75,7 +75,7 @@ fn ask(
 ) -> RequestAnswer
     requires { ⌜ (tableSound (now table) ≡ true) × (listSound (now list) ≡ true) × (bufferRoom ≤ length (now reply)) × (isNumber (requester .0) ≡ true) ⌝ }
     requires { ⌜ (requestSound (withAdditional fields (now additional)) ≡ true) × (fields .crew ≡ countOf (now additional)) ⌝ }
-    ensures { λ r. ⌜ made (saidRequest r) (now (table .exit)) (now (reply .exit)) ≡ asked (now (table .entry)) (flagsOf (now (list .entry)) (requester .0)) (now (reply .entry)) requester (withAdditional fields (now (additional .entry))) ⌝ }
+    ensures { λ r. ⌜ made (saidRequest r) (now (table .exit)) (now (reply .exit)) ≡ askedBy (now (table .entry)) (flagsOf (now (list .entry)) (requester .0)) (now (reply .entry)) requester (withAdditional fields (now (additional .entry))) ⌝ }
 {
     let operation = fields.operation;
     let number = fields.number;

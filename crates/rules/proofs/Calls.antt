@@ -199,6 +199,18 @@ module _ (list : List ℕ) (delay : ℕ) where
       by-table false unsound =
           let (n, buffer, e) = unsound-call t unsound list delay c in ap (λ r. r .1) e ∙ sym (unsound-end t unsound list delay (stepsOf list c))
 
+  log-behind : (cs ds : List Call) (t : List ℕ)
+      → log (call list delay) (cs ++ ds) t ≡ log (call list delay) cs t ++ log (call list delay) ds (end (call list delay) cs t)
+  log-behind [] ds t = refl
+  log-behind (c ∷ cs) ds t = ap (λ l. (c, call list delay c t .0) ∷ l) (log-behind cs ds (call list delay c t .1))
+
+  -- the steps of a call get what they get, and those of the calls behind it what they get on the table that it leaves
+  pub steps-log : (c : Call) (cs : List Call) (t : List ℕ) → Sound t
+      → log (call list delay) (steps list (c ∷ cs)) t ≡ log (call list delay) (stepsOf list c) t ++ log (call list delay) (steps list cs) (call list delay c t .1)
+  steps-log c cs t sound =
+      log-behind (stepsOf list c) (steps list cs) t
+      ∙ ap (λ u. log (call list delay) (stepsOf list c) t ++ log (call list delay) (steps list cs) u) (sym (step-end c t sound))
+
   -- ---- the end of a list of calls
 
   pub singly-end : (cs : List Call) (t : List ℕ) → end (call list delay) cs t ≡ end (single list delay) (steps list cs) t

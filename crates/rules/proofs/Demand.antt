@@ -21,7 +21,7 @@ use Rattle.rules.proofs.Sound.{Kept}
 use Rattle.rules.proofs.Once.{single}
 use Rattle.rules.proofs.Local.{one-name, singles-local}
 use Rattle.rules.proofs.Single.{AllSingle, singles-end, singles-log}
-use Rattle.rules.proofs.Calls.{calls-local, all-steps-single, steps-end, singly-end, calls-keep}
+use Rattle.rules.proofs.Calls.{calls-local, all-steps-single, steps-end, steps-log, singly-end, calls-keep}
 use Rattle.rules.proofs.Holder.{held}
 
 -- ---- two tables kept from one, with the same records, are the same words
@@ -116,6 +116,7 @@ module _ (list : List ℕ) (delay : ℕ) (table : List ℕ) (sound : tableSound 
     answers = λ cs ds r. rearranged-answers run (names list) look Sound (calls-local list delay) cs ds table sound r;
     end-table = same-end;
     steps-table = λ cs. steps-end list delay cs table;
+    steps-got = λ c cs. steps-log list delay c cs table sound;
     alone-answers = alone-answers;
     alone-record = alone-record;
     held = held-by;

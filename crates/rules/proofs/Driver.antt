@@ -10,15 +10,12 @@ use borrow.Author.Tests.{eqb-true, eq-eqb, not-false}
 use Rattle.answers.proofs.Decide.{all-pass}
 use Rattle.answers.proofs.Tests.{no-path, or-right, or-neither, same-or-not}
 use Rattle.numbers.specs.declared.Msisdn.{Msisdn}
-use Rattle.strings.specs.declared.Operation.{Operation}
-use Rattle.strings.specs.declared.Operation.the-variants.{Register, Erase, Interrogate}
 use Rattle.records.specs.declared.Record.{Record}
 use Rattle.records.specs.Steps.{nobody, isNobody, same, isAbsent}
 use Rattle.tables.specs.Tables.{listSound, recordOf, flagsOf, tableSound}
-use Rattle.rules.specs.Answers.{outcome, isOutcome, octetCount}
+use Rattle.rules.specs.Answers.{isOutcome}
 use Rattle.rules.specs.Run.{end, log}
 use Rattle.rules.specs.Requests.{refusalChecks, hasFollowMe, isSupervisor, holderIn, noNotice}
-use Rattle.rules.specs.Crews.{crewNumber, crewReply}
 use Rattle.rules.specs.Calls.{Call, Reply, request, sending, result, call, nameOf, namesOne, codesOf, steps}
 use Rattle.rules.specs.Visits.{Visited}
 use Rattle.rules.specs.Pending.{never}

@@ -1,5 +1,5 @@
 -- A crew's numbers by their digits: another code stands where the last two digits stood. Assumes nothing.
-use mathlib.Core.Path.{_≡_, refl, sym, ap, _∙_}
+use mathlib.Core.Path.{_≡_, sym, ap, _∙_}
 use mathlib.Core.Bool.{true}
 use mathlib.Core.List.{List, [], _∷_, _++_}
 use Prim.Native.Nat.{ℕ, suc, _+_, _-_, _*_, _/_, _%_, _≤_, _<_}
@@ -7,8 +7,7 @@ use native.Mathlib.Omega.{arith}
 use lib.ListN.{length, take, drop, getD, take-append-drop}
 use lib.Seq.{drop-cons, drop-length}
 use Rattle.answers.proofs.Leading.{each-at}
-use Rattle.numbers.specs.Numbers.{fewestDigits, isDigit, pushed, storedForm, isNumber, digitsOf, twoDigits}
-use Rattle.numbers.specs.declared.FunctionalNumber.{FunctionalNumber}
+use Rattle.numbers.specs.Numbers.{fewestDigits, isDigit, pushed, storedForm, isNumber, digitsOf}
 use Rattle.numbers.proofs.Digits.{digit-range, digits-are, digits-fewest, stored-digits}
 use Rattle.rules.specs.Crews.{withCode}
 use Rattle.rules.specs.Singles.{replaced}

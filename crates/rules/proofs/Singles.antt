@@ -3,15 +3,13 @@ use mathlib.Core.Path.{_≡_, refl, sym, ap, _∙_}
 use mathlib.Core.Bool.{Bool, true, false, not}
 use mathlib.Core.Option.{some}
 use mathlib.Core.List.{List, [], _∷_, map}
-use Prim.Native.Nat.{ℕ, _<_}
-use native.Mathlib.Omega.{arith}
+use Prim.Native.Nat.{ℕ}
 use Rattle.answers.specs.Checks.{anyHolds}
 use Rattle.packing.specs.Packing.{packed, unpacked}
 use Rattle.numbers.specs.declared.FunctionalNumber.{FunctionalNumber}
 use Rattle.numbers.specs.declared.Msisdn.{Msisdn}
 use Rattle.crews.specs.Crews.{crewOf}
-use Rattle.strings.specs.declared.Erasing.the-variants.{Empty}
-use Rattle.strings.specs.Text.{Request, requestSound, textOf}
+use Rattle.strings.specs.Text.{Request, textOf}
 use Rattle.strings.specs.Outcomes.{requestOf}
 use Rattle.strings.proofs.ReadBack.{read-only}
 use Rattle.strings.proofs.Octets.{request-reads}
@@ -19,14 +17,14 @@ use Rattle.tables.specs.Tables.{tableSound, flagsOf}
 use Rattle.rules.specs.Requests.{hasFollowMe, refusalChecks}
 use Rattle.rules.specs.Crews.{withCode, memberOf, crewCodes, crewNumber, Walk, crewOutcome, carriedOutFor, requesting}
 use Rattle.rules.specs.Run.{end, log}
-use Rattle.rules.specs.Calls.{Call, request, replied, call}
+use Rattle.rules.specs.Calls.{Call, request, replied, call, stepsOf}
 use Rattle.rules.specs.Singles.{succeeds, codesWhere, replaced, plainly, singleRequests, AsSingles, Roomy}
 use Rattle.rules.proofs.Once.{single}
 use Rattle.rules.proofs.Single.{AllSingle, singles-end, singles-log}
 use Rattle.rules.proofs.Visits.{by-asks}
 use Rattle.rules.proofs.Members.{replaced-code}
 use Rattle.rules.proofs.Crews.{Small, Shared, members-single, members-stay}
-use Rattle.rules.proofs.Steps.{crew-plain, lead-number, Goes, goes-walks, walk, singly-walks, passed-shared, codes-small}
+use Rattle.rules.proofs.Steps.{lead-number, Goes, goes-walks, walk, singly-walks, passed-shared, codes-small}
 
 same-walk : (w v : Walk) → w .successes ≡ v .successes → w .failures ≡ v .failures → w .table ≡ v .table → w ≡ v
 same-walk w v p q r = λ i. record { successes = p i; failures = q i; table = r i }
@@ -52,18 +50,29 @@ module _ (list : List ℕ) (delay : ℕ) (requester : Msisdn) (scheme : ℕ) (st
   member-is : (number : FunctionalNumber) (code : ℕ) → number ≡ record { 0 = withCode (f .number .0) code } → plainly (f .operation) number ≡ memberOf f code
   member-is number code e = rw (e, shared .plain) refl
 
-  others-are : (cs : List ℕ) → Small cs
-      → map (λ code. request requester scheme (packed (textOf (plainly (f .operation) (replaced (f .number) code)))) (buffers code)) cs ≡ map one cs
-  others-are [] s = refl
-  others-are (code ∷ cs) (c, s) =
+  others-are : (rooms : ℕ → List ℕ) (cs : List ℕ) → Small cs
+      → map (λ code. request requester scheme (packed (textOf (plainly (f .operation) (replaced (f .number) code)))) (rooms code)) cs
+      ≡ map (λ code. request requester scheme (packed (textOf (memberOf f code))) (rooms code)) cs
+  others-are rooms [] s = refl
+  others-are rooms (code ∷ cs) (c, s) =
       let same = member-is (replaced (f .number) code) code (replaced-code (f .number .0) code (shared .lead) c) in
-      λ i. request requester scheme (packed (textOf (same i))) (buffers code) ∷ others-are cs s i
+      λ i. request requester scheme (packed (textOf (same i))) (rooms code) ∷ others-are rooms cs s i
 
-  same-singles : singles ≡ map one (crewCodes codes)
-  same-singles =
+  -- whatever buffers they have
+  same-with : (rooms : ℕ → List ℕ)
+      → singleRequests list delay requester scheme string reply f codes table rooms
+      ≡ map (λ code. request requester scheme (packed (textOf (memberOf f code))) (rooms code)) (crewCodes codes)
+  same-with rooms =
       let sound-fields = read-only (unpacked string) (request-reads string reads .1) .0 in
       let lead = member-is (f .number) 1 (ap (λ n. record { 0 = n }) (sym (lead-number f sound-fields crew))) in
-      λ i. request requester scheme (packed (textOf (lead i))) (buffers 1) ∷ others-are codes (small .1) i
+      λ i. request requester scheme (packed (textOf (lead i))) (rooms 1) ∷ others-are rooms codes (small .1) i
+
+  same-singles : singles ≡ map one (crewCodes codes)
+  same-singles = same-with buffers
+
+  its-steps : hasFollowMe (flagsOf list (requester .0)) ≡ true
+      → stepsOf list (request requester scheme string reply) ≡ singleRequests list delay requester scheme string reply f codes table (λ code. reply)
+  its-steps right = rw (passed, right, reads, crew) refl ∙ sym (same-with (λ code. reply))
 
   single-all : AllSingle (map one (crewCodes codes))
   single-all = members-single list delay requester scheme f shared buffers roomy (crewCodes codes) small
@@ -109,7 +118,7 @@ module _ (list : List ℕ) (delay : ℕ) (requester : Msisdn) (scheme : ℕ) (st
       ∙ rw none refl
 
   pub crew-as-singles : AsSingles list delay requester scheme string reply f codes table buffers
-  crew-as-singles = record { table-after = by-right (hasFollowMe (flagsOf list (requester .0))) refl; reply-after = goes }
+  crew-as-singles = record { table-after = by-right (hasFollowMe (flagsOf list (requester .0))) refl; steps-are = its-steps; reply-after = goes }
     where
       by-right : (b : Bool) → hasFollowMe (flagsOf list (requester .0)) ≡ b
           → call list delay (request requester scheme string reply) table .1 ≡ end (call list delay) singles table

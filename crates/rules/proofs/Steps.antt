@@ -3,7 +3,7 @@ use mathlib.Core.Path.{_≡_, refl, ap, _∙_, sym}
 use mathlib.Core.Bool.{Bool, true, false, cond, _&&_}
 use mathlib.Core.Option.{Option, none, some}
 use mathlib.Core.List.{List, [], _∷_, map}
-use Prim.Native.Nat.{ℕ, _%_, _≤_, _<_}
+use Prim.Native.Nat.{ℕ, _%_, _≤_}
 use native.Mathlib.Omega.{arith}
 use lib.ListN.{length, drop}
 use borrow.Author.Tests.{not-false, ltb-false, eqb-true}
@@ -29,14 +29,12 @@ use Rattle.strings.proofs.Text.{sound-rules}
 use Rattle.strings.proofs.ReadBack.{read-only}
 use Rattle.strings.proofs.Octets.{request-reads}
 use Rattle.tables.specs.Tables.{tableSound, flagsOf}
-use Rattle.rules.specs.Answers.{Answer, Outcome, bufferRoom}
-use Rattle.rules.specs.Requests.{isForced, hasFollowMe, refusalChecks, rightChecks, negative, once, saying}
+use Rattle.rules.specs.Answers.{Outcome, bufferRoom}
+use Rattle.rules.specs.Requests.{isForced, hasFollowMe, refusalChecks, rightChecks, negative, saying}
 use Rattle.rules.specs.Crews.{withCode, memberOf, crewCodes, crewNumber, Walk, walked, setOut, crewOutcome, carriedOutFor, requesting}
-use Rattle.rules.specs.Run.{end, log}
 use Rattle.rules.specs.Calls.{Call, request, sending, result, Reply, replied, call, codesRead, codesOf, namesOne, singleCalls, stepsOf, steps}
 use Rattle.rules.specs.Singles.{Roomy}
 use Rattle.rules.specs.Demand.{isCrewOutcome}
-use Rattle.rules.proofs.Once.{requestingOnce, single}
 use Rattle.rules.proofs.Visits.{by-stops, by-asks}
 use Rattle.rules.proofs.Crews.{Small, Shared, member-named, members-single, Walks, walks}
 use Rattle.rules.proofs.Single.{AllSingle}

@@ -1,33 +1,27 @@
 -- What a crew's walk counts: ten codes at most, of two digits each; so its reply has at most 28 characters, all of which the packer takes. Assumes nothing.
-use mathlib.Core.Path.{_≡_, refl, sym, ap, _∙_}
+use mathlib.Core.Path.{_≡_, refl}
 use mathlib.Core.Logic.{⊎-elim}
-use mathlib.Core.Bool.{Bool, true, false, cond, not, _&&_}
+use mathlib.Core.Bool.{Bool, true, false}
 use mathlib.Core.Option.{some}
 use mathlib.Core.List.{List, [], _∷_, _++_}
-use Prim.Native.Nat.{ℕ, suc, _+_, _*_, _/_, _%_, _≤_, _<_}
+use Prim.Native.Nat.{ℕ, _+_, _*_, _≤_, _<_}
 use native.Mathlib.Omega.{arith}
 use lib.ListN.{length, length-append}
-use lib.Dec.{ltb, eqb}
-use borrow.Author.Tests.{lt-ltb, le-ltb, ne-eqb}
+use borrow.Author.Tests.{lt-ltb, le-ltb}
 use Rattle.answers.specs.Leading.{each}
 use Rattle.answers.proofs.Tests.{less-or-not}
-use Rattle.answers.proofs.Leading.{each-append}
-use Rattle.packing.specs.Packing.{taken, takes}
+use Rattle.packing.specs.Packing.{takes}
 use Rattle.numbers.specs.Numbers.{twoDigits, numeral}
 use Rattle.numbers.specs.declared.Msisdn.{Msisdn}
-use Rattle.crews.specs.Crews.{mostCodes, codesText, spacedCodes, crewOf}
+use Rattle.crews.specs.Crews.{codesText, spacedCodes, crewOf}
 use Rattle.crews.proofs.Codes.{length-codes}
 use Rattle.crews.proofs.Crews.{sound-few, crew-only}
 use Rattle.strings.specs.Text.{Request}
 use Rattle.rules.specs.Requests.{step}
-use Rattle.rules.specs.Crews.{memberOf, crewCodes, Walk, isSuccess, walkedOn, walked, setOut, codesAndSpace, crewReply}
+use Rattle.rules.specs.Crews.{memberOf, crewCodes, mostSteps, Walk, isSuccess, walkedOn, walked, setOut, codesAndSpace, crewReply}
 use Rattle.rules.proofs.Taken.{takes-two, takes-numeral, takes-both, takes-space}
 use Rattle.rules.proofs.Crews.{Small}
 use Rattle.rules.proofs.Steps.{codes-small}
-
--- the lead and "one digit n"
-abbrev pub mostSteps : ℕ
-mostSteps = suc mostCodes
 
 pub record Tallied (w : Walk) : Type 0 where
   pub few : length (w .successes) + length (w .failures) ≤ mostSteps
@@ -84,7 +78,7 @@ none-spaced : (l : List ℕ) → length l ≡ 0 → length (spacedCodes l) ≡ 0
 none-spaced [] e = refl
 none-spaced (c ∷ l) e = absurd (omega arith)
 
--- "At most 28 characters"
+-- at most 28 characters
 abbrev pub mostReply : ℕ
 mostReply = 28
 

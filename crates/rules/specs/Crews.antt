@@ -1,5 +1,5 @@
 -- Document 02, M-100: the single requests of a crew, the walk over them, and its reply. Assumes nothing.
-use Prim.Native.Nat.{ℕ, _+_, _*_, _/_}
+use Prim.Native.Nat.{ℕ, suc, _+_, _*_, _/_}
 use mathlib.Core.Bool.{Bool, false, cond, _||_}
 use mathlib.Core.Option.{Option, none, some}
 use mathlib.Core.List.{List, [], _∷_, _++_}
@@ -7,7 +7,7 @@ use lib.ListN.{length}
 use lib.Dec.{eqb}
 use Rattle.numbers.specs.Numbers.{twoDigits, numeral}
 use Rattle.numbers.specs.declared.Msisdn.{Msisdn}
-use Rattle.crews.specs.Crews.{leadCode, codesText, spacedCodes, crewOf}
+use Rattle.crews.specs.Crews.{leadCode, mostCodes, codesText, spacedCodes, crewOf}
 use Rattle.strings.specs.declared.Operation.{Operation}
 use Rattle.strings.specs.declared.Operation.the-variants.{Register, Erase, Interrogate}
 use Rattle.strings.specs.Text.{Request}
@@ -27,6 +27,10 @@ memberOf f code = record { operation = f .operation; number = record { 0 = withC
 -- "The lead number and then each number with its last two digits replaced": the lead number is the one with code 01
 abbrev pub crewCodes : List ℕ → List ℕ
 crewCodes codes = leadCode ∷ codes
+
+-- "up to ten functions at once": the lead and "one digit n"
+abbrev pub mostSteps : ℕ
+mostSteps = suc mostCodes
 
 -- ---- the walk
 

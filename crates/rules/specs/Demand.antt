@@ -2,7 +2,7 @@
 use mathlib.Core.Path.{_≡_}
 use mathlib.Core.Bool.{Bool, true, false, cond, _&&_, _||_}
 use mathlib.Core.Option.{Option, none, some}
-use mathlib.Core.List.{List, []}
+use mathlib.Core.List.{List, [], _∷_, _++_}
 use Prim.Native.Nat.{ℕ, _<_}
 use lib.ListN.{length, getElem?}
 use Rattle.numbers.specs.Numbers.{twoDigits}
@@ -99,6 +99,10 @@ module _ (list : List ℕ) (delay : ℕ) (table : List ℕ) where
     pub end-table : (cs ds : List Call) → Rearranged (names list) cs ds → end run ds table ≡ end run cs table
     -- the last two sentences "read each single step as a call": the single steps leave the same table
     pub steps-table : (cs : List Call) → end run cs table ≡ end run (steps list cs) table
+    -- and each call's steps get what they get where the calls before it were made: a call that is no crew's gets as a step what it gets as a call
+    pub steps-got :
+        (c : Call) (cs : List Call)
+        → log run (steps list (c ∷ cs)) table ≡ log run (stepsOf list c) table ++ log run (steps list cs) (run c table .1)
     -- each number's answers and octets are those of the steps naming it, in their order, run on its row alone, on the empty table if it has none
     pub alone-answers : (k : ℕ) (cs : List Call) → gotBy list k (log run (steps list cs) table) ≡ log run (callsOf list k (steps list cs)) (alone table k)
     -- and so is its record at the end; if it is not in the table, there is none on either side

@@ -17,7 +17,7 @@ use Rattle.rules.specs.Answers.{Answer, isOutcome, bufferRoom}
 use Rattle.rules.specs.Requests.{hasFollowMe}
 use Rattle.rules.specs.Crews.{crewCodes, crewNumber, crewOutcome}
 use Rattle.rules.specs.Run.{end, log}
-use Rattle.rules.specs.Calls.{Call, request, Reply, replied, call}
+use Rattle.rules.specs.Calls.{Call, request, Reply, replied, call, stepsOf}
 
 -- "Success is 01 or 02"
 abbrev pub succeeds : Answer → Bool
@@ -40,15 +40,15 @@ abbrev pub plainly : Operation → FunctionalNumber → Request
 plainly o number = requestFrom o number Empty []
 
 module _ (list : List ℕ) (delay : ℕ) (requester : Msisdn) (scheme : ℕ) (string reply : List ℕ) (f : Request) (codes : List ℕ) (table : List ℕ) where
-  abbrev pub asked : List ℕ → Request → Call
-  asked buffer g = request requester scheme (packed (textOf g)) buffer
+  abbrev pub singleAsked : List ℕ → Request → Call
+  singleAsked buffer g = request requester scheme (packed (textOf g)) buffer
 
   -- "The lead number and then each number with its last two digits replaced are treated as single requests, in that order":
   -- their strings made by the request writer, the same requester and scheme, and a buffer for each
   abbrev pub singleRequests : (ℕ → List ℕ) → List Call
   singleRequests buffers =
-      asked (buffers leadCode) (plainly (f .operation) (f .number))
-      ∷ map (λ code. asked (buffers code) (plainly (f .operation) (replaced (f .number) code))) codes
+      singleAsked (buffers leadCode) (plainly (f .operation) (f .number))
+      ∷ map (λ code. singleAsked (buffers code) (plainly (f .operation) (replaced (f .number) code))) codes
 
   -- what the single requests got, asked one after the other
   abbrev pub gotSingly : (ℕ → List ℕ) → List (Call × Reply)
@@ -57,10 +57,11 @@ module _ (list : List ℕ) (delay : ℕ) (requester : Msisdn) (scheme : ℕ) (st
   abbrev pub whole : Reply × List ℕ
   whole = call list delay (request requester scheme string reply) table
 
-  -- of a crew's request that is neither refused nor in error
+  -- of a crew's request that is neither refused nor in error; its steps in demand 3 are these single requests, with its own buffer
   pub record AsSingles (buffers : ℕ → List ℕ) : Type 0 where
     -- "the table afterwards equals theirs"
     pub table-after : whole .1 ≡ end (call list delay) (singleRequests buffers) table
+    pub steps-are : hasFollowMe (flagsOf list (requester .0)) ≡ true → stepsOf list (request requester scheme string reply) ≡ singleRequests (λ code. reply)
     -- where it is not answered 42: a code stands among the successes exactly if its single request was answered 01 or 02, and so the reply is
     pub reply-after :
         hasFollowMe (flagsOf list (requester .0)) ≡ true

@@ -25,17 +25,17 @@ writtenClass = 0
 abbrev pub readClass : ℕ
 readClass = 8
 
-abbrev pub four : ℕ → ℕ → ℕ → ℕ → Answer
-four class number count value = record { class = class; number = number; count = count; value = value }
+abbrev pub structOf : ℕ → ℕ → ℕ → ℕ → Answer
+structOf class number count value = record { class = class; number = number; count = count; value = value }
 
 -- what a packer, an unpacker or a request's writer answers
 abbrev pub ofSaid : writing.Said → Answer
-ofSaid (writing.count n) = four writtenClass 0 n 0
-ofSaid (writing.refusal n) = four rules.refusalClass n 0 0
+ofSaid (writing.count n) = structOf writtenClass 0 n 0
+ofSaid (writing.refusal n) = structOf rules.refusalClass n 0 0
 
 -- what a call of the node answers: the paper's class, number and values
 abbrev pub ofAnswer : rules.Answer → Answer
-ofAnswer a = let n = rules.numbersOf a in four (n .class) (n .number) (n .count) (n .value)
+ofAnswer a = let n = rules.numbersOf a in structOf (n .class) (n .number) (n .count) (n .value)
 
 -- an operation by its number
 abbrev pub ofOperation : Operation → ℕ
@@ -54,10 +54,10 @@ ofCrew Single = 0
 ofCrew (Codes n) = 1
 ofCrew Broken = 0
 
-abbrev pub codesOf : Crew → ℕ
-codesOf Single = 0
-codesOf (Codes n) = n
-codesOf Broken = 0
+abbrev pub codeCount : Crew → ℕ
+codeCount Single = 0
+codeCount (Codes n) = n
+codeCount Broken = 0
 
 -- the fields of a request, the additional field by its place and its length
 abbrev pub ofFields : Operation → FunctionalNumber → Erasing → ℕ → ℕ → Crew → RequestRead
@@ -70,7 +70,7 @@ ofFields operation number erasing start count crew = record {
   msisdn = ofErasing erasing;
   start = start;
   length = count;
-  codes = codesOf crew;
+  codes = codeCount crew;
 }
 
 -- what a request's reader answers: the fields, or an error

@@ -12,7 +12,7 @@ use visits::SendingAnswer;
 ghost use mathlib.Core.Path.{_≡_};
 ghost use Rattle.answers.specs.Writing.{said};
 ghost use Rattle.visits.specs.Said.{saidRequest, saidSending, saidResult, saidFinding};
-ghost use Rattle.structs.specs.Numbers.{ofSaid, ofAnswer, ofOperation, ofErasing, ofCrew, codesOf, ofFields, four, operationOf, erasingOf};
+ghost use Rattle.structs.specs.Numbers.{ofSaid, ofAnswer, ofOperation, ofErasing, ofCrew, codeCount, ofFields, structOf, operationOf, erasingOf};
 
 // The classes of an answer.
 const WRITTEN: u32 = 0;
@@ -66,7 +66,7 @@ pub enum Operating {
 
 // An answer that is only a number of its class.
 fn numbered(class: u32, number: u32) -> Answer
-    ensures { λ r. ⌜ r ≡ four class number 0 0 ⌝ }
+    ensures { λ r. ⌜ r ≡ structOf class number 0 0 ⌝ }
 {
     Answer {
         class,
@@ -213,7 +213,7 @@ fn of_crew(crew: Crew) -> u32
 
 // How many codes a crew has besides the lead's.
 fn codes_of(crew: Crew) -> usize
-    ensures { λ r. ⌜ r ≡ codesOf crew ⌝ }
+    ensures { λ r. ⌜ r ≡ codeCount crew ⌝ }
 {
     match crew {
         Crew::Single => 0,

@@ -1,5 +1,5 @@
-// Words and octets as text: the fields of a line read, words and octets written, and rows of words set and compared. No function asks anything
-// of its caller: what does not fit into memory is left out, and a position at the end of memory says so.
+// Words and octets as text: the fields of a line read, words and octets written, and rows of words set and compared. What does not
+// fit into memory is left out, and a position at the end of memory says so.
 mod fields;
 mod words;
 

@@ -1,14 +1,14 @@
 -- The text of a crew's reply: it is as the rules have it, it fits, and the packer takes it. Assumes nothing.
 use mathlib.Core.Path.{_≡_, refl, sym, ap, _∙_}
-use mathlib.Core.Bool.{Bool, true, false, cond, _&&_}
+use mathlib.Core.Bool.{Bool, true, false, cond}
 use mathlib.Core.List.{List, [], _∷_, _++_, append-assoc}
 use Prim.Native.Nat.{ℕ, _+_, _*_, _≤_, _<_}
 use native.Mathlib.Omega.{arith}
 use lib.ListN.{length, take, length-append, length-take}
-use lib.Dec.{eqb, ltb}
-use borrow.Author.Tests.{ne-eqb, ltb-true}
+use lib.Dec.{eqb}
+use borrow.Author.Tests.{ne-eqb}
 use Rattle.answers.specs.Leading.{each}
-use Rattle.answers.proofs.Leading.{each-append, each-implies}
+use Rattle.answers.proofs.Leading.{each-implies}
 use Rattle.packing.specs.Packing.{taken, takes}
 use Rattle.numbers.specs.Numbers.{isDigit, areDigits, numeral, twoDigits}
 use Rattle.crews.specs.Crews.{codesText, spacedCodes}
@@ -21,7 +21,8 @@ use Rattle.rules.proofs.Taken.{takes-numeral, takes-both, takes-space}
 use Rattle.visits.proofs.Texts.{digit-taken}
 use Rattle.walks.specs.declared.Codes.{Codes}
 use Rattle.walks.specs.declared.Tally.{Tally}
-use Rattle.walks.specs.Tallies.{mostSteps, Holds, counted, Fits, Tallies, partOf, replyRoom, tallyText}
+use Rattle.rules.specs.Crews.{mostSteps}
+use Rattle.walks.specs.Tallies.{Holds, stepsCounted, FitsReply, Tallies, partOf, replyRoom, tallyText}
 
 -- ---- a part of it
 
@@ -41,7 +42,7 @@ part-short c = go (eqb (c .count) 0)
         (arith, length-append (numeral (c .count)) (32 ∷ take (2 * c .count) (c .digits)), numeral-short (c .count), length-take (2 * c .count) (c .digits))
 
 -- two digits, and twice a part, of ten codes in all
-pub tally-short : (n : ℕ) (tally : Tally) → Fits tally → length (tallyText n tally) ≤ replyRoom
+pub tally-short : (n : ℕ) (tally : Tally) → FitsReply tally → length (tallyText n tally) ≤ replyRoom
 tally-short n tally fits =
     let few = fits .few in
     omega
@@ -87,7 +88,7 @@ takes-part c l few h = ap takes (part-text c l h) ∙ (takes-space (numeral (len
     codes [] d = refl
     codes (x ∷ l) d = takes-space (codesText (x ∷ l)) (each-implies isDigit taken digit-taken (codesText (x ∷ l)) d)
 
-pub takes-tally : (n : ℕ) (tally : Tally) (t : List ℕ) (w : Walk) → n < 256 → counted tally ≤ mostSteps → Tallies tally t w → takes (tallyText n tally) ≡ true
+pub takes-tally : (n : ℕ) (tally : Tally) (t : List ℕ) (w : Walk) → n < 256 → stepsCounted tally ≤ mostSteps → Tallies tally t w → takes (tallyText n tally) ≡ true
 takes-tally n tally t w small few stands =
     takes-both (numeral n ++ partOf (tally .successes)) (partOf (tally .failures))
     (takes-both (numeral n) (partOf (tally .successes)) (takes-numeral n small) (takes-part (tally .successes) (w .successes) (omega arith) (stands .successes)))

@@ -21,7 +21,7 @@ use Rattle.tables.specs.Tables.{rowOf}
 use Rattle.rules.specs.Requests.{isInterrogate, Stepping, step}
 use Rattle.rules.specs.Visits.{stepAt}
 use Rattle.rules.proofs.Visits.{step-visits}
-use Rattle.walks.specs.Tallies.{plainOf}
+use Rattle.rules.specs.Singles.{plainly}
 
 -- what is neither a registration nor an interrogation is an erasure
 pub erases-only : (o : Operation) → OneOf (1 ∷ 2 ∷ []) (tagOf the-type o) → isInterrogate o ≡ false → o ≡ Erase
@@ -30,12 +30,12 @@ erases-only Erase h e = refl
 erases-only Interrogate h e = no-path (sym e)
 
 module _ (t : List ℕ) (requester : Msisdn) (number : FunctionalNumber) (i : ℕ) (place : rowOf t (number .0) ≡ At i) (r : Record) (read : r ≡ recordAt t i) where
-  pub step-registers : (o : Operation) (s : Stepping) → o ≡ Register → s ≡ stepAt t i 1 (registered number requester r) → s ≡ step t requester (plainOf o number)
+  pub step-registers : (o : Operation) (s : Stepping) → o ≡ Register → s ≡ stepAt t i 1 (registered number requester r) → s ≡ step t requester (plainly o number)
   step-registers o s e f =
       f ∙ ap (λ (x : Record). stepAt t i 1 (registered number requester x)) read
-      ∙ sym (step-visits t requester (plainOf Register number) i place refl) ∙ ap (λ (x : Operation). step t requester (plainOf x number)) (sym e)
+      ∙ sym (step-visits t requester (plainly Register number) i place refl) ∙ ap (λ (x : Operation). step t requester (plainly x number)) (sym e)
 
-  pub step-erases : (o : Operation) (s : Stepping) → o ≡ Erase → s ≡ stepAt t i 2 (erased requester r) → s ≡ step t requester (plainOf o number)
+  pub step-erases : (o : Operation) (s : Stepping) → o ≡ Erase → s ≡ stepAt t i 2 (erased requester r) → s ≡ step t requester (plainly o number)
   step-erases o s e f =
       f ∙ ap (λ (x : Record). stepAt t i 2 (erased requester x)) read
-      ∙ sym (step-visits t requester (plainOf Erase number) i place refl) ∙ ap (λ (x : Operation). step t requester (plainOf x number)) (sym e)
+      ∙ sym (step-visits t requester (plainly Erase number) i place refl) ∙ ap (λ (x : Operation). step t requester (plainly x number)) (sym e)

@@ -1,6 +1,6 @@
 -- What the code counts, beside the walk of the rules. Assumes nothing.
 use mathlib.Core.Path.{_≡_, refl, sym, ap, _∙_}
-use mathlib.Core.Bool.{true, false, _&&_}
+use mathlib.Core.Bool.{true, false}
 use mathlib.Core.List.{List, [], _∷_, _++_, append-assoc}
 use Prim.Native.Nat.{ℕ, suc, _+_, _*_, _/_, _%_, _≤_, _<_}
 use native.Mathlib.Omega.{arith}
@@ -19,7 +19,9 @@ use Rattle.rules.specs.Requests.{says, comesTo, step}
 use Rattle.rules.specs.Crews.{memberOf, crewCodes, Walk, isSuccess, walkedOn, walked}
 use Rattle.walks.specs.declared.Codes.{Codes}
 use Rattle.walks.specs.declared.Tally.{Tally}
-use Rattle.walks.specs.Tallies.{mostSteps, plainOf, Holds, Tallies, goneOn}
+use Rattle.rules.specs.Crews.{mostSteps}
+use Rattle.rules.specs.Singles.{plainly}
+use Rattle.walks.specs.Tallies.{Holds, Tallies, goneOn}
 
 -- ---- one code more
 
@@ -53,9 +55,9 @@ one-more c code l few small h = record {
 -- ---- one step more
 
 module _ (tally : Tally) (t new : List ℕ) (n : ℕ) (requester : Msisdn) (o : Operation) (lead : FunctionalNumber) (code : ℕ)
-    (stepped : comesTo (says n) new ≡ step t requester (memberOf (plainOf o lead) code)) (w : Walk) (stands : Tallies tally t w) (c : Codes) where
+    (stepped : comesTo (says n) new ≡ step t requester (memberOf (plainly o lead) code)) (w : Walk) (stands : Tallies tally t w) (c : Codes) where
   gone : goneOn requester o lead code w ≡ walkedOn code (comesTo (says n) new) w
-  gone = ap (λ (u : List ℕ). walkedOn code (step u requester (memberOf (plainOf o lead) code)) w) (sym (stands .left)) ∙ ap (λ s. walkedOn code s w) (sym stepped)
+  gone = ap (λ (u : List ℕ). walkedOn code (step u requester (memberOf (plainly o lead) code)) w) (sym (stands .left)) ∙ ap (λ s. walkedOn code s w) (sym stepped)
 
   pub step-succeeds : isSuccess (says n) ≡ true → Holds c (w .successes ++ (code ∷ [])) → Tallies (record { successes = c; failures = tally .failures }) new (goneOn requester o lead code w)
   step-succeeds e h = rw (gone, e) (record { successes = h; failures = stands .failures; left = refl })
@@ -66,15 +68,15 @@ module _ (tally : Tally) (t new : List ℕ) (n : ℕ) (requester : Msisdn) (o : 
 -- the walk goes on with the codes that are left
 module _ (requester : Msisdn) (o : Operation) (lead : FunctionalNumber) (digits : List ℕ) (i : ℕ) (w : Walk) where
   pub walk-on : (code : ℕ) → 2 * i + 1 < length digits → code ≡ codeAt digits i
-      → walked requester (plainOf o lead) (codesIn (drop (2 * (i + 1)) digits)) (goneOn requester o lead code w) ≡ walked requester (plainOf o lead) (codesIn (drop (2 * i) digits)) w
+      → walked requester (plainly o lead) (codesIn (drop (2 * (i + 1)) digits)) (goneOn requester o lead code w) ≡ walked requester (plainly o lead) (codesIn (drop (2 * i) digits)) w
   unfolding walked
   walk-on code h e = rw (codes-from digits i h, e) refl
 
-  pub walk-ends : length digits / 2 ≤ i → walked requester (plainOf o lead) (codesIn (drop (2 * i) digits)) w ≡ w
+  pub walk-ends : length digits / 2 ≤ i → walked requester (plainly o lead) (codesIn (drop (2 * i) digits)) w ≡ w
   unfolding walked
   walk-ends h = rw (codes-end digits i h) refl
 
 pub walk-starts : (requester : Msisdn) (o : Operation) (lead : FunctionalNumber) (codes : List ℕ) (w : Walk)
-    → walked requester (plainOf o lead) (crewCodes codes) w ≡ walked requester (plainOf o lead) codes (goneOn requester o lead leadCode w)
+    → walked requester (plainly o lead) (crewCodes codes) w ≡ walked requester (plainly o lead) codes (goneOn requester o lead leadCode w)
 unfolding walked
 walk-starts requester o lead codes w = refl

@@ -10,20 +10,11 @@ use Rattle.numbers.specs.declared.FunctionalNumber.{FunctionalNumber}
 use Rattle.numbers.specs.declared.Msisdn.{Msisdn}
 use Rattle.crews.specs.Crews.{codesText}
 use Rattle.strings.specs.declared.Operation.{Operation}
-use Rattle.strings.specs.declared.Erasing.the-variants.{Empty}
-use Rattle.strings.specs.Text.{Request, requestFrom}
 use Rattle.rules.specs.Requests.{step}
-use Rattle.rules.specs.Crews.{memberOf, Walk, walkedOn}
+use Rattle.rules.specs.Crews.{mostSteps, memberOf, Walk, walkedOn}
+use Rattle.rules.specs.Singles.{plainly}
 use Rattle.walks.specs.declared.Codes.{Codes}
 use Rattle.walks.specs.declared.Tally.{Tally}
-
--- the lead and "up to ten functions at once"
-abbrev pub mostSteps : ℕ
-mostSteps = 10
-
--- a plain request
-abbrev pub plainOf : Operation → FunctionalNumber → Request
-plainOf o number = requestFrom o number Empty []
 
 -- two digits for each step's code
 abbrev pub codesRoom : ℕ
@@ -43,18 +34,18 @@ pub record Tallies (tally : Tally) (table : List ℕ) (w : Walk) : Type 0 where
   pub left : table ≡ w .table
 
 -- how many steps were counted
-abbrev pub counted : Tally → ℕ
-counted tally = tally .successes .count + tally .failures .count
+abbrev pub stepsCounted : Tally → ℕ
+stepsCounted tally = tally .successes .count + tally .failures .count
 
 -- no more codes than there is room for
-pub record Fits (tally : Tally) : Type 0 where
-  pub few : counted tally ≤ mostSteps
+pub record FitsReply (tally : Tally) : Type 0 where
+  pub few : stepsCounted tally ≤ mostSteps
   pub successes : length (tally .successes .digits) ≡ codesRoom
   pub failures : length (tally .failures .digits) ≡ codesRoom
 
 -- one step more of a walk
 abbrev pub goneOn : Msisdn → Operation → FunctionalNumber → ℕ → Walk → Walk
-goneOn requester o lead code w = walkedOn code (step (w .table) requester (memberOf (plainOf o lead) code)) w
+goneOn requester o lead code w = walkedOn code (step (w .table) requester (memberOf (plainly o lead) code)) w
 
 -- a space and the count, and a space and the codes if there are any
 abbrev pub partOf : Codes → List ℕ

@@ -20,7 +20,9 @@ ghost use Rattle.rules.specs.Requests.{isInterrogate, says, comesTo};
 ghost use Rattle.rules.specs.Requests as requests;
 ghost use Rattle.rules.specs.Crews.{Walk, crewCodes, walked, setOut, crewNumber, crewOutcome};
 ghost use Rattle.visits.specs.Said.{saidRequest};
-ghost use Rattle.walks.specs.Tallies.{mostSteps, plainOf, codesRoom, Holds, counted, Fits, Tallies, goneOn, partOf, replyRoom, tallyText};
+ghost use Rattle.rules.specs.Crews.{mostSteps};
+ghost use Rattle.rules.specs.Singles.{plainly};
+ghost use Rattle.walks.specs.Tallies.{codesRoom, Holds, stepsCounted, FitsReply, Tallies, goneOn, partOf, replyRoom, tallyText};
 
 // The lead and at most nine codes.
 const MOST_STEPS: usize = 10;
@@ -71,7 +73,7 @@ fn with_code(codes: Codes, code: u64) -> Codes
 // The step of one number: what its single request comes to, by the outcome's number.
 fn step(table: &mut [u64], requester: Msisdn, operation: Operation, number: FunctionalNumber) -> u8
     requires { ⌜ (tableSound (now table) ≡ true) × (isInterrogate operation ≡ false) ⌝ }
-    ensures { λ r. ⌜ comesTo (says r) (now (table .exit)) ≡ requests.step (now (table .entry)) requester (plainOf operation number) ⌝ }
+    ensures { λ r. ⌜ comesTo (says r) (now (table .exit)) ≡ requests.step (now (table .entry)) requester (plainly operation number) ⌝ }
 {
     let found = tables::row_of(table, number);
     let Found::At(row) = found else {
@@ -96,8 +98,8 @@ fn step_on(
     tally: Tally,
 ) -> Tally
     requires { ⌜ (tableSound (now table) ≡ true) × (isInterrogate operation ≡ false) × (isNumber (requester .0) ≡ true) ⌝ }
-    requires { ⌜ (isNumber (lead .0) ≡ true) × (code < 100) × (counted tally < mostSteps) ⌝ }
-    ensures { λ r. ⌜ (tableSound (now (table .exit)) ≡ true) × (counted r ≡ counted tally + 1) × ((w : Walk) → Tallies tally (now (table .entry)) w → Tallies r (now (table .exit)) (goneOn requester operation lead code w)) ⌝ }
+    requires { ⌜ (isNumber (lead .0) ≡ true) × (code < 100) × (stepsCounted tally < mostSteps) ⌝ }
+    ensures { λ r. ⌜ (tableSound (now (table .exit)) ≡ true) × (stepsCounted r ≡ stepsCounted tally + 1) × ((w : Walk) → Tallies tally (now (table .entry)) w → Tallies r (now (table .exit)) (goneOn requester operation lead code w)) ⌝ }
 {
     let number = FunctionalNumber(100 * (lead.0 / 100) + code);
     let n = step(table, requester, operation, number);
@@ -125,7 +127,7 @@ fn walk(
 ) -> Tally
     requires { ⌜ (tableSound (now table) ≡ true) × (isInterrogate operation ≡ false) × (isNumber (requester .0) ≡ true) ⌝ }
     requires { ⌜ (isNumber (lead .0) ≡ true) × (areDigits (now digits) ≡ true) × (length (now digits) < 2 * mostSteps) ⌝ }
-    ensures { λ r. ⌜ (counted r ≤ mostSteps) × Tallies r (now (table .exit)) (walked requester (plainOf operation lead) (crewCodes (codesIn (now (digits .entry)))) (setOut (now (table .entry)))) ⌝ }
+    ensures { λ r. ⌜ (stepsCounted r ≤ mostSteps) × Tallies r (now (table .exit)) (walked requester (plainly operation lead) (crewCodes (codesIn (now (digits .entry)))) (setOut (now (table .entry)))) ⌝ }
 {
     let successes = no_codes();
     let failures = no_codes();
@@ -169,7 +171,7 @@ fn put_part(codes: Codes, out: &mut [u8]) -> usize
 
 // Writes the reply's text: the outcome's number, the successes and the failures.
 fn write_reply(n: u8, tally: Tally, text: &mut [u8]) -> usize
-    requires { ⌜ Fits tally × (replyRoom ≤ length (now text)) ⌝ }
+    requires { ⌜ FitsReply tally × (replyRoom ≤ length (now text)) ⌝ }
     ensures { λ r. ⌜ Stands (tallyText n tally) (now (text .entry)) r (now (text .exit)) ⌝ }
 {
     let successes = tally.successes;
@@ -181,7 +183,7 @@ fn write_reply(n: u8, tally: Tally, text: &mut [u8]) -> usize
 
 // The outcome, its text in the reply.
 fn answer(n: u8, tally: Tally, reply: &mut [u8]) -> RequestAnswer
-    requires { ⌜ Fits tally × (takes (tallyText n tally) ≡ true) × (bufferRoom ≤ length (now reply)) ⌝ }
+    requires { ⌜ FitsReply tally × (takes (tallyText n tally) ≡ true) × (bufferRoom ≤ length (now reply)) ⌝ }
     ensures { λ r. ⌜ (saidRequest r ≡ outcome n (octetCount (tallyText n tally))) × (now (reply .exit) ≡ packedOver (tallyText n tally) (now (reply .entry))) ⌝ }
 {
     let mut text = [0u8; REPLY_ROOM];
@@ -213,7 +215,7 @@ pub fn request_crew(
     requires { ⌜ (tableSound (now table) ≡ true) × (isInterrogate operation ≡ false) × (isNumber (requester .0) ≡ true) ⌝ }
     requires { ⌜ (isNumber (lead .0) ≡ true) × (areDigits (now digits) ≡ true) × (length (now digits) < 2 * mostSteps) ⌝ }
     requires { ⌜ bufferRoom ≤ length (now reply) ⌝ }
-    ensures { λ r. ⌜ made (saidRequest r) (now (table .exit)) (now (reply .exit)) ≡ crewOutcome (crewNumber operation) (now (reply .entry)) (walked requester (plainOf operation lead) (crewCodes (codesIn (now (digits .entry)))) (setOut (now (table .entry)))) ⌝ }
+    ensures { λ r. ⌜ made (saidRequest r) (now (table .exit)) (now (reply .exit)) ≡ crewOutcome (crewNumber operation) (now (reply .entry)) (walked requester (plainly operation lead) (crewCodes (codesIn (now (digits .entry)))) (setOut (now (table .entry)))) ⌝ }
 {
     let tally = walk(table, requester, operation, lead, digits);
     let n = crew_number(operation);

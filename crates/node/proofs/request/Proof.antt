@@ -13,7 +13,7 @@ use Rattle.strings.specs.declared.Fields.{Fields}
 use Rattle.strings.specs.Text.{requestSound}
 use Rattle.tables.specs.Tables.{tableSound, listSound, flagsOf}
 use Rattle.rules.specs.Answers.{bufferRoom}
-use Rattle.node.specs.Asked.{withAdditional, asked}
+use Rattle.node.specs.Asked.{withAdditional, askedBy}
 use Rattle.node.proofs.Asked.{not-read, was-read, read-crew, read-sound, read-within, read-short, read-part, request-asked}
 use Rattle.node.proofs.Checks.{refused-1, refused-8, refused-2, error-35-requester, error-71, error-35-empty, error-36-long, error-36-unread, none-refuses}
 use borrow.Author.Needs.{needs}
@@ -220,7 +220,7 @@ returns-9 c =
     let reads = was-read (S s) (r .read-request .result) (r .read-request .ensures) (fields k) told in
     let passed = none-refuses (T s) (L s) (B s) (Q s) (C s) (S s) (room (up2 (up3 (up4 e)))) (soundList (up3 (up4 e))) (soundTable (up4 e)) (number e) (l .before .before .if5 .left) (l .before .if6 .left) (l .if7 .left) _ reads in
     a .ask .ensures
-    ∙ ap (λ (x : List ℕ). asked (T s) (flagsOf (L s) (Q s .0)) (B s) (Q s) (withAdditional (fields k) x)) (read-part (S s) (r .read-request .result) (r .read-request .ensures) (fields k) told)
+    ∙ ap (λ (x : List ℕ). askedBy (T s) (flagsOf (L s) (Q s .0)) (B s) (Q s) (withAdditional (fields k) x)) (read-part (S s) (r .read-request .result) (r .read-request .ensures) (fields k) told)
     ∙ sym (request-asked (T s) (L s) (B s) (Q s) (C s) (S s) _ (soundTable (up4 e)) passed reads)
 
 pub request-spec : {M : Type 1} → statement M

@@ -8,7 +8,7 @@ use Rattle.tables.specs.Tables.{rowOf, rowsIn}
 use Rattle.tables.specs.declared.Found.the-variants.{At}
 use Rattle.tables.proofs.Stored.{row-found}
 use Rattle.rules.proofs.Visits.{found-sound, step-misses}
-use Rattle.walks.specs.Tallies.{plainOf}
+use Rattle.rules.specs.Singles.{plainly}
 use Rattle.walks.proofs.Stepping.{erases-only, step-registers, step-erases}
 use Rattle.walks.proofs.step.Statement.{statement}
 use Rattle.walks.proofs.step.Tie as tie
@@ -44,7 +44,7 @@ same-length c = search needs
 returns : tie.Need-returns
 returns c =
     let s = start (c .before .before) in
-    sym (step-misses (T s) (s .args .requester) (plainOf (s .args .operation) (s .args .number)) (sym (c .before .before .row-of .ensures) ∙ c .enum-told .given .1))
+    sym (step-misses (T s) (s .args .requester) (plainly (s .args .operation) (s .args .number)) (sym (c .before .before .row-of .ensures) ∙ c .enum-told .given .1))
 
 load-requires : tie.Need-load-requires
 load-requires c κs =

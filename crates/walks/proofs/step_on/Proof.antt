@@ -9,7 +9,7 @@ use Rattle.tables.specs.Tables.{tableSound}
 use Rattle.rules.specs.Requests.{Stepping}
 use Rattle.rules.specs.Crews.{withCode}
 use Rattle.rules.proofs.Sound.{step-keeps}
-use Rattle.walks.specs.Tallies.{plainOf}
+use Rattle.rules.specs.Singles.{plainly}
 use Rattle.walks.proofs.Tallies.{step-succeeds, step-fails}
 use Rattle.walks.proofs.step_on.Statement.{statement}
 use Rattle.walks.proofs.step_on.Tie as tie
@@ -19,7 +19,7 @@ kept : (c : tie.After-step) → tableSound (c .step .last .0) ≡ true
 kept c =
     let s = c .before .before .before .before in
     ap (λ (x : Stepping). tableSound (x .table)) (c .step .ensures)
-    ∙ step-keeps (now (s .args .table)) (s .pre .0 .0) (s .args .requester) (s .pre .0 .2) (plainOf (s .args .operation) _) refl .sound
+    ∙ step-keeps (now (s .args .table)) (s .pre .0 .0) (s .args .requester) (s .pre .0 .2) (plainly (s .args .operation) _) refl .sound
 
 mul-t12 : tie.Need-mul-t12
 mul-t12 c = search needs

@@ -1,5 +1,5 @@
 -- `walks::walk` meets its contract. The loop's invariant: from where it stands, the codes that are left lead to the walk's end. Assumes nothing.
-use mathlib.Core.Path.{_≡_, refl, sym, _∙_}
+use mathlib.Core.Path.{_≡_, refl, _∙_}
 use mathlib.Core.Bool.{true}
 use Prim.Native.Nat.{_≤_, _<_, _+_, _-_, _*_}
 use native.Mathlib.Omega.{arith}
@@ -10,17 +10,18 @@ use Rattle.crews.specs.Crews.{codesIn}
 use Rattle.crews.proofs.Reading.{pair}
 use Rattle.tables.specs.Tables.{tableSound}
 use Rattle.rules.specs.Crews.{Walk, setOut, walked}
-use Rattle.walks.specs.Tallies.{plainOf, counted, Tallies}
+use Rattle.rules.specs.Singles.{plainly}
+use Rattle.walks.specs.Tallies.{stepsCounted, Tallies}
 use Rattle.walks.proofs.Tallies.{walk-on, walk-ends, walk-starts}
 use Rattle.walks.proofs.walk.Statement.{statement}
 use Rattle.walks.proofs.walk.Tie as tie
 
 abbrev Inv-loop : tie.InvT-loop
 Inv-loop table₀ requester operation lead digits tally₀ n i₀ table tally i =
-    (i ≤ n) × (length table ≡ length table₀) × (tableSound table ≡ true) × (counted tally ≡ i + 1)
+    (i ≤ n) × (length table ≡ length table₀) × (tableSound table ≡ true) × (stepsCounted tally ≡ i + 1)
     × ((first : Walk) → Tallies tally₀ table₀ first
     → (w : Walk) × Tallies tally table w
-    × (walked requester (plainOf operation lead) (codesIn (drop (2 * i) digits)) w ≡ walked requester (plainOf operation lead) (codesIn digits) first))
+    × (walked requester (plainly operation lead) (codesIn (drop (2 * i) digits)) w ≡ walked requester (plainly operation lead) (codesIn digits) first))
 
 abbrev μ-loop : tie.MeasureT-loop
 μ-loop table₀ requester operation lead digits tally₀ n i₀ table tally i = n - i
