@@ -23,7 +23,17 @@
  * List. Two words a subscriber, at most 4,096, strictly ascending: MSISDN;
  * flags 0 to 3 (1 has Follow Me, 2 supervisor).
  *
- * Refusals and errors touch no memory. What a function writes stands at the
+ * Frames. A Register holds a request, a Release Complete its answer: the messages
+ * between base station side and node (document 000, 4.2.1 and 4.2.2). Lengths of
+ * parts are definite and in their shortest form; the facility element's own is
+ * one plain octet. Register is 0x7B, as document 000 has it. TS 24.080 has 0x3B;
+ * the two differ in a bit that TS 24.008 uses, with the one above it, as the
+ * sequence number of a mobile's messages. A caller whose stack leaves it in makes
+ * the message's second octet (type & 0x3F) | 0x40 before she lends it, and one
+ * who wants 0x3B written clears 0x40 in what was written.
+ *
+ * Refusals and errors touch no memory; only a framed request that is in error or
+ * rejected writes the frame that says so. What a function writes stands at the
  * start of the buffer; everything beyond its count stays as it was.
  */
 #ifndef FFN_H
@@ -39,14 +49,23 @@ extern "C" {
 /* The classes of an answer. Refusals, errors and outcomes are numbered apart. */
 enum {
     FFN_WRITTEN = 0,  /* count: the octets or characters that were written */
-    FFN_REFUSAL = 1,  /* number: 1 to 9, see below */
+    FFN_REFUSAL = 1,  /* number: 1 to 9 or 11, see below */
     FFN_ERROR = 2,    /* number: 35, 36 or 71, the codes of TS 29.002 */
-    FFN_OUTCOME = 3,  /* number: the outcome; count: the reply's octets; value: of 03 the holder's MSISDN, otherwise 0 */
+    FFN_OUTCOME = 3,  /* number: the outcome; count: the reply's or the frame's octets; value: of 03 the holder's MSISDN, otherwise 0 */
     FFN_SENT = 4,     /* count: the notice's octets; value: the addressee's MSISDN */
     FFN_RESULT = 5,   /* number: FFN_DELIVERED, FFN_DROPPED or FFN_AGAIN */
     FFN_FOUND = 6,    /* value: the lowest due functional number */
     FFN_NONE_DUE = 7, /* no notice is due */
-    FFN_READ = 8      /* of ffn_read_request alone: the string reads */
+    FFN_READ = 8,     /* of the readers: the string or the message reads */
+    /* Of frames. */
+    FFN_RETURN_ERROR = 9, /* number: the error's code; count: the frame's octets */
+    FFN_REJECT = 10       /* number: the problem; count: the frame's octets */
+};
+
+/* The problems with which a framed request is rejected. */
+enum {
+    FFN_UNRECOGNIZED_OPERATION = 1, /* the operation is missing, unreadable or unknown */
+    FFN_MISTYPED_PARAMETER = 2      /* something behind the operation is wrong */
 };
 
 /* What ffn_result returns as its number. */
@@ -69,8 +88,10 @@ enum {
  * 4 the notice is not in the phase that the call needs; 5 it is not due;
  * 6 the delay is neither 0 nor 60 to 600 seconds; 7 the functional number is
  * malformed or not in the table; 8 the list is unsound; 9 the fields break the
- * string's rules, a character is not one that the packer takes, or unused bits
- * are not 0.
+ * string's rules, a character is not one that the packer takes, unused bits are
+ * not 0, or the transaction identifier is above 15; 11 the message is wrong
+ * anywhere up to and with its invoke number, or is no Release Complete that the
+ * node could have written.
  * Errors: 35 the requester is no MSISDN, or the string has 0 octets; 36 the
  * string does not read; 71 the data coding scheme is not 0x0F.
  * Outcomes: 01 registered, 02 erased, 03 interrogated; 11 a crew's request to
@@ -80,7 +101,7 @@ enum {
 
 /* An answer. A field that its class does not name is 0. */
 struct ffn_answer {
-    uint32_t class_; /* FFN_WRITTEN to FFN_NONE_DUE (without its underscore a word of C++) */
+    uint32_t class_; /* any but FFN_READ (without its underscore a word of C++) */
     uint32_t number;
     size_t count;
     uint64_t value;
@@ -97,6 +118,17 @@ struct ffn_request_read {
     size_t start;               /* where the additional field starts in the unpacked string */
     size_t length;              /* and how many characters it has, 0 to 30 */
     size_t codes;               /* of a crew how many two-digit codes the field ends in, 0 to 9; otherwise 0 */
+};
+
+/* What a message reads as. A field that its class does not name is 0. */
+struct ffn_frame_read {
+    uint32_t class_; /* FFN_READ, FFN_RETURN_ERROR, FFN_REJECT, or FFN_REFUSAL */
+    uint32_t number; /* of FFN_RETURN_ERROR the code, of FFN_REJECT the problem, of FFN_REFUSAL 11; otherwise 0 */
+    uint32_t first;  /* the first octet: transaction identifier and 0xB; of FFN_REFUSAL 0 */
+    uint32_t invoke; /* the invoke number; of FFN_REFUSAL 0 */
+    uint32_t scheme; /* of FFN_READ the data coding scheme */
+    size_t start;    /* of FFN_READ where the string starts in the message */
+    size_t length;   /* and how many octets it has: 0 to 237 in a Register, 0 to 80 in a Release Complete */
 };
 
 /*
@@ -178,6 +210,47 @@ struct ffn_answer ffn_result(uint64_t *table, size_t table_words, uint64_t funct
  * none is due. Refused 2, 6.
  */
 struct ffn_answer ffn_finding(const uint64_t *table, size_t table_words, uint32_t delay, uint32_t now);
+
+/*
+ * A framed request: the requester's MSISDN and a Register. The Release Complete
+ * that answers it stands in frame, with the message's invoke number and its
+ * transaction identifier, the flag inverted. Refused 1 (frame under 120 octets),
+ * 11, 8, 2. Then FFN_REJECT with problem 1 where not exactly 02 01 3B stands
+ * behind the invoke number, with problem 2 where anything behind that is wrong;
+ * otherwise the request as ffn_request treats it from error 35 on, with the
+ * scheme and the string of the message. An error is FFN_RETURN_ERROR, an outcome
+ * FFN_OUTCOME with the reply's text as the string of a Return Result; neither an
+ * error nor a Reject changes the table. count is that of the frame: at most 46
+ * for an outcome, 12 for the others.
+ */
+struct ffn_answer ffn_framed_request(uint64_t *table, size_t table_words, const uint64_t *list, size_t list_words,
+                                     uint8_t *frame, size_t frame_length,
+                                     uint64_t requester, const uint8_t *message, size_t message_length);
+
+/*
+ * Writes a Register: transaction identifier (flag and value, 0 to 15), invoke
+ * number, and the fields of a request as ffn_write_request takes them, whose
+ * string it holds with scheme 0x0F. FFN_WRITTEN with the count of octets, at
+ * most 85. Refused 1 where frame has under 120 octets, then 9 where the fields
+ * break the string's rules or the identifier is above 15.
+ */
+struct ffn_answer ffn_write_register(uint8_t transaction, uint8_t invoke, uint32_t operation,
+                                     uint64_t functional_number, uint64_t msisdn,
+                                     const uint8_t *additional, size_t additional_length,
+                                     uint8_t *frame, size_t frame_length);
+
+/*
+ * Reads a Register: FFN_READ with the place of its string, FFN_REJECT with the
+ * problem that ffn_framed_request would answer, or FFN_REFUSAL 11.
+ */
+struct ffn_frame_read ffn_read_register(const uint8_t *message, size_t message_length);
+
+/*
+ * Reads a Release Complete: FFN_READ, a result, with scheme 0x0F and the place of
+ * its string; FFN_RETURN_ERROR with any code; FFN_REJECT with any problem; or
+ * FFN_REFUSAL 11 for anything that the node's writer could not have written.
+ */
+struct ffn_frame_read ffn_read_release(const uint8_t *message, size_t message_length);
 
 #ifdef __cplusplus
 }

@@ -29,6 +29,12 @@ _Static_assert(offsetof(struct ffn_request_read, msisdn) == 24, "msisdn");
 _Static_assert(offsetof(struct ffn_request_read, start) == 32, "start");
 _Static_assert(offsetof(struct ffn_request_read, length) == 40, "length");
 _Static_assert(offsetof(struct ffn_request_read, codes) == 48, "codes");
+_Static_assert(sizeof(struct ffn_frame_read) == 40, "frame read");
+_Static_assert(offsetof(struct ffn_frame_read, first) == 8, "first");
+_Static_assert(offsetof(struct ffn_frame_read, invoke) == 12, "invoke");
+_Static_assert(offsetof(struct ffn_frame_read, scheme) == 16, "scheme");
+_Static_assert(offsetof(struct ffn_frame_read, start) == 24, "start");
+_Static_assert(offsetof(struct ffn_frame_read, length) == 32, "length");
 
 /* Document 01's numbers: A has flags 1, B flags 3, C flags 0; F is free. */
 static const uint64_t A = 14915100001, B = 14915100002, C = 14915100003, F = 10492123401;
@@ -328,6 +334,126 @@ static void crew_requests(void)
     HOLDS(crew_outcome(ask(A, "##214*0492123401***BULK0#"), 12, 8, "12 1 01 0") && record_is(F, 0, 0, 0, 0, 0));
 }
 
+/* A registers F: 18 octets in 23, 31 and 33. And what answers it: 2 octets in 7, 12, 17 and 19; an error; a Reject. */
+static const uint8_t REGISTER[40] = {0x0B, 0x7B, 0x1C, 0x21, 0xA1, 0x1F, 0x02, 0x01, 0x01, 0x02, 0x01, 0x3B, 0x30, 0x17, 0x04, 0x01, 0x0F, 0x04, 0x12,
+    0x2A, 0x95, 0x2C, 0x46, 0x53, 0xC1, 0x68, 0x39, 0x59, 0x4C, 0x36, 0xA3, 0xC1, 0x62, 0x2A, 0x95, 0x6A, 0x04, 0x7F, 0x01, 0x00};
+static const uint8_t RESULT[23] = {0x8B, 0x2A, 0x1C, 0x13, 0xA2, 0x11, 0x02, 0x01, 0x01, 0x30, 0x0C, 0x02, 0x01, 0x3B, 0x30, 0x07, 0x04, 0x01, 0x0F,
+    0x04, 0x02, 0xB0, 0x18};
+static const uint8_t RETURN_ERROR[12] = {0x8B, 0x2A, 0x1C, 0x08, 0xA3, 0x06, 0x02, 0x01, 0x01, 0x02, 0x01, 0x47};
+static const uint8_t REJECT[12] = {0x8B, 0x2A, 0x1C, 0x08, 0xA4, 0x06, 0x02, 0x01, 0x01, 0x81, 0x01, 0x01};
+
+static int frame_is(struct ffn_frame_read read, uint32_t class_, uint32_t number, uint32_t first, uint32_t invoke, uint32_t scheme, size_t start, size_t length)
+{
+    return read.class_ == class_ && read.number == number && read.first == first && read.invoke == invoke
+        && read.scheme == scheme && read.start == start && read.length == length;
+}
+
+/* The Register with the octet at a place changed. */
+static void change(uint8_t message[40], size_t place, uint8_t octet)
+{
+    memcpy(message, REGISTER, sizeof REGISTER);
+    message[place] = octet;
+}
+
+/* A framed request with the octet at a place changed. */
+static struct ffn_answer ask_framed(uint64_t requester, size_t place, uint8_t octet)
+{
+    uint8_t message[40];
+    change(message, place, octet);
+    memset(reply, UNTOUCHED, sizeof reply);
+    return ffn_framed_request(table, 6, LIST, 6, reply, 120, requester, message, sizeof message);
+}
+
+/* The frame is this one, but for its first octet and its invoke number, and the rest of the buffer stayed. */
+static int answers(const uint8_t *frame, size_t count, uint8_t first, uint8_t invoke)
+{
+    return reply[0] == first && reply[8] == invoke && memcmp(reply + 1, frame + 1, 7) == 0
+        && memcmp(reply + 9, frame + 9, count - 9) == 0 && untouched(reply, count, ROOM);
+}
+
+static void framed_requests(void)
+{
+    set_record(0, 0, 0, 0, 0);
+    HOLDS(is(ask_framed(A, 16, 0x00), FFN_RETURN_ERROR, 71, 12, 0) && answers(RETURN_ERROR, 12, 0x8B, 1));
+    HOLDS(is(ask_framed(0, 16, 0x00), FFN_RETURN_ERROR, 35, 12, 0) && reply[11] == 35);
+    HOLDS(is(ask_framed(A, 36, 0x00), FFN_RETURN_ERROR, 36, 12, 0) && reply[11] == 36);
+    HOLDS(is(ask_framed(A, 11, 0x3C), FFN_REJECT, FFN_UNRECOGNIZED_OPERATION, 12, 0) && answers(REJECT, 12, 0x8B, 1));
+    HOLDS(is(ask_framed(A, 12, 0x31), FFN_REJECT, FFN_MISTYPED_PARAMETER, 12, 0) && reply[11] == 2);
+    HOLDS(record_is(F, 0, 0, 0, 0, 0));
+    HOLDS(is(ask_framed(A, 0, 0x0B), FFN_OUTCOME, 1, 23, 0) && answers(RESULT, 23, 0x8B, 1) && record_is(F, A, 0, 0, 0, 0));
+    HOLDS(is(ask_framed(A, 0, 0xFB), FFN_OUTCOME, 1, 23, 0) && answers(RESULT, 23, 0x7B, 1));
+    HOLDS(is(ask_framed(A, 8, 0x00), FFN_OUTCOME, 1, 23, 0) && answers(RESULT, 23, 0x8B, 0));
+    HOLDS(is(ask_framed(A, 8, 0xFF), FFN_OUTCOME, 1, 23, 0) && answers(RESULT, 23, 0x8B, 0xFF));
+
+    uint8_t message[120], none[1] = {0};
+    struct ffn_answer made = ffn_write_register(0, 1, FFN_INTERROGATE, F, 0, none, 0, message, sizeof message);
+    memset(reply, UNTOUCHED, sizeof reply);
+    struct ffn_answer held = ffn_framed_request(table, 6, LIST, 6, reply, sizeof reply, B, message, made.count);
+    HOLDS(is(held, FFN_OUTCOME, 3, 33, A) && untouched(reply, 33, ROOM));
+    uint8_t text[ROOM];
+    HOLDS(is(ffn_unpack(reply + 21, 12, text, sizeof text), FFN_WRITTEN, 0, 13, 0) && memcmp(text, "03 4915100001", 13) == 0);
+}
+
+/* A framed request that is refused, in the order of the checks; it touches nothing. */
+static void framed_checks(void)
+{
+    uint64_t broken[6] = {4915100001, 0, 0, 0, 0, 0};
+    uint8_t wrong[40], rejected[40];
+    change(wrong, 1, 0x3B);
+    change(rejected, 11, 0x3C);
+    memset(reply, UNTOUCHED, sizeof reply);
+    HOLDS(is(ffn_framed_request(broken, 6, LIST, 5, reply, 119, 1, wrong, 40), FFN_REFUSAL, 1, 0, 0));
+    HOLDS(is(ffn_framed_request(broken, 6, LIST, 5, reply, 120, 1, wrong, 40), FFN_REFUSAL, 11, 0, 0));
+    HOLDS(is(ffn_framed_request(broken, 6, LIST, 5, reply, 120, 1, rejected, 40), FFN_REFUSAL, 8, 0, 0));
+    HOLDS(is(ffn_framed_request(broken, 6, LIST, 6, reply, 120, 1, rejected, 40), FFN_REFUSAL, 2, 0, 0));
+    HOLDS(is(ffn_framed_request(broken, 6, LIST, 6, reply, 120, 1, REGISTER, 0), FFN_REFUSAL, 11, 0, 0));
+    HOLDS(untouched(reply, 0, ROOM) && broken[0] == 4915100001);
+}
+
+static void registers(void)
+{
+    uint8_t frame[ROOM], message[240] = {0x0B, 0x7B, 0x1C, 0x92, 0xA1, 0x81, 0x8F, 0x02, 0x01, 0x01, 0x02, 0x01, 0x3B, 0x30, 0x81, 0x86,
+        0x04, 0x01, 0x00, 0x04, 0x81, 0x80}, none[1] = {0};
+    const uint8_t *field = (const uint8_t *)"ABCDEFGHIJKLMNOPQRSTUVWXYZ0123";
+    memset(frame, UNTOUCHED, sizeof frame);
+    HOLDS(is(ffn_write_register(0, 1, FFN_REGISTER, F, 0, none, 0, frame, 120), FFN_WRITTEN, 0, 40, 0));
+    HOLDS(memcmp(frame, REGISTER, 40) == 0 && untouched(frame, 40, ROOM));
+    HOLDS(frame_is(ffn_read_register(REGISTER, 40), FFN_READ, 0, 0x0B, 1, 0x0F, 19, 18));
+    struct ffn_answer longest = ffn_write_register(15, 255, FFN_ERASE, 1999999999999999, 1000000000000000, field, 30, frame, 120);
+    HOLDS(is(longest, FFN_WRITTEN, 0, 85, 0) && untouched(frame, 85, ROOM));
+    HOLDS(frame_is(ffn_read_register(frame, 85), FFN_READ, 0, 0xFB, 255, 0x0F, 19, 63));
+    memset(frame, UNTOUCHED, sizeof frame);
+    HOLDS(is(ffn_write_register(16, 1, 3, F, 0, none, 0, frame, 119), FFN_REFUSAL, 1, 0, 0));
+    HOLDS(is(ffn_write_register(16, 1, FFN_REGISTER, F, 0, none, 0, frame, 120), FFN_REFUSAL, 9, 0, 0));
+    HOLDS(is(ffn_write_register(0, 1, 3, F, 0, none, 0, frame, 120), FFN_REFUSAL, 9, 0, 0));
+    HOLDS(is(ffn_write_register(0, 1, FFN_REGISTER, F, A, none, 0, frame, 120), FFN_REFUSAL, 9, 0, 0));
+    HOLDS(untouched(frame, 0, ROOM));
+
+    memset(message + 22, 0x55, 128); /* a string of 128 octets, where all lengths are in the long form */
+    memcpy(message + 150, REGISTER + 37, 3);
+    HOLDS(frame_is(ffn_read_register(message, 153), FFN_READ, 0, 0x0B, 1, 0, 22, 128));
+    HOLDS(frame_is(ffn_read_register(message, 152), FFN_REJECT, 2, 0x0B, 1, 0, 0, 0));
+    HOLDS(frame_is(ffn_read_register(message, 154), FFN_REJECT, 2, 0x0B, 1, 0, 0, 0));
+    HOLDS(frame_is(ffn_read_register(message, 149), FFN_REFUSAL, 11, 0, 0, 0, 0, 0));
+    message[12] = 0x3C;
+    HOLDS(frame_is(ffn_read_register(message, 153), FFN_REJECT, 1, 0x0B, 1, 0, 0, 0));
+    HOLDS(frame_is(ffn_read_register(message, 0), FFN_REFUSAL, 11, 0, 0, 0, 0, 0));
+}
+
+static void releases(void)
+{
+    uint8_t longest[102] = {0x0B, 0x2A, 0x1C, 0x61, 0xA2, 0x5F, 0x02, 0x01, 0xFF, 0x30, 0x5A, 0x02, 0x01, 0x3B, 0x30, 0x55, 0x04, 0x01, 0x0F, 0x04, 0x50};
+    HOLDS(frame_is(ffn_read_release(RESULT, 23), FFN_READ, 0, 0x8B, 1, 0x0F, 21, 2));
+    HOLDS(frame_is(ffn_read_release(RETURN_ERROR, 12), FFN_RETURN_ERROR, 71, 0x8B, 1, 0, 0, 0));
+    HOLDS(frame_is(ffn_read_release(REJECT, 12), FFN_REJECT, 1, 0x8B, 1, 0, 0, 0));
+    HOLDS(frame_is(ffn_read_release(longest, 101), FFN_READ, 0, 0x0B, 255, 0x0F, 21, 80));
+    HOLDS(frame_is(ffn_read_release(longest, 102), FFN_REFUSAL, 11, 0, 0, 0, 0, 0));
+    HOLDS(frame_is(ffn_read_release(RESULT, 22), FFN_REFUSAL, 11, 0, 0, 0, 0, 0));
+    HOLDS(frame_is(ffn_read_release(REGISTER, 40), FFN_REFUSAL, 11, 0, 0, 0, 0, 0));
+    longest[18] = 0x00; /* another scheme */
+    HOLDS(frame_is(ffn_read_release(longest, 101), FFN_REFUSAL, 11, 0, 0, 0, 0, 0));
+}
+
 int main(void)
 {
     packing();
@@ -337,6 +463,10 @@ int main(void)
     strings();
     crews();
     crew_requests();
+    framed_requests();
+    framed_checks();
+    registers();
+    releases();
     printf("%d facts hold\n", facts);
     return 0;
 }

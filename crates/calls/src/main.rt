@@ -1,6 +1,6 @@
 // The calls of the node by lines of text: a line sets memory or makes one call, and what is printed of a call is its answer, the octets that it
-// wrote, what lies beyond them, and what became of the table. Document 01's examples and those of crews stand in the file stdin. What they print, in
-// the file stdout, was worked out by hand from the papers; the independent implementation answers the same lines, and random ones beside them.
+// wrote, what lies beyond them, and what became of the table. Document 01's examples and those of crews and frames stand in the file stdin. What they
+// print, in the file stdout, was worked out by hand from the papers; the independent implementation answers the same lines, and random ones beside them.
 //
 // A line is a name and its fields, one space apart: words in decimal (numbers in stored form), and last perhaps a tail, which reaches to the end of
 // the line: 'CHARACTERS or xOCTETS in hexadecimal. Any other line prints `?` and changes nothing.
@@ -19,43 +19,46 @@
 //   write OPERATION NUMBER [MSISDN] TAIL  0 registers, 1 erases, 2 interrogates
 //   read TAIL                             characters are packed first
 //   number WORD                           whether it is a number in stored form
+//   framed REQUESTER TAIL                 a framed request, the tail is the message
+//   register TRANSACTION INVOKE OPERATION NUMBER [MSISDN] TAIL
+//                                         writes a Register, the tail is the additional field
+//   registered TAIL                       reads a Register
+//   released TAIL                         reads a Release Complete
 use answers::Written;
 use rows::ROW_WORDS;
+use shown::BUFFER;
 use shown::FINDING;
+use shown::FRAMED;
 use shown::NUMBER;
 use shown::PACK;
 use shown::READ;
+use shown::REGISTER;
+use shown::REGISTERED;
+use shown::RELEASED;
 use shown::REQUEST;
 use shown::RESULT;
 use shown::SENDING;
-use shown::Said;
 use shown::TWO_TO_THE_8;
 use shown::TWO_TO_THE_32;
 use shown::UNPACK;
 use shown::WRITE;
-use shown::fills_buffer;
 use shown::low_8;
-use shown::make_call;
+use shown::show_call;
 use shown::shows_table;
 use texts::Fields;
 use texts::OctetsRead;
 ghost use mathlib.Core.Path.{_≡_};
 ghost use lib.ListN.{length};
 
-// The output is written whenever so many octets of it wait; no line prints as many.
-const WAITING: usize = 32_768;
-
 // Room for the words of a table and a list, more than either may have.
 const TABLE: usize = 6_600;
 
 const LIST: usize = 8_400;
 
-// Room for the buffer that a call is lent, and for the octets of a tail.
-const BUFFER: usize = 512;
-
+// Room for the octets of a tail.
 const TAIL: usize = 1_024;
 
-// The forms of lines, by their place among the names that `read_form` has; the calls are between these, and the last three have no name.
+// The forms of lines, by their place among the names that `form_named` has; the calls are between these, and the last three have no name.
 const TABLE_ROWS: usize = 2;
 
 const LIST_LINE: usize = 3;
@@ -64,11 +67,11 @@ const LIST_ROWS: usize = 5;
 
 const BUFFER_LINE: usize = 6;
 
-const COMMENT: usize = 16;
+const COMMENT: usize = 20;
 
-const TITLE: usize = 17;
+const TITLE: usize = 21;
 
-const UNKNOWN: usize = 18;
+const UNKNOWN: usize = 22;
 
 // A line's form and its fields.
 struct Line {
@@ -82,12 +85,6 @@ struct State {
     list: usize,
     room: usize,
     filling: u8,
-}
-
-// What a line leaves, and where its output ends.
-struct Done {
-    state: State,
-    at: usize,
 }
 
 fn table_words() -> [u64; TABLE]
@@ -108,83 +105,7 @@ fn tail_octets() -> [u8; TAIL]
     [0; TAIL]
 }
 
-fn filled(filling: u8) -> [u8; BUFFER]
-    ensures { λ r. ⌜ 512 ≡ length r ⌝ }
-{
-    [filling; BUFFER]
-}
-
 // ---- calls
-
-// Writes what became of the table: the rows that changed, if there are any.
-fn put_table(out: &mut [u8], at: usize, call: usize, before: &[u64], after: &[u64]) -> usize {
-    if !shows_table(call) {
-        return at;
-    }
-    let end = texts::put_changes(out, at, before, after, ROW_WORDS);
-    if end == at {
-        return texts::put(out, at, b", table stays");
-    }
-    end
-}
-
-fn put_buffer(
-    out: &mut [u8],
-    at: usize,
-    call: usize,
-    count: usize,
-    buffer: &[u8],
-    filling: u8,
-) -> usize {
-    if fills_buffer(call) {
-        return texts::put_octets(out, at, buffer, count, filling);
-    }
-    at
-}
-
-// Ends the line of a call, or reads a string.
-fn put_end(out: &mut [u8], at: usize, call: usize, octets: &[u8]) -> usize {
-    if call == READ {
-        return shown::put_reading(out, at, octets);
-    }
-    texts::put(out, at, b"\n")
-}
-
-// Writes what a call answered and left.
-fn put_call(
-    call: usize,
-    said: Said,
-    octets: &[u8],
-    before: &[u64],
-    table: &[u64],
-    buffer: &[u8],
-    filling: u8,
-    out: &mut [u8],
-    at: usize,
-) -> usize {
-    let at = shown::put(out, at, said);
-    let at = put_buffer(out, at, call, said.count, buffer, filling);
-    let at = put_table(out, at, call, before, table);
-    put_end(out, at, call, octets)
-}
-
-// Makes a call on what it is lent, and shows it.
-fn show_call(
-    call: usize,
-    fields: Fields,
-    octets: &[u8],
-    table: &mut [u64],
-    list: &[u64],
-    buffer: &mut [u8],
-    filling: u8,
-    out: &mut [u8],
-    at: usize,
-) -> usize {
-    let mut before = table_words();
-    texts::copy(table, &mut before);
-    let said = make_call(call, fields, octets, table, list, buffer);
-    put_call(call, said, octets, &before, table, buffer, filling, out, at)
-}
 
 // The octets of a tail; the characters of a request's string are packed.
 fn read_octets(call: usize, line: &[u8], tail: usize, octets: &mut [u8]) -> OctetsRead {
@@ -208,56 +129,59 @@ fn read_octets(call: usize, line: &[u8], tail: usize, octets: &mut [u8]) -> Octe
     }
 }
 
-fn question(out: &mut [u8], at: usize) -> usize {
-    texts::put(out, at, b"?\n")
+fn question() {
+    texts::put(b"?\n");
 }
 
-// A call on the words that are used and a buffer.
-fn lend(
-    line: Line,
-    octets: &[u8],
-    state: State,
-    table: &mut [u64],
-    list: &[u64],
-    out: &mut [u8],
-    at: usize,
-) -> usize {
+// Ends the line of a call, with what became of the table where it shows that.
+fn put_end(call: usize, before: &[u64], after: &[u64]) {
+    if shows_table(call) {
+        texts::put_changes(before, after, ROW_WORDS);
+    }
+    texts::put(b"\n");
+}
+
+// A call on the words that are used.
+fn call_on(line: Line, octets: &[u8], state: State, table: &mut [u64], list: &[u64]) {
     let fields = line.fields;
-    let mut buffer = filled(state.filling);
-    let room = streams::within(state.room, &buffer);
-    let numbers = texts::used(state.table, table);
-    let subscribers = texts::used(state.list, list);
+    let mut before = table_words();
+    texts::copy(table, &mut before);
     show_call(
         line.form,
         fields,
         octets,
+        table,
+        list,
+        state.room,
+        state.filling,
+    );
+    put_end(line.form, &before, table);
+}
+
+// A call with the octets of its tail.
+fn lend(line: Line, octets: &[u8], state: State, table: &mut [u64], list: &[u64]) {
+    let numbers = texts::used(state.table, table);
+    let subscribers = texts::used(state.list, list);
+    call_on(
+        line,
+        octets,
+        state,
         &mut table[..numbers],
         &list[..subscribers],
-        &mut buffer[..room],
-        state.filling,
-        out,
-        at,
-    )
+    );
 }
 
 // A line that is a call.
-fn call_line(
-    line: Line,
-    text: &[u8],
-    state: State,
-    table: &mut [u64],
-    list: &[u64],
-    out: &mut [u8],
-    at: usize,
-) -> usize {
+fn call_line(line: Line, text: &[u8], state: State, table: &mut [u64], list: &[u64]) {
     let fields = line.fields;
     let mut octets = tail_octets();
     let read = read_octets(line.form, text, fields.tail, &mut octets);
     if !read.good {
-        return question(out, at);
+        question();
+        return;
     }
     let count = streams::within(read.count, &octets);
-    lend(line, &octets[..count], state, table, list, out, at)
+    lend(line, &octets[..count], state, table, list);
 }
 
 // ---- memory
@@ -318,19 +242,20 @@ fn set_line(line: Line, state: State, table: &mut [u64], list: &mut [u64]) -> St
 }
 
 // What is set, if there was room for it.
-fn keep(state: State, next: State, out: &mut [u8], at: usize) -> Done {
+fn keep(state: State, next: State) -> State {
     if (TABLE <= next.table) | (LIST <= next.list) {
-        let at = question(out, at);
-        return Done { state, at };
+        question();
+        return state;
     }
-    Done { state: next, at }
+    next
 }
 
 // ---- lines
 
 fn takes_tail(form: usize) -> bool {
     match form {
-        REQUEST | PACK | UNPACK | WRITE | READ => true,
+        REQUEST | FRAMED | PACK | UNPACK | WRITE | READ => true,
+        REGISTER | REGISTERED | RELEASED => true,
         _ => false,
     }
 }
@@ -345,30 +270,44 @@ fn has_words(form: usize, count: usize, first: u64, second: u64, third: u64) -> 
         SENDING | RESULT => (count == 3) & (second < TWO_TO_THE_32) & (third < TWO_TO_THE_32),
         FINDING => (count == 2) & (first < TWO_TO_THE_32) & (second < TWO_TO_THE_32),
         WRITE => (first < 3) & (2 <= count) & (count <= 3),
-        NUMBER => count == 1,
-        PACK | UNPACK | READ => count == 0,
+        REGISTER => (first < TWO_TO_THE_8)
+            & (second < TWO_TO_THE_8)
+            & (third < 3)
+            & (4 <= count)
+            & (count <= 5),
+        FRAMED | NUMBER => count == 1,
+        PACK | UNPACK | READ | REGISTERED | RELEASED => count == 0,
         _ => false,
     }
+}
+
+// The form whose name ends at an index; how many names there are where it is none of them.
+fn form_named(text: &[u8], end: usize) -> usize {
+    texts::name_of(
+        text,
+        end,
+        b"table table+ table* list list+ list* buffer request sending result finding framed pack unpack write read number register registered released ",
+    )
+}
+
+// Whether the fields of a line fit its form: its words, and a tail only where one belongs.
+fn fits(form: usize, fields: Fields, length: usize) -> bool {
+    let words = fields.words;
+    let formed = has_words(form, fields.count, words[0], words[1], words[2]);
+    fields.good & formed & ((length <= fields.tail) | takes_tail(form))
 }
 
 fn read_form(text: &[u8]) -> Line {
     let end = bytes::scan::find(text, 0, text.len(), b' ');
     let fields = texts::read_fields(text, end);
-    let form = texts::name_of(
-        text,
-        end,
-        b"table table+ table* list list+ list* buffer request sending result finding pack unpack write read number ",
-    );
-    let words = fields.words;
-    let formed = has_words(form, fields.count, words[0], words[1], words[2]);
-    let ended = (text.len() <= fields.tail) | takes_tail(form);
-    if !(fields.good & formed & ended) {
-        return Line {
-            form: UNKNOWN,
-            fields,
-        };
+    let form = form_named(text, end);
+    if fits(form, fields, text.len()) {
+        return Line { form, fields };
     }
-    Line { form, fields }
+    Line {
+        form: UNKNOWN,
+        fields,
+    }
 }
 
 // A comment, which an empty line is too, a title, or another form.
@@ -409,52 +348,28 @@ fn text_end(form: usize, length: usize) -> usize {
     length
 }
 
-fn text_line(form: usize, text: &[u8], out: &mut [u8], at: usize) -> usize {
-    let at = texts::put_part(out, at, text, text_start(form), text_end(form, text.len()));
+fn text_line(form: usize, text: &[u8]) {
+    texts::put_part(text, text_start(form), text_end(form, text.len()));
     let ending = std::num::wrapping_sub_usize(form, COMMENT);
-    texts::put_form(out, at, b"\n;: ;?\n;", ending, &[0, 0, 0, 0])
+    texts::put_form(b"\n;: ;?\n;", ending, &[0, 0, 0, 0, 0]);
 }
 
-fn do_line(
-    text: &[u8],
-    state: State,
-    table: &mut [u64],
-    list: &mut [u64],
-    out: &mut [u8],
-    at: usize,
-) -> Done {
+// What a line leaves.
+fn do_line(text: &[u8], state: State, table: &mut [u64], list: &mut [u64]) -> State {
     let line = form_of(text);
     if line.form < REQUEST {
-        return keep(state, set_line(line, state, table, list), out, at);
+        return keep(state, set_line(line, state, table, list));
     }
-    if line.form <= NUMBER {
-        let at = call_line(line, text, state, table, list, out, at);
-        return Done { state, at };
+    if line.form <= RELEASED {
+        call_line(line, text, state, table, list);
+    } else {
+        text_line(line.form, text);
     }
-    let at = text_line(line.form, text, out, at);
-    Done { state, at }
-}
-
-// Writes the output that waits. A line that had no room for its output is said.
-fn write_waiting(out: &[u8], at: usize) {
-    if out.len() <= at {
-        streams::say(b"calls", b": a line prints too much\n");
-    }
-    let count = streams::within(at, out);
-    streams::write_output(b"calls", &out[..count]);
-}
-
-// Where the output goes on.
-fn go_on(out: &[u8], at: usize) -> usize {
-    if at < WAITING {
-        return at;
-    }
-    write_waiting(out, at);
-    0
+    state
 }
 
 // Every line of the input, one after the other.
-fn run(input: &[u8], table: &mut [u64], list: &mut [u64], out: &mut [u8]) {
+fn run(input: &[u8], table: &mut [u64], list: &mut [u64]) {
     let mut state = State {
         table: 0,
         list: 0,
@@ -462,16 +377,11 @@ fn run(input: &[u8], table: &mut [u64], list: &mut [u64], out: &mut [u8]) {
         filling: 0,
     };
     let mut start = 0;
-    let mut at = 0;
     while start < input.len() {
         let end = bytes::scan::find(input, start, input.len(), b'\n');
-        let done = do_line(&input[start..end], state, table, list, out, at);
-        let next = done.state;
-        state = next;
-        at = go_on(out, done.at);
+        state = do_line(&input[start..end], state, table, list);
         start = end + 1;
     }
-    write_waiting(out, at);
 }
 
 fn main() {
@@ -482,6 +392,5 @@ fn main() {
     }
     let mut table = table_words();
     let mut list = list_words();
-    let mut out = io::large_buffer();
-    run(&input[..octets], &mut table, &mut list, &mut out);
+    run(&input[..octets], &mut table, &mut list);
 }

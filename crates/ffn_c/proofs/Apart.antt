@@ -1,6 +1,7 @@
 -- The struct loses nothing: from its four numbers the answer in document 01's words can be read back. Assumes nothing.
 use mathlib.Core.Path.{_≡_, refl}
 use mathlib.Core.Bool.{Bool, true, not, cond, _||_}
+use mathlib.Core.Option.{Option, none, some}
 use mathlib.Core.List.{List, [], _∷_}
 use Prim.Native.Nat.{ℕ, zero, suc, _<_}
 use lib.Dec.{eqb}
@@ -10,16 +11,19 @@ use Rattle.answers.proofs.Decide.{decide-each}
 use Rattle.numbers.specs.declared.FunctionalNumber.{FunctionalNumber}
 use Rattle.numbers.specs.declared.Msisdn.{Msisdn}
 use Rattle.strings.specs.declared.Operation.{Operation}
-use Rattle.strings.specs.declared.Operation.the-variants.{Register, Erase, Interrogate}
+use Rattle.strings.specs.declared.Operation.the-variants as operation
+use Rattle.frames.specs.Components.{Body, wrong, asks}
+use Rattle.frames.specs.Messages.{Register, registerOf}
 use Rattle.records.specs.Steps.{isDue, delayAllowed}
 use Rattle.rows.specs.Rows.{numberAt, recordAt}
 use Rattle.tables.specs.declared.Found.{Found}
 use Rattle.tables.specs.declared.Found.the-variants.{At, Nothing}
 use Rattle.tables.specs.Tables.{tableSound, rowsIn, rowOf, recordOf}
-use Rattle.rules.specs.Answers.{Answer, refusal, error, outcome, holderIs, sentTo, delivered, dropped, again, found, noneDue, Outcome, isNegativeNumber, refusing}
+use Rattle.rules.specs.Answers.{Answer, refusal, error, outcome, holderIs, returnError, reject, sentTo, delivered, dropped, again, found, noneDue, Outcome, isNegativeNumber, refusing}
 use Rattle.rules.specs.Answers as class
 use Rattle.rules.specs.Requests.{saying}
 use Rattle.rules.specs.Crews.{crewNumber, Walk, crewOutcome, requesting}
+use Rattle.rules.specs.Frames.{framedChecks, answeredIn, inFrame, ownReply, bodied, registered, framedRequest}
 use Rattle.rules.specs.Notices as notices
 use Rattle.rules.proofs.Each.{request-each}
 use Rattle.structs.specs.declared.Answer as numbers
@@ -33,7 +37,9 @@ answerOf c number count value =
     (cond (eqb c class.outcomeClass) (cond (eqb number class.interrogationNumber) (holderIs value count) (outcome number count))
     (cond (eqb c class.sentClass) (sentTo value count)
     (cond (eqb c class.resultClass) (cond (eqb number class.deliveredNumber) delivered (cond (eqb number class.droppedNumber) dropped again))
-    (cond (eqb c class.foundClass) (found value) noneDue)))))
+    (cond (eqb c class.foundClass) (found value)
+    (cond (eqb c class.returnErrorClass) (returnError number count)
+    (cond (eqb c class.rejectClass) (reject number count) noneDue)))))))
 
 -- outcome 03 comes with the holder
 tells : Answer → Bool
@@ -41,6 +47,8 @@ tells (refusal n) = true
 tells (error n) = true
 tells (outcome n octets) = not (eqb n class.interrogationNumber)
 tells (holderIs msisdn octets) = true
+tells (returnError n octets) = true
+tells (reject n octets) = true
 tells (sentTo addressee octets) = true
 tells delivered = true
 tells dropped = true
@@ -64,6 +72,8 @@ back (refusal n) t = refl
 back (error n) t = refl
 back (outcome n octets) t = rw (not-true (eqb n 3) t)
 back (holderIs msisdn octets) t = refl
+back (returnError n octets) t = refl
+back (reject n octets) t = refl
 back (sentTo addressee octets) t = refl
 back delivered t = refl
 back dropped t = refl
@@ -73,12 +83,11 @@ back noneDue t = refl
 
 -- ---- a request
 
-pub request-back :
-    (table list reply : List ℕ) (requester : Msisdn) (scheme : ℕ) (string : List ℕ)
-    → let a = requesting table list reply requester scheme string .answer in readBack (ofAnswer a) ≡ a
+request-tells :
+    (table list reply : List ℕ) (requester : Msisdn) (scheme : ℕ) (string : List ℕ) → Tells (requesting table list reply requester scheme string)
 unfolding tells IsTold Tells
-request-back table list reply requester scheme string =
-    back _ (request-each table reply Tells (λ n. refl) (λ n. refl) denied (λ new. refl) (λ new. refl) (λ msisdn. refl) (λ o w tallied. crew o w) list requester scheme string)
+request-tells table list reply requester scheme string =
+    request-each table reply Tells (λ n. refl) (λ n. refl) denied (λ new. refl) (λ new. refl) (λ msisdn. refl) (λ o w tallied. crew o w) list requester scheme string
   where
     -- a negative outcome is not 03
     denied : (n : ℕ) → n < 100 → isNegativeNumber n ≡ true → Tells (saying n table reply)
@@ -88,9 +97,57 @@ request-back table list reply requester scheme string =
         rw (or-neither (eqb n 1 || eqb n 2) (eqb n class.interrogationNumber) (third .0) .1)
 
     crew : (o : Operation) (w : Walk) → Tells (crewOutcome (crewNumber o) reply w)
-    crew Register w = refl
-    crew Erase w = refl
-    crew Interrogate w = refl
+    crew operation.Register w = refl
+    crew operation.Erase w = refl
+    crew operation.Interrogate w = refl
+
+pub request-back :
+    (table list reply : List ℕ) (requester : Msisdn) (scheme : ℕ) (string : List ℕ)
+    → let a = requesting table list reply requester scheme string .answer in readBack (ofAnswer a) ≡ a
+unfolding Tells
+request-back table list reply requester scheme string = back _ (request-tells table list reply requester scheme string)
+
+-- ---- a framed request
+
+-- the answer in its frame tells as much as the answer inside
+framed-tells : (first number : ℕ) (frame : List ℕ) (o : Outcome) → Tells o → Tells (inFrame first number frame o)
+unfolding tells IsTold Tells
+framed-tells first number frame o t = go (o .answer) t
+  where
+    go : (a : Answer) → IsTold a → Tells (answeredIn first number frame (o .table) (o .buffer) a)
+    go (refusal n) t = refl
+    go (error n) t = refl
+    go (outcome n octets) t = t
+    go (holderIs msisdn octets) t = refl
+    go (returnError n octets) t = refl
+    go (reject n octets) t = refl
+    go (sentTo addressee octets) t = refl
+    go delivered t = refl
+    go dropped t = refl
+    go again t = refl
+    go (found number) t = refl
+    go noneDue t = refl
+
+module _ (table list frame : List ℕ) (requester : Msisdn) where
+  abbrev asked : ℕ → List ℕ → Outcome
+  asked scheme string = requesting table list ownReply requester scheme string
+
+  body-tells : (first number : ℕ) (body : Body) → Tells (bodied asked table frame first number body)
+  unfolding tells IsTold Tells
+  body-tells first number (wrong problem) = refl
+  body-tells first number (asks scheme string) = framed-tells first number frame (asked scheme string) (request-tells table list ownReply requester scheme string)
+
+  read-tells : (o : Option Register) → Tells (registered asked table frame o)
+  unfolding tells IsTold Tells
+  read-tells none = refl
+  read-tells (some r) = body-tells (r .first) (r .number) (r .body)
+
+  pub framed-back : (message : List ℕ) → let a = framedRequest table list frame requester message .answer in readBack (ofAnswer a) ≡ a
+  unfolding tells IsTold Tells framedRequest
+  framed-back message =
+      back _
+      (decide-each Tells (refusing table frame (framedChecks (tableSound table) list frame message)) (registered asked table frame (registerOf message))
+      (refl, (refl, (refl, (refl, tt)))) (read-tells (registerOf message)))
 
 -- ---- a sending
 

@@ -10,8 +10,10 @@ use Rattle.numbers.specs.declared.FunctionalNumber.{FunctionalNumber}
 use Rattle.packing.specs.Packing.{unpacked}
 use Rattle.packing.specs.Outcomes.{unpacking}
 use Rattle.strings.specs.declared.Erasing.{Erasing}
-use Rattle.strings.specs.Text.{Request}
+use Rattle.strings.specs.Text.{Request, requestFrom}
 use Rattle.strings.specs.Outcomes.{requestOf, tell, writerRoom, writingRequest}
+use Rattle.frames.specs.Messages.{frameRoom}
+use Rattle.framers.specs.Written.{writingRegister}
 use Rattle.rules.specs.Answers as rules
 use Rattle.structs.specs.declared.Answer.{Answer}
 use Rattle.structs.specs.declared.Operating.{Operating}
@@ -36,13 +38,19 @@ ofCall o = returning (ofAnswer (o .answer)) (o .table) (o .buffer)
 abbrev pub ofWriter : writing.WriteOutcome → Returned Answer
 ofWriter o = returning (ofSaid (o .answer)) [] (o .buffer)
 
--- ---- the request's writer
+-- ---- the writers of a request
 
 -- "the request writer is given fields that break the string's rules": so does an operation that is none
 abbrev pub writingFields : Operating → FunctionalNumber → Erasing → List ℕ → List ℕ → writing.WriteOutcome
 writingFields Unknown number erasing additional out = writing.writing (ltb (length out) writerRoom) true [] out
 writingFields (Known operation) number erasing additional out =
     writingRequest (record { operation = operation; number = number; erasing = erasing; additional = additional }) out
+
+-- so it does of a Register
+abbrev pub framingFields : ℕ → ℕ → Operating → FunctionalNumber → Erasing → List ℕ → List ℕ → writing.WriteOutcome
+framingFields transaction invoke Unknown number erasing additional frame = writing.writing (ltb (length frame) frameRoom) true [] frame
+framingFields transaction invoke (Known operation) number erasing additional frame =
+    writingRegister transaction invoke (requestFrom operation number erasing additional) frame
 
 -- ---- the request's reader
 

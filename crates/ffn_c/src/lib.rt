@@ -1,19 +1,23 @@
-// The C functions of the static library, thin over the packer, the request string and the node. Each returns one struct by value and has no `requires`.
+// The C functions of the static library, thin over the packer, the request string, the frames and the node. Each returns one struct by value and has no `requires`.
 use numbers::FunctionalNumber;
 use numbers::Msisdn;
 use strings::Operation;
 use strings::Reading;
 use structs::Answer;
 use structs::ERROR;
+use structs::FrameRead;
 use structs::Operating;
 use structs::RequestRead;
 ghost use mathlib.Core.Path.{_≡_};
 ghost use mathlib.Core.List.{[]};
 ghost use Rattle.packing.specs.Outcomes.{packing, unpacking};
+ghost use Rattle.frames.specs.Messages.{registerOf, releaseOf};
 ghost use Rattle.rules.specs.Crews.{requesting};
+ghost use Rattle.rules.specs.Frames.{framedRequest};
 ghost use Rattle.rules.specs.Notices as notices;
 ghost use Rattle.structs.specs.Numbers.{ofAnswer, operationOf, erasingOf};
-ghost use Rattle.ffn_c.specs.Calls.{returning, ofCall, ofWriter, writingFields, readingInto};
+ghost use Rattle.structs.specs.Frames.{ofRegister, ofRelease};
+ghost use Rattle.ffn_c.specs.Calls.{returning, ofCall, ofWriter, writingFields, framingFields, readingInto};
 
 // Packs the characters into out.
 #[no_mangle]
@@ -129,4 +133,73 @@ pub extern "C" fn ffn_finding(table: &[u64], delay: u32, clock: u32) -> Answer
     ensures { λ r. ⌜ r ≡ ofAnswer (notices.finding (now (table .entry)) delay clock) ⌝ }
 {
     structs::of_finding(node::finding(table, delay, clock))
+}
+
+// A framed request: the requester's Register over the lent table and list, with the Release Complete that answers it.
+#[no_mangle]
+pub extern "C" fn ffn_framed_request(
+    table: &mut [u64],
+    list: &[u64],
+    frame: &mut [u8],
+    requester: u64,
+    message: &[u8],
+) -> Answer
+    ensures { λ r. ⌜ returning r (now (table .exit)) (now (frame .exit)) ≡ ofCall (framedRequest (now (table .entry)) (now (list .entry)) (now (frame .entry)) (record { 0 = requester }) (now (message .entry))) ⌝ }
+{
+    structs::of_framed(exchange::framed_request(table, list, frame, Msisdn(requester), message))
+}
+
+// Writes a Register with a request.
+#[no_mangle]
+pub extern "C" fn ffn_write_register(
+    transaction: u8,
+    invoke: u8,
+    operation: u32,
+    number: u64,
+    msisdn: u64,
+    additional: &[u8],
+    frame: &mut [u8],
+) -> Answer
+    ensures { λ r. ⌜ returning r [] (now (frame .exit)) ≡ ofWriter (framingFields transaction invoke (operationOf operation) (record { 0 = number }) (erasingOf msisdn) (now (additional .entry)) (now (frame .entry))) ⌝ }
+{
+    let nobody = FunctionalNumber(0);
+    let named = FunctionalNumber(number);
+    let erasing = structs::erasing_of(msisdn);
+    let Operating::Known(operation) = structs::operation_of(operation) else {
+        // breaks the string's rules, as in ffn_write_request: refused 9, after 1
+        return structs::of_written(framers::write_register(
+            transaction,
+            invoke,
+            Operation::Register,
+            nobody,
+            erasing,
+            additional,
+            frame,
+        ));
+    };
+    structs::of_written(framers::write_register(
+        transaction,
+        invoke,
+        operation,
+        named,
+        erasing,
+        additional,
+        frame,
+    ))
+}
+
+// Reads a Register.
+#[no_mangle]
+pub extern "C" fn ffn_read_register(message: &[u8]) -> FrameRead
+    ensures { λ r. ⌜ r ≡ ofRegister (now (message .entry)) (registerOf (now (message .entry))) ⌝ }
+{
+    structs::of_register(message, frames::read_register(message))
+}
+
+// Reads a Release Complete.
+#[no_mangle]
+pub extern "C" fn ffn_read_release(message: &[u8]) -> FrameRead
+    ensures { λ r. ⌜ r ≡ ofRelease (now (message .entry)) (releaseOf (now (message .entry))) ⌝ }
+{
+    structs::of_release(message, frames::read_release(message))
 }

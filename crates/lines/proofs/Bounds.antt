@@ -17,7 +17,7 @@ use Rattle.packing.specs.Packing.{charsIn}
 use Rattle.numbers.specs.Numbers.{mostDigits, isNumber, digitsOf, pushed, storedForm}
 use Rattle.numbers.specs.declared.FunctionalNumber.{FunctionalNumber}
 use Rattle.numbers.proofs.Lengths.{number-some}
-use Rattle.rules.specs.Answers.{Answer, refusal, error, outcome, holderIs, sentTo, delivered, dropped, again, found, noneDue, Outcome}
+use Rattle.rules.specs.Answers.{Answer, refusal, error, outcome, holderIs, returnError, reject, sentTo, delivered, dropped, again, found, noneDue, Outcome, isSent}
 use Rattle.rules.specs.Notices as notices
 use Rattle.forms.specs.Lines as form
 use Rattle.forms.specs.Lines.{lineFeed, space, firstField, behindField, isDigits, isNumberLong, askedOf, valueBelow, Form, sendingForm, lettered, formOf}
@@ -27,8 +27,9 @@ use Rattle.lines.specs.Program.{Program, Effect, mayFollow, mayFill, wit
 use Rattle.replies.specs.Replies.{textIn, behindLetter, Printable, answerRoom}
 use Rattle.writers.proofs.Numerals.{numeral-short}
 use Rattle.replies.proofs.Writing.{text-most}
+use Rattle.rules.proofs.Short.{digits-short}
 use Rattle.rules.proofs.Tallied.{mostReply}
-use Rattle.lines.proofs.Printing.{digits-short, isSent, Replies, asked-replies, result-replies, sending-sends}
+use Rattle.lines.proofs.Printing.{Replies, asked-replies, result-replies, sending-sends}
 
 -- ---- what follows the letter
 
@@ -42,6 +43,8 @@ said-most (refusal n) b h = omega (arith, numeral-short n)
 said-most (error n) b h = omega (arith, numeral-short n)
 said-most (outcome n count) b h = omega (arith, text-most h)
 said-most (holderIs msisdn count) b h = omega (arith, text-most h)
+said-most (returnError n count) b h = omega arith
+said-most (reject n count) b h = omega arith
 said-most (sentTo addressee count) b h = omega (arith, text-most (h .1), digits-short 15 addressee, length-append (digitsOf addressee) (space ∷ textIn count b))
 said-most delivered b h = omega arith
 said-most dropped b h = omega arith

@@ -16,8 +16,8 @@ use Rattle.packing.specs.Packing.{octetsFor, takes, packed}
 use Rattle.packing.specs.Outcomes.{packing}
 use Rattle.packing.proofs.Outcomes.{pack-short, pack-unfit}
 use Rattle.numbers.specs.declared.Msisdn.{Msisdn}
+use Rattle.strings.specs.Text.{codingScheme}
 use Rattle.rules.specs.Answers.{Answer, refusal, Outcome, made}
-use Rattle.rules.specs.Requests as requests
 use Rattle.rules.specs.Crews as crews
 use Rattle.visits.proofs.Texts.{counts-only}
 use Rattle.replies.specs.Replies.{behindLetter, Printable}
@@ -49,7 +49,7 @@ asked-unfit m string table list t = rw t
 
 pub asked-fit :
     (m : Msisdn) (string table list : List ℕ) → takes string ≡ true
-    → crews.requesting table list lentBuffer m requests.codingScheme (packed string) ≡ asked m string table list
+    → crews.requesting table list lentBuffer m codingScheme (packed string) ≡ asked m string table list
 unfolding asked
 asked-fit m string table list t = rw t
 

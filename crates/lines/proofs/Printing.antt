@@ -2,7 +2,7 @@
 use mathlib.Core.Path.{_≡_, refl, _∙_}
 use mathlib.Core.Bool.{Bool, true, false, cond}
 use mathlib.Core.List.{List, [], _∷_, _++_}
-use Prim.Native.Nat.{ℕ, zero, suc, _+_, _/_, _%_, _≤_, _<_, zero-le}
+use Prim.Native.Nat.{ℕ, zero, suc, _+_, _/_, _%_, _≤_, _<_}
 use native.Mathlib.Omega.{arith}
 use lib.ListN.{length, drop, length-append}
 use lib.Seq.{take-append-seam}
@@ -20,7 +20,7 @@ use Rattle.packing.proofs.RoundTrip.{packed-reads}
 use Rattle.numbers.specs.Numbers.{isNumber, digitsUpTo, digitsOf, twoDigits}
 use Rattle.numbers.specs.declared.FunctionalNumber.{FunctionalNumber}
 use Rattle.numbers.specs.declared.Msisdn.{Msisdn}
-use Rattle.strings.specs.Text.{textOf, noticeFields}
+use Rattle.strings.specs.Text.{textOf, noticeFields, codingScheme}
 use Rattle.tables.specs.declared.Found.{Found}
 use Rattle.tables.specs.declared.Found.the-variants.{At, Nothing}
 use Rattle.records.specs.declared.Notice.{Notice}
@@ -31,7 +31,7 @@ use Rattle.rows.proofs.Rows.{record-sound}
 use Rattle.rows.proofs.Kept.{pending-words}
 use Rattle.tables.specs.Tables.{tableSound, rowOf, recordOf}
 use Rattle.tables.proofs.Stored.{record-found}
-use Rattle.rules.specs.Answers.{Answer, refusal, error, outcome, holderIs, sentTo, delivered, dropped, again, found, noneDue, Outcome, made, holderText, packedOver, octetCount, refusing}
+use Rattle.rules.specs.Answers.{refusal, outcome, delivered, dropped, again, isSent, Outcome, made, mostReplyOctets, holderText, packedOver, octetCount, refusing}
 use Rattle.rules.specs.Requests as requests
 use Rattle.rules.specs.Crews as crews
 use Rattle.rules.specs.Crews.{crewNumber, Walk, crewReply}
@@ -40,21 +40,13 @@ use Rattle.rules.specs.Notices as notices
 use Rattle.rules.proofs.Visits.{found-sound, found-number}
 use Rattle.rules.proofs.Tallied.{Tallied, reply-short, reply-taken}
 use Rattle.rules.proofs.Each.{request-each}
+use Rattle.rules.proofs.Short.{digits-short}
 use Rattle.walks.proofs.Replies.{crew-small}
 use Rattle.rules.proofs.Taken.{takes-two}
 use Rattle.lines.specs.Program.{lentBuffer, asked}
-use Rattle.replies.specs.Replies.{Text, mostReplyOctets, mostNoticeOctets, Printable}
+use Rattle.replies.specs.Replies.{Text, mostNoticeOctets, Printable}
 
 -- ---- digits, of any word
-
-pub digits-short : (room w : ℕ) → length (digitsUpTo room w) ≤ room
-unfolding digitsUpTo
-digits-short zero w = zero-le
-digits-short (suc room) w = go (ltb w 10) (digits-short room (w / 10))
-  where
-    go : (b : Bool) → length (digitsUpTo room (w / 10)) ≤ room → length (cond b [] (digitsUpTo room (w / 10) ++ ((48 + w % 10) ∷ []))) ≤ suc room
-    go true h = zero-le
-    go false h = omega (arith, length-append (digitsUpTo room (w / 10)) ((48 + w % 10) ∷ []))
 
 takes-digits : (room w : ℕ) → takes (digitsUpTo room w) ≡ true
 unfolding digitsUpTo
@@ -91,18 +83,6 @@ crew-stands o w reply tallied =
     text-stands mostReplyOctets (crewReply (crewNumber o) w) reply (reply-taken (crewNumber o) (crew-small o) w tallied)
     (omega (arith, reply-short (crewNumber o) w tallied))
 
-abbrev pub isSent : Answer → Bool
-isSent (refusal n) = false
-isSent (error n) = false
-isSent (outcome n count) = false
-isSent (holderIs msisdn count) = false
-isSent (sentTo addressee count) = true
-isSent delivered = false
-isSent dropped = false
-isSent again = false
-isSent (found n) = false
-isSent noneDue = false
-
 -- what an outcome says can be printed, and it is not a notice sent
 abbrev pub Replies : Outcome → Type 0
 Replies o = Printable (o .answer) (o .buffer) × (isSent (o .answer) ≡ false)
@@ -119,8 +99,8 @@ pub asked-replies : (m : Msisdn) (string table list : List ℕ) → Replies (ask
 unfolding asked
 asked-replies m string table list = go (takes string)
   where
-    go : (b : Bool) → Replies (cond b (crews.requesting table list lentBuffer m requests.codingScheme (packed string)) (made (refusal 9) table lentBuffer))
-    go true = request-replies table list lentBuffer m requests.codingScheme (packed string)
+    go : (b : Bool) → Replies (cond b (crews.requesting table list lentBuffer m codingScheme (packed string)) (made (refusal 9) table lentBuffer))
+    go true = request-replies table list lentBuffer m codingScheme (packed string)
     go false = (tt, refl)
 
 -- ---- a result

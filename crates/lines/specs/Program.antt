@@ -10,10 +10,10 @@ use Rattle.answers.specs.Ascii.{ascii}
 use Rattle.packing.specs.Packing.{takes, packed}
 use Rattle.numbers.specs.declared.FunctionalNumber.{FunctionalNumber}
 use Rattle.numbers.specs.declared.Msisdn.{Msisdn}
+use Rattle.strings.specs.Text.{codingScheme}
 use Rattle.rows.specs.Rows.{rowWords}
 use Rattle.tables.specs.Tables.{mostNumbers, subscriberWords, mostSubscribers}
 use Rattle.rules.specs.Answers.{refusal, Outcome, made, bufferRoom}
-use Rattle.rules.specs.Requests as requests
 use Rattle.rules.specs.Crews as crews
 use Rattle.rules.specs.Notices as notices
 use Rattle.replies.specs.Replies.{behindLetter}
@@ -86,7 +86,7 @@ lentBuffer = replicate bufferRoom 0
 -- "the program packs it", and "one the packer refuses" is refused 9, whoever the requester is
 unfoldable pub asked : Msisdn → List ℕ → List ℕ → List ℕ → Outcome
 asked m string table list =
-    cond (takes string) (crews.requesting table list lentBuffer m requests.codingScheme (packed string)) (made (refusal 9) table lentBuffer)
+    cond (takes string) (crews.requesting table list lentBuffer m codingScheme (packed string)) (made (refusal 9) table lentBuffer)
 
 -- "`R` requester string (unpacked …) prints `R` and the reply text"
 unfoldable pub requested : Msisdn → List ℕ → Program → Effect

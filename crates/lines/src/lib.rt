@@ -2,10 +2,10 @@
 use answers::Written;
 use forms::Line;
 use node::BUFFER_ROOM;
-use node::CODING_SCHEME;
 use numbers::FunctionalNumber;
 use numbers::Msisdn;
 use rows::ROW_WORDS;
+use strings::CODING_SCHEME;
 use tables::MOST_NUMBERS;
 use tables::MOST_SUBSCRIBERS;
 use tables::SUBSCRIBER_WORDS;

@@ -10,11 +10,11 @@ use Rattle.answers.specs.Checks.{anyHolds}
 use Rattle.numbers.specs.Numbers.{isNumber}
 use Rattle.numbers.specs.declared.FunctionalNumber.{FunctionalNumber}
 use Rattle.numbers.specs.declared.Msisdn.{Msisdn}
-use Rattle.strings.specs.Text.{Request}
+use Rattle.strings.specs.Text.{Request, codingScheme}
 use Rattle.strings.specs.Outcomes.{requestOf}
 use Rattle.tables.specs.Tables.{tableSound, listSound}
 use Rattle.rules.specs.Answers.{refusal, error, made, bufferRoom, Outcome}
-use Rattle.rules.specs.Requests.{codingScheme, mostStringOctets, refusalChecks}
+use Rattle.rules.specs.Requests.{mostStringOctets, refusalChecks}
 use Rattle.rules.specs.Crews.{requesting}
 use Rattle.rules.specs.Notices.{sendingNotice, takingResult, finding, firstDue}
 use Rattle.rules.specs.Visits.{storing, leaving, sentStep, visitSending, missedSending}

@@ -2,6 +2,7 @@
 use crews::Crew;
 use numbers::FunctionalNumber;
 use numbers::Msisdn;
+use strings::CODING_SCHEME;
 use strings::Erasing;
 use strings::Fields;
 use strings::Reading;
@@ -32,9 +33,6 @@ pub const BUFFER_ROOM: usize = 80;
 
 // A request's string has at most so many octets.
 const MOST_STRING_OCTETS: usize = 160;
-
-// The data coding scheme of a request's string.
-pub const CODING_SCHEME: u8 = 0x0F;
 
 // A forced erasure without the supervisor's flag.
 fn is_forbidden(erasing: Erasing, flags: u64) -> bool
@@ -99,8 +97,8 @@ fn ask(
     }
 }
 
-// A request: the checks with a refusal or an error, in document 01's order, and what its string asks for.
-pub fn request(
+// A request over a sound table and list, with room for the reply: the checks with an error, in document 01's order, and what its string asks for.
+pub fn ask_string(
     table: &mut [u64],
     list: &[u64],
     reply: &mut [u8],
@@ -108,17 +106,9 @@ pub fn request(
     scheme: u8,
     string: &[u8],
 ) -> RequestAnswer
+    requires { ⌜ (tableSound (now table) ≡ true) × (listSound (now list) ≡ true) × (bufferRoom ≤ length (now reply)) ⌝ }
     ensures { λ r. ⌜ made (saidRequest r) (now (table .exit)) (now (reply .exit)) ≡ crews.requesting (now (table .entry)) (now (list .entry)) (now (reply .entry)) requester scheme (now (string .entry)) ⌝ }
 {
-    if reply.len() < BUFFER_ROOM {
-        return RequestAnswer::Refused(1);
-    }
-    if !tables::list_sound(list) {
-        return RequestAnswer::Refused(8);
-    }
-    if !tables::table_sound(table) {
-        return RequestAnswer::Refused(2);
-    }
     if !numbers::is_number(requester.0) {
         return RequestAnswer::Error(35);
     }
@@ -140,6 +130,29 @@ pub fn request(
     let start = fields.start;
     let end = start + fields.count;
     ask(table, list, reply, requester, fields, &text[start..end])
+}
+
+// A request: the checks with a refusal, and then those of its string.
+pub fn request(
+    table: &mut [u64],
+    list: &[u64],
+    reply: &mut [u8],
+    requester: Msisdn,
+    scheme: u8,
+    string: &[u8],
+) -> RequestAnswer
+    ensures { λ r. ⌜ made (saidRequest r) (now (table .exit)) (now (reply .exit)) ≡ crews.requesting (now (table .entry)) (now (list .entry)) (now (reply .entry)) requester scheme (now (string .entry)) ⌝ }
+{
+    if reply.len() < BUFFER_ROOM {
+        return RequestAnswer::Refused(1);
+    }
+    if !tables::list_sound(list) {
+        return RequestAnswer::Refused(8);
+    }
+    if !tables::table_sound(table) {
+        return RequestAnswer::Refused(2);
+    }
+    ask_string(table, list, reply, requester, scheme, string)
 }
 
 // A sending names a number.

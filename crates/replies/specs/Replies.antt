@@ -7,7 +7,7 @@ use lib.ListN.{length, take}
 use Rattle.answers.specs.Ascii.{ascii}
 use Rattle.packing.specs.Packing.{readable, unpacked}
 use Rattle.numbers.specs.Numbers.{isNumber, digitsOf, numeral}
-use Rattle.rules.specs.Answers.{Answer, refusal, error, outcome, holderIs, sentTo, delivered, dropped, again, found, noneDue}
+use Rattle.rules.specs.Answers.{Answer, mostReplyOctets, refusal, error, outcome, holderIs, returnError, reject, sentTo, delivered, dropped, again, found, noneDue}
 
 -- the characters that the first octets of a buffer are
 abbrev pub textIn : ℕ → List ℕ → List ℕ
@@ -19,6 +19,8 @@ behindLetter (refusal n) buffer = ascii "refused " ++ numeral n
 behindLetter (error n) buffer = ascii "error " ++ numeral n
 behindLetter (outcome n count) buffer = textIn count buffer
 behindLetter (holderIs msisdn count) buffer = textIn count buffer
+behindLetter (returnError n count) buffer = []
+behindLetter (reject n count) buffer = []
 behindLetter (sentTo addressee count) buffer = digitsOf addressee ++ (ascii " " ++ textIn count buffer)
 behindLetter delivered buffer = ascii "delivered"
 behindLetter dropped buffer = ascii "dropped"
@@ -36,10 +38,7 @@ pub record Text (most count : ℕ) (buffer : List ℕ) : Type 0 where
   pub short : count ≤ most
   pub reads : readable (take count buffer) ≡ true
 
--- `11 10 `, ten codes and ` 0`; `##214*`, 15 digits, `*88*`, 15 digits and `*#`: 28 and 42 characters
-abbrev pub mostReplyOctets : ℕ
-mostReplyOctets = 25
-
+-- `##214*`, 15 digits, `*88*`, 15 digits and `*#`: 42 characters
 abbrev pub mostNoticeOctets : ℕ
 mostNoticeOctets = 37
 
@@ -49,6 +48,8 @@ Printable (refusal n) buffer = Unit {0}
 Printable (error n) buffer = Unit {0}
 Printable (outcome n count) buffer = Text mostReplyOctets count buffer
 Printable (holderIs msisdn count) buffer = Text mostReplyOctets count buffer
+Printable (returnError n count) buffer = Unit {0}
+Printable (reject n count) buffer = Unit {0}
 Printable (sentTo addressee count) buffer = (isNumber addressee ≡ true) × Text mostNoticeOctets count buffer
 Printable delivered buffer = Unit {0}
 Printable dropped buffer = Unit {0}

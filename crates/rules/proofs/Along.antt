@@ -7,6 +7,7 @@ use Prim.Native.Nat.{ℕ}
 use lib.ListN.{length}
 use lib.Dec.{eqb, ltb, leb}
 use borrow.Author.Tests.{eqb-true, eq-eqb, ne-eqb, not-true, not-false}
+use Rattle.answers.specs.Checks.{_>>=_}
 use Rattle.answers.proofs.Decide.{answering, decide-each, decide-by}
 use Rattle.answers.proofs.Tests.{no-path, and-left, and-right}
 use Rattle.numbers.specs.declared.FunctionalNumber.{FunctionalNumber}
@@ -29,11 +30,14 @@ use Rattle.records.specs.Steps.{nobody, isNobody, same, heldBy, forcedOff, isAb
 use Rattle.tables.specs.Tables.{tableSound, recordOf, flagsOf}
 use Rattle.rules.specs.Answers.{Answer, refusal, delivered, dropped, again, bufferRoom, isOutcome}
 use Rattle.rules.specs.Requests.{hasFollowMe, isSupervisor, isForced, afterErasure, rightChecks}
+use Rattle.rules.specs.Frames.{Inside, insideOf, ownReply}
 use Rattle.rules.specs.Run.{end, log}
-use Rattle.rules.specs.Calls.{Call, request, sending, result, Reply, clockReading, nameOf, namesOne}
-use Rattle.rules.specs.Visits.{Visited, visited, visitSaying, stepped, holderAnswered, decides, decided, sentStep, resultStep, visitRequest, visit, replySaying, missedRequest, missed}
+use Rattle.rules.specs.Calls.{Call, request, framed, sending, result, Reply, readOf, clockReading, nameOf, namesOne}
+use Rattle.rules.specs.Visits.{Visited, visited, visitSaying, stepped, holderAnswered, decides, decided, sentStep, resultStep, visitRequest, visitInside, visit, replySaying, missedRequest, missedInside, missed}
 use Rattle.rules.specs.Pending.{never}
+use Rattle.rules.specs.Users.{askerOf, isRequest}
 use Rattle.rules.proofs.Once.{single}
+use Rattle.rules.proofs.Inside.{outcome-kept}
 use Rattle.rules.proofs.Unsound.{unsound-single}
 use Rattle.rules.proofs.Visits.{recordChecks, sentChecks}
 use Rattle.rules.proofs.Sound.{single-own, single-absent, single-other}
@@ -41,24 +45,26 @@ use Rattle.rules.proofs.Local.{named-some}
 
 -- ---- what a visit may do to the record r
 
--- a request
-pub data Asked (list : List ℕ) (r : Record) (requester : Msisdn) (scheme : ℕ) (string reply : List ℕ) : Visited → Type 0 where
+-- a request, bare or in its frame, by what its string reads as: whether it was answered 01, and 02, and the record that it leaves
+pub data Asked (list : List ℕ) (r : Record) (requester : Msisdn) (read : Option Request) : Bool → Bool → Record → Type 0 where
   -- answered with anything but 01 and 02
-  negative : {buffer : List ℕ} {a : Answer} → isOutcome 1 a ≡ false → isOutcome 2 a ≡ false → Asked list r requester scheme string reply (visited a buffer r)
-  registration : {f : Request} → requestOf string ≡ some f → f .operation ≡ Register
-      → (not (isNobody (r .holder)) && not (same (r .holder) requester)) ≡ false
-      → Asked list r requester scheme string reply (visitSaying 1 reply (heldBy requester r))
-  erasure : {f : Request} → requestOf string ≡ some f → f .operation ≡ Erase → f .erasing ≡ Empty → same (r .holder) requester ≡ true
-      → Asked list r requester scheme string reply (visitSaying 2 reply (heldBy nobody r))
+  negative : Asked list r requester read false false r
+  registration : {f : Request} → read ≡ some f → f .operation ≡ Register → (not (isNobody (r .holder)) && not (same (r .holder) requester)) ≡ false
+      → Asked list r requester read true false (heldBy requester r)
+  erasure : {f : Request} → read ≡ some f → f .operation ≡ Erase → f .erasing ≡ Empty → same (r .holder) requester ≡ true
+      → Asked list r requester read false true (heldBy nobody r)
   -- a forced erasure by the holder herself
-  own : {f : Request} {named : Msisdn} → requestOf string ≡ some f → f .operation ≡ Erase → f .erasing ≡ Forced named
-      → same (r .holder) named ≡ true → same (r .holder) requester ≡ true
-      → Asked list r requester scheme string reply (visitSaying 2 reply (heldBy nobody r))
+  own : {f : Request} {named : Msisdn} → read ≡ some f → f .operation ≡ Erase → f .erasing ≡ Forced named
+      → same (r .holder) named ≡ true → same (r .holder) requester ≡ true → Asked list r requester read false true (heldBy nobody r)
   -- a forced erasure by another
-  forced : {f : Request} {named : Msisdn} → requestOf string ≡ some f → f .operation ≡ Erase → f .erasing ≡ Forced named
+  forced : {f : Request} {named : Msisdn} → read ≡ some f → f .operation ≡ Erase → f .erasing ≡ Forced named
       → same (r .holder) named ≡ true → isAbsent (r .notice) ≡ true
       → hasFollowMe (flagsOf list (requester .0)) ≡ true → isSupervisor (flagsOf list (requester .0)) ≡ true
-      → Asked list r requester scheme string reply (visitSaying 2 reply (forcedOff requester r))
+      → Asked list r requester read false true (forcedOff requester r)
+
+-- of a visit
+abbrev pub AskedIn : List ℕ → Record → Msisdn → Option Request → Visited → Type 0
+AskedIn list r requester read v = Asked list r requester read (isOutcome 1 (v .reply .answer)) (isOutcome 2 (v .reply .answer)) (v .next)
 
 -- what a result returns where it clears the notice
 pub data Clears : Answer → Type 0 where
@@ -67,8 +73,7 @@ pub data Clears : Answer → Type 0 where
 
 -- a call
 pub data Does (list : List ℕ) (r : Record) : Call → Visited → Type 0 where
-  asks : {requester : Msisdn} {scheme : ℕ} {string reply : List ℕ} {v : Visited} → Asked list r requester scheme string reply v
-      → Does list r (request requester scheme string reply) v
+  asks : {c : Call} {v : Visited} → isRequest c ≡ true → AskedIn list r (askerOf c) (readOf c) v → Does list r c v
   unsent : {now : ℕ} {number : FunctionalNumber} {buffer : List ℕ} {n : ℕ} → Does list r (sending now number buffer) (visited (refusal n) buffer r)
   sends : {now : ℕ} {number : FunctionalNumber} {buffer : List ℕ} → isWaiting (r .notice) ≡ true
       → Does list r (sending now number buffer) (sentStep number buffer r (launches.Launched (withNotice (launched (r .notice)) r)))
@@ -78,17 +83,17 @@ pub data Does (list : List ℕ) (r : Record) : Call → Visited → Type 0 where
   goes-on : {now kind : ℕ} {number : FunctionalNumber} → leb mostSendings (sendingsDone (r .notice)) ≡ false
       → Does list r (result now number kind) (visited again [] (withNotice (Waiting (sendingsDone (r .notice)) (clockReading now)) r))
 
-module _ (list : List ℕ) (r : Record) (requester : Msisdn) (scheme : ℕ) (string reply : List ℕ) where
+module _ (list : List ℕ) (r : Record) (requester : Msisdn) (reply : List ℕ) where
   abbrev flags : ℕ
   flags = flagsOf list (requester .0)
 
-  abbrev Requested : Visited → Type 0
-  Requested = Asked list r requester scheme string reply
+  module _ (f : Request) (right : hasFollowMe flags ≡ true) where
+    abbrev Requested : Visited → Type 0
+    Requested = AskedIn list r requester (some f)
 
-  abbrev Stepped : ℕ → Step → Type 0
-  Stepped n s = Requested (stepped n reply r s)
+    abbrev Stepped : ℕ → Step → Type 0
+    Stepped n s = Requested (stepped n reply r s)
 
-  module _ (f : Request) (reads : requestOf string ≡ some f) (right : hasFollowMe flags ≡ true) where
     abbrev steps-by : Operation → Erasing → List (Bool × Step)
     steps-by o e = map (answering step.Stays) (recordChecks o e (f .number) requester r)
 
@@ -96,35 +101,43 @@ module _ (list : List ℕ) (r : Record) (requester : Msisdn) (scheme : ℕ) (str
         → Requested (decides o e (f .number) requester reply r)
     unfolding steps.registered steps.erased steps.forced steps.interrogated
     by-operation Register e p q w =
-        decide-by (Stepped 1) (steps-by Register e) (step.Becomes (heldBy requester r)) (negative refl refl, (negative refl refl, tt))
-        (λ a. registration reads p (a .1 .0))
+        decide-by (Stepped 1) (steps-by Register e) (step.Becomes (heldBy requester r)) (negative, (negative, tt))
+        (λ a. registration refl p (a .1 .0))
     by-operation Erase Empty p q w =
-        decide-by (Stepped 2) (steps-by Erase Empty) (step.Becomes (heldBy nobody r)) (negative refl refl, (negative refl refl, tt))
-        (λ a. erasure reads p q (not-false _ (a .1 .0)))
+        decide-by (Stepped 2) (steps-by Erase Empty) (step.Becomes (heldBy nobody r)) (negative, (negative, tt))
+        (λ a. erasure refl p q (not-false _ (a .1 .0)))
     by-operation Erase (Forced named) p q w =
         decide-by (Stepped 2) (steps-by Erase (Forced named)) (step.Becomes (afterErasure requester (Forced named) r))
-        (negative refl refl, (negative refl refl, (negative refl refl, tt)))
-        (λ a. by-holder (same (r .holder) requester) refl (not-false _ (a .1 .0)) (a .1 .1 .0))
+        (negative, (negative, (negative, tt))) (λ a. by-holder (same (r .holder) requester) refl (not-false _ (a .1 .0)) (a .1 .1 .0))
       where
         by-holder : (b : Bool) → same (r .holder) requester ≡ b → same (r .holder) named ≡ true → (not b && not (isAbsent (r .notice))) ≡ false
             → Requested (visitSaying 2 reply (cond b (heldBy nobody r) (forcedOff requester r)))
-        by-holder true m h a = own reads p q h m
-        by-holder false m h a = forced reads p q h (not-false _ a) right (not-false _ w)
+        by-holder true m h a = own refl p q h m
+        by-holder false m h a = forced refl p q h (not-false _ a) right (not-false _ w)
     by-operation Interrogate e p q w =
         decide-by (λ h. Requested (holderAnswered reply r h)) (map (answering holds.Stays) (recordChecks Interrogate e (f .number) requester r)) (holds.Held (r .holder))
-        (negative refl refl, tt) (λ a. negative refl refl)
+        (negative, tt) (λ a. negative)
 
-  by-reading : (o : Option Request) → requestOf string ≡ o → Requested (visitRequest flags requester reply o r)
+  by-reading : (read : Option Request) → AskedIn list r requester read (visitRequest flags requester reply read r)
   unfolding decided
-  by-reading none reads = negative refl refl
-  by-reading (some f) reads =
-      decide-by Requested (map (answering (λ n. visitSaying n reply r)) (rightChecks flags (f .erasing))) (decided f requester reply r)
-      (negative refl refl, (negative refl refl, tt)) (λ a. by-operation f reads (not-false _ (a .0)) (f .operation) (f .erasing) refl refl (a .1 .0))
+  by-reading none = negative
+  by-reading (some f) =
+      decide-by (AskedIn list r requester (some f)) (map (answering (λ n. visitSaying n reply r)) (rightChecks flags (f .erasing))) (decided f requester reply r)
+      (negative, (negative, tt)) (λ a. by-operation f (not-false _ (a .0)) (f .operation) (f .erasing) refl refl (a .1 .0))
+
+-- in its frame too
+by-inside : (list : List ℕ) (r : Record) (requester : Msisdn) (frame : List ℕ) (inside : Option Inside)
+    → AskedIn list r requester (inside >>= λ i. requestOf (i .string)) (visitInside (flagsOf list (requester .0)) requester frame inside r)
+by-inside list r requester frame none = negative
+by-inside list r requester frame (some i) =
+    let v = visitRequest (flagsOf list (requester .0)) requester ownReply (requestOf (i .string)) r in
+    rw (outcome-kept i frame (v .reply) 1, outcome-kept i frame (v .reply) 2) (by-reading list r requester ownReply (requestOf (i .string)))
 
 -- a visit does one of these
 pub does : (list : List ℕ) (delay : ℕ) (c : Call) (r : Record) → Does list r c (visit list delay c r)
 unfolding steps.sent steps.resulted
-does list delay (request requester scheme string reply) r = asks (by-reading list r requester scheme string reply (requestOf string) refl)
+does list delay (request requester scheme string reply) r = asks refl (by-reading list r requester reply (requestOf string))
+does list delay (framed requester message frame) r = asks refl (by-inside list r requester frame (insideOf message))
 does list delay (sending now number buffer) r =
     decide-by (Does list r (sending now number buffer)) ((ltb (length buffer) bufferRoom, visited (refusal 1) buffer r) ∷ [])
     (sentStep number buffer r (steps.sent delay (clockReading now) r)) (unsent, tt)
@@ -189,14 +202,20 @@ module _ (list : List ℕ) (delay k : ℕ) where
 abbrev Negative : Reply → Type 0
 Negative a = isOutcome 2 (a .answer) ≡ false
 
+missed-request-negative : (flags : ℕ) (reply : List ℕ) (read : Option Request) → Negative (missedRequest flags reply read)
+missed-request-negative flags reply none = refl
+missed-request-negative flags reply (some f) =
+    decide-each Negative (map (answering (λ n. replySaying n reply)) (rightChecks flags (f .erasing))) (replySaying 41 reply) (refl, (refl, tt)) refl
+
 missed-negative : (list : List ℕ) (c : Call) → Negative (missed list c)
-missed-negative list (request requester scheme string reply) = by-reading (requestOf string)
+missed-negative list (request requester scheme string reply) = missed-request-negative (flagsOf list (requester .0)) reply (requestOf string)
+missed-negative list (framed requester message frame) = go (insideOf message)
   where
-    by-reading : (o : Option Request) → Negative (missedRequest (flagsOf list (requester .0)) reply o)
-    by-reading none = refl
-    by-reading (some f) =
-        decide-each Negative (map (answering (λ n. replySaying n reply)) (rightChecks (flagsOf list (requester .0)) (f .erasing))) (replySaying 41 reply)
-        (refl, (refl, tt)) refl
+    go : (inside : Option Inside) → Negative (missedInside (flagsOf list (requester .0)) frame inside)
+    go none = refl
+    go (some i) =
+        let r = missedRequest (flagsOf list (requester .0)) ownReply (requestOf (i .string)) in
+        outcome-kept i frame r 2 ∙ missed-request-negative (flagsOf list (requester .0)) ownReply (requestOf (i .string))
 missed-negative list (sending now number buffer) =
     decide-each Negative ((ltb (length buffer) bufferRoom, record { answer = refusal 1; buffer = buffer }) ∷ []) (record { answer = refusal 7; buffer = buffer })
     (refl, tt) refl

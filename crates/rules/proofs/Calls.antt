@@ -11,9 +11,10 @@ use Rattle.records.specs.declared.Record.{Record}
 use Rattle.tables.specs.Tables.{tableSound, recordOf}
 use Rattle.rules.specs.Crews.{crewCodes, crewNumber, Walk, crewOutcome}
 use Rattle.rules.specs.Run.{end, log, Local}
-use Rattle.rules.specs.Calls.{Call, request, replied, call, nameOf, isNamed, namesOne, codesOf, allNamed, names, stepsOf, steps}
+use Rattle.rules.specs.Calls.{Call, request, Reply, replied, call, nameOf, isNamed, namesOne, codesRead, codesOf, allNamed, names, stepsOf, steps}
 use Rattle.rules.specs.Singles.{succeeds, codesWhere}
 use Rattle.rules.proofs.Once.{single}
+use Rattle.rules.proofs.Inside.{Wraps}
 use Rattle.rules.proofs.Unsound.{unsound-call, unsound-end}
 use Rattle.rules.proofs.Rearrange.{end-inv}
 use Rattle.rules.proofs.Runs.{anyNames, runs-other, runs-log, runs-own}
@@ -42,6 +43,10 @@ names-own list c k e = ap (λ codes. isIn k (allNamed (nameOf list c) codes)) e 
     go : (n : Option ℕ) → isIn k (allNamed n none) ≡ isNamed n k
     go none = refl
     go (some j) = no-other (eqb j k)
+
+-- in its frame it names what it names without
+names-same : {list : List ℕ} {delay : ℕ} {turn : Reply → Reply} {c d : Call} → Wraps list delay turn c d → (k : ℕ) → names list c k ≡ names list d k
+names-same w k = λ i. isIn k (allNamed (w .name i) (codesRead (w .read i)))
 
 -- ---- a crew that goes
 
@@ -115,14 +120,14 @@ module _ (list : List ℕ) (delay : ℕ) where
   keep : {c : Call} → View list delay c → (t : List ℕ) → Sound t → Sound (call list delay c t .1)
   keep (own c e s) t sound = rw (call-single list delay c t e) (locally .keep c t sound)
   keep (stops c r f s) t sound = rw (f t sound) sound
-  keep (goes {requester = requester} {scheme = scheme} {string = string} {reply = reply} g s) t sound =
-      goes-keeps list delay requester scheme string reply g t sound
+  keep (goes {requester = requester} {scheme = scheme} {string = string} {reply = reply} g w s) t sound =
+      rw (w .calls t sound) (goes-keeps list delay requester scheme string reply g t sound)
 
   other : {c : Call} → View list delay c → (t : List ℕ) (k : ℕ) → Sound t → names list c k ≡ false → look k (call list delay c t .1) ≡ look k t
   other (own c e s) t k sound m = rw (call-single list delay c t e) (locally .other c t k sound (sym (names-own list c k e) ∙ m))
   other (stops c r f s) t k sound m = rw (f t sound) refl
-  other (goes {requester = requester} {scheme = scheme} {string = string} {reply = reply} g s) t k sound m =
-      goes-other list delay requester scheme string reply g t k sound m
+  other (goes {requester = requester} {scheme = scheme} {string = string} {reply = reply} g w s) t k sound m =
+      rw (w .calls t sound) (goes-other list delay requester scheme string reply g t k sound (sym (names-same w k) ∙ m))
 
   answer : {c : Call} → View list delay c → (t u : List ℕ) → Sound t → Sound u → ((k : ℕ) → names list c k ≡ true → look k t ≡ look k u)
       → call list delay c t .0 ≡ call list delay c u .0
@@ -131,8 +136,10 @@ module _ (list : List ℕ) (delay : ℕ) where
       ∙ locally .answer c t u st su (λ k m. same k (names-own list c k e ∙ m))
       ∙ sym (ap (λ r. r .0) (call-single list delay c u e))
   answer (stops c r f s) t u st su same = ap (λ x. x .0) (f t st) ∙ sym (ap (λ x. x .0) (f u su))
-  answer (goes {requester = requester} {scheme = scheme} {string = string} {reply = reply} g s) t u st su same =
-      goes-answer list delay requester scheme string reply g t u st su same
+  answer (goes {turn = turn} {requester = requester} {scheme = scheme} {string = string} {reply = reply} g w s) t u st su same =
+      ap (λ r. r .0) (w .calls t st)
+      ∙ ap turn (goes-answer list delay requester scheme string reply g t u st su (λ k m. same k (names-same w k ∙ m)))
+      ∙ sym (ap (λ r. r .0) (w .calls u su))
 
   mine : {c : Call} → View list delay c → (t u : List ℕ) (k : ℕ) → Sound t → Sound u → ((j : ℕ) → names list c j ≡ true → look j t ≡ look j u)
       → names list c k ≡ true → look k (call list delay c t .1) ≡ look k (call list delay c u .1)
@@ -141,8 +148,10 @@ module _ (list : List ℕ) (delay : ℕ) where
       ∙ locally .own c t u k st su (λ j q. same j (names-own list c j e ∙ q)) (sym (names-own list c k e) ∙ m)
       ∙ sym (ap (λ r. look k (r .1)) (call-single list delay c u e))
   mine (stops c r f s) t u k st su same m = ap (λ x. look k (x .1)) (f t st) ∙ same k m ∙ sym (ap (λ x. look k (x .1)) (f u su))
-  mine (goes {requester = requester} {scheme = scheme} {string = string} {reply = reply} g s) t u k st su same m =
-      goes-own list delay requester scheme string reply g t u st su same k m
+  mine (goes {requester = requester} {scheme = scheme} {string = string} {reply = reply} g w s) t u k st su same m =
+      ap (λ r. look k (r .1)) (w .calls t st)
+      ∙ goes-own list delay requester scheme string reply g t u st su (λ j q. same j (names-same w j ∙ q)) k (sym (names-same w k) ∙ m)
+      ∙ sym (ap (λ r. look k (r .1)) (w .calls u su))
 
   pub calls-local : Local (call list delay) (names list) look Sound
   calls-local = record {
@@ -158,7 +167,7 @@ module _ (list : List ℕ) (delay : ℕ) where
   steps-single : {c : Call} → View list delay c → AllSingle (stepsOf list c)
   steps-single (own c e s) = rw s (e, tt)
   steps-single (stops c r f s) = rw s tt
-  steps-single (goes {requester = requester} {scheme = scheme} {string = string} {reply = reply} g s) =
+  steps-single (goes {requester = requester} {scheme = scheme} {string = string} {reply = reply} g w s) =
       rw s (singly-single list delay requester scheme string reply g (λ code. reply) (λ code. goes-room list requester scheme string reply g))
 
   both-single : (cs ds : List Call) → AllSingle cs → AllSingle ds → AllSingle (cs ++ ds)
@@ -173,8 +182,9 @@ module _ (list : List ℕ) (delay : ℕ) where
   step-table : {c : Call} → View list delay c → (t : List ℕ) → Sound t → call list delay c t .1 ≡ end (call list delay) (stepsOf list c) t
   step-table (own c e s) t sound = rw s refl
   step-table (stops c r f s) t sound = rw (f t sound, s) refl
-  step-table (goes {requester = requester} {scheme = scheme} {string = string} {reply = reply} g s) t sound =
-      goes-table list delay requester scheme string reply g t sound
+  step-table (goes {requester = requester} {scheme = scheme} {string = string} {reply = reply} g w s) t sound =
+      ap (λ r. r .1) (w .calls t sound)
+      ∙ goes-table list delay requester scheme string reply g t sound
       ∙ sym (singles-end list delay (singly list delay requester scheme string reply g (λ code. reply) (λ code. goes-room list requester scheme string reply g)) t
       (singly-single list delay requester scheme string reply g (λ code. reply) (λ code. goes-room list requester scheme string reply g)))
       ∙ ap (λ cs. end (call list delay) cs t) (sym s)

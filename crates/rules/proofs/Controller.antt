@@ -4,20 +4,25 @@ use mathlib.Core.Logic.{_⊎_, ⊎-elim}
 use mathlib.Core.Bool.{Bool, true, false, cond, not, _&&_}
 use mathlib.Core.Option.{Option, none, some}
 use mathlib.Core.List.{List, [], _∷_, map}
-use Prim.Native.Nat.{ℕ}
+use Prim.Native.Nat.{ℕ, _≤_}
 use native.Mathlib.Omega.{arith}
 use lib.ListN.{length}
 use borrow.Author.Tests.{eq-eqb, ne-eqb, le-ltb}
 use Rattle.answers.proofs.Checks.{not-some}
 use Rattle.answers.proofs.Tests.{no-path, and-no}
 use Rattle.answers.proofs.Decide.{decide-each}
+use Rattle.packing.specs.Packing.{packed}
+use Rattle.numbers.specs.Numbers.{twoDigits}
 use Rattle.numbers.specs.declared.Msisdn.{Msisdn}
 use Rattle.strings.specs.declared.Operation.{Operation}
 use Rattle.strings.specs.declared.Operation.the-variants.{Register, Erase, Interrogate}
 use Rattle.strings.specs.declared.Erasing.the-variants.{Empty, Forced}
 use Rattle.crews.specs.Crews.{crewOf}
-use Rattle.strings.specs.Text.{Request}
+use Rattle.strings.specs.Text.{Request, codingScheme}
 use Rattle.strings.specs.Outcomes.{requestOf}
+use Rattle.frames.specs.Components as components
+use Rattle.frames.specs.Messages.{frameRoom, registerOf}
+use Rattle.frames.specs.Messages as messages
 use Rattle.records.specs.declared.Record.{Record}
 use Rattle.records.specs.Steps as steps
 use Rattle.records.specs.Steps.{nobody, isNobody, same, isAbsent, heldBy, forcedOff}
@@ -27,20 +32,25 @@ use Rattle.tables.specs.declared.Found.{Found}
 use Rattle.tables.specs.declared.Found.the-variants.{At, Nothing}
 use Rattle.tables.specs.Tables.{tableSound, rowOf, recordOf, flagsOf}
 use Rattle.tables.proofs.Stored.{record-found, record-missing}
-use Rattle.rules.specs.Answers.{Outcome, bufferRoom, isOutcome, refusing}
-use Rattle.rules.specs.Requests.{hasFollowMe, holderIn, codingScheme, mostStringOctets, refusalChecks, rightChecks, afterErasure}
+use Rattle.rules.specs.Answers.{outcome, Outcome, bufferRoom, isOutcome, refusing}
+use Rattle.rules.specs.Requests.{hasFollowMe, holderIn, mostStringOctets, refusalChecks, rightChecks, afterErasure}
 use Rattle.rules.specs.Requests as requests
 use Rattle.rules.specs.Crews.{crewCodes, crewNumber, Walk, walked, setOut, crewOutcome, requesting}
-use Rattle.rules.specs.Calls.{Call, request, nameOf, namesOne, call, codesOf, sending, result, codesRead}
+use Rattle.rules.specs.Frames.{ownReply}
+use Rattle.rules.specs.Calls.{Call, request, framed, Reply, nameOf, namesOne, call, codesOf, sending, result, codesRead}
 use Rattle.rules.specs.Visits.{Visited, visitSaying, replySaying, decided, visit}
 use Rattle.rules.specs.Demand.{holderOf}
+use Rattle.rules.specs.Framed.{givenBack, AsBare}
 use Rattle.rules.specs.Users.{bothFlags, WellFormed}
 use Rattle.rules.proofs.Once.{single}
+use Rattle.rules.proofs.Inside.{Opened, shut, carries, opened}
 use Rattle.rules.proofs.Single.{call-single}
 use Rattle.rules.proofs.Steps.{forced-alone}
+use Rattle.rules.proofs.Calls.{calls-keep}
+use Rattle.rules.proofs.Framed.{as-bare, framed-says}
 use Rattle.rules.proofs.Visits.{found-sound, single-visits}
 use Rattle.rules.proofs.Sound.{single-keeps, single-own}
-use Rattle.rules.proofs.Along.{negative, registration, erasure, own, forced, Does, asks, unsent, sends, untaken, clears, goes-on, delivers, drops, along, answered-02, one-same, not-same}
+use Rattle.rules.proofs.Along.{Asked, negative, registration, erasure, own, forced, Does, asks, unsent, sends, untaken, clears, goes-on, delivers, drops, along, answered-02, one-same, not-same}
 
 -- a well-formed request names the number in its string
 form-names : (list : List ℕ) (requester : Msisdn) (scheme : ℕ) (string reply : List ℕ) (f : Request) → WellFormed list requester scheme string reply f
@@ -107,7 +117,7 @@ module _ (list : List ℕ) (delay : ℕ) (table : List ℕ) (s : Msisdn) (scheme
   erased-nobody false = refl
 
   singly : call list delay asked table ≡ single list delay asked table
-  singly = call-single list delay asked table (forced-alone s scheme string reply f (form .reads) forces)
+  singly = call-single list delay asked table (forced-alone asked f (form .reads) forces)
 
   -- at phase 0, or where s is the holder: 02 in that call, and nobody holds the number
   pub frees-at-once : (isAbsent (r .notice) ≡ true) ⊎ (s ≡ r .holder)
@@ -123,13 +133,43 @@ module _ (list : List ℕ) (delay : ℕ) (table : List ℕ) (s : Msisdn) (scheme
       let stops : waits ≡ true = rw (not-same (r .holder) s (λ e. other (sym e)), pending) refl in
       singly ∙ visit-leaves list delay asked table number r _ sound (form-names list s scheme string reply f form) known (visit-waits stops) refl
 
+  -- the same in a frame: 02 and 68 come back in a Return Result
+  module _ (message frame : List ℕ) (m : messages.Register) (register : registerOf message ≡ some m) (inside : m .body ≡ components.asks scheme string)
+      (room : frameRoom ≤ length frame) where
+    abbrev framed-asked : Call
+    framed-asked = framed s message frame
+
+    abbrev says : ℕ → Reply
+    says n = givenBack m frame (outcome n) (components.result (m .number) (packed (twoDigits n)))
+
+    as-framed : AsBare list delay s message frame m scheme string reply table
+    as-framed = as-bare list delay s message frame table room m register (form .sound) sound scheme string inside reply (form .room)
+
+    framed-gets : (n : ℕ) → (call list delay asked table) .0 ≡ replySaying n reply → (call list delay framed-asked table) .0 ≡ says n
+    framed-gets = framed-says list delay s message frame table room m register (form .sound) sound scheme string inside reply (form .room)
+
+    pub frees-at-once-framed : (isAbsent (r .notice) ≡ true) ⊎ (s ≡ r .holder)
+        → ((call list delay framed-asked table) .0 ≡ says 2) × (holderOf ((call list delay framed-asked table) .1) number ≡ 0)
+    frees-at-once-framed may =
+        let (got, freed) = frees-at-once may in
+        (framed-gets 2 got, ap (λ t. holderOf t number) (as-framed .table-after) ∙ freed)
+
+    pub waits-for-the-notice-framed : isAbsent (r .notice) ≡ false → (s ≡ r .holder → ⊥) → call list delay framed-asked table ≡ (says 68, table)
+    waits-for-the-notice-framed pending other =
+        let e = waits-for-the-notice pending other in
+        λ i. (framed-gets 68 (ap (λ x. x .0) e) i, (as-framed .table-after ∙ ap (λ x. x .1) e) i)
+
 -- nobody holds the number after a 02
+asked-frees : {list : List ℕ} {r next : Record} {q : Msisdn} {read : Option Request} {one two : Bool} → Asked list r q read one two next → two ≡ true
+    → next .holder ≡ nobody
+asked-frees negative u = no-path u
+asked-frees (registration p q w) u = no-path u
+asked-frees (erasure p q w m) u = refl
+asked-frees (own p q w m o) u = refl
+asked-frees (forced p q w m x y z) u = refl
+
 erasure-frees : {list : List ℕ} {r : Record} {c : Call} {v : Visited} → Does list r c v → isOutcome 2 (v .reply .answer) ≡ true → v .next .holder ≡ nobody
-erasure-frees (asks (negative p q)) u = no-path (sym q ∙ u)
-erasure-frees (asks (registration p q w)) u = no-path u
-erasure-frees (asks (erasure p q w m)) u = refl
-erasure-frees (asks (own p q w m o)) u = refl
-erasure-frees (asks (forced p q w m x y z)) u = refl
+erasure-frees (asks i d) u = asked-frees d u
 erasure-frees unsent u = no-path u
 erasure-frees (sends w) u = no-path u
 erasure-frees untaken u = no-path u
@@ -138,9 +178,10 @@ erasure-frees (clears drops) u = no-path u
 erasure-frees (goes-on p) u = no-path u
 
 -- a crew's request is not answered 02
-crew-not-02 : (list : List ℕ) (delay : ℕ) (c : Call) (table : List ℕ) → isOutcome 2 ((call list delay c table) .0 .answer) ≡ true → codesOf c ≡ none
+bare-not-02 : (list : List ℕ) (requester : Msisdn) (scheme : ℕ) (string reply table : List ℕ)
+    → isOutcome 2 (requesting table list reply requester scheme string .answer) ≡ true → codesRead (requestOf string) ≡ none
 unfolding requesting
-crew-not-02 list delay (request requester scheme string reply) table answered = by-read (requestOf string) refl
+bare-not-02 list requester scheme string reply table answered = by-read (requestOf string) refl
   where
     by-operation : (o : Operation) (w : Walk) → isOutcome 2 (crewOutcome (crewNumber o) reply w .answer) ≡ false
     by-operation Register w = refl
@@ -164,8 +205,20 @@ crew-not-02 list delay (request requester scheme string reply) table answered = 
     by-read : (read : Option Request) → requestOf string ≡ read → codesRead read ≡ none
     by-read none r = refl
     by-read (some f) r = by-codes f r (crewOf (f .additional)) refl
-crew-not-02 list delay (sending now number buffer) table answered = refl
-crew-not-02 list delay (result now number kind) table answered = refl
+
+crew-not-02 : (list : List ℕ) (delay : ℕ) (c : Call) (table : List ℕ) → tableSound table ≡ true → isOutcome 2 ((call list delay c table) .0 .answer) ≡ true
+    → codesOf c ≡ none
+crew-not-02 list delay (request requester scheme string reply) table sound answered = bare-not-02 list requester scheme string reply table answered
+crew-not-02 list delay (framed requester message frame) table sound answered = go (opened list frame message requester delay)
+  where
+    go : Opened list frame message requester delay → codesOf (framed requester message frame) ≡ none
+    go (shut r unsaid why nameless c s) = no-path (sym (ap (λ x. isOutcome 2 (x .0 .answer)) (c table sound) ∙ rw unsaid refl) ∙ answered)
+    go (carries i inside passes w) =
+        ap codesRead (w .read)
+        ∙ bare-not-02 list requester (i .scheme) (i .string) ownReply table
+        (sym (w .outcomes (call list delay (request requester (i .scheme) (i .string) ownReply) table .0) 2) ∙ sym (ap (λ x. isOutcome 2 (x .0 .answer)) (w .calls table sound)) ∙ answered)
+crew-not-02 list delay (sending now functional buffer) table sound answered = refl
+crew-not-02 list delay (result now functional kind) table sound answered = refl
 
 -- m with flag 1 asks for a registration of a number whose digits are not hers
 module _ (list : List ℕ) (delay : ℕ) (m : Msisdn) (scheme : ℕ) (string reply : List ℕ) (f : Request) (form : WellFormed list m scheme string reply f)
@@ -184,10 +237,26 @@ module _ (list : List ℕ) (delay : ℕ) (m : Msisdn) (scheme : ℕ) (string rep
       → let after = (call list delay c table) .1 in
       ((call list delay asks-for after) .0 ≡ replySaying 1 reply) × (holderOf ((call list delay asks-for after) .1) (f .number .0) ≡ m .0)
   next-registers c table sound named answered =
-      let alone = crew-not-02 list delay c table answered in
+      let alone = crew-not-02 list delay c table sound answered in
       rw (call-single list delay c table alone)
       (let (r, v, d, known, u) = answered-02 (along list delay (f .number .0) (c ∷ []) table) named (rw (call-single list delay c table alone) at answered) in
       let got = visit-gets list delay asks-for ((single list delay c table) .1) (f .number .0) (v .next) _ (single-keeps list delay c table sound .sound)
       (form-names list m scheme string reply f form) known (visit-registers (v .next) (erasure-frees d u)) in
       let same = call-single list delay asks-for ((single list delay c table) .1) (rw (form .reads) no-crew) in
       (ap (λ x. x .0) same ∙ got .0, ap (λ x. holderOf (x .1) (f .number .0)) same ∙ got .1))
+
+  -- the same in a frame
+  pub next-registers-framed : (message frame : List ℕ) (n : messages.Register) → registerOf message ≡ some n → n .body ≡ components.asks scheme string
+      → frameRoom ≤ length frame
+      → (c : Call) (table : List ℕ) → tableSound table ≡ true → namesOne list c (f .number .0) ≡ true → isOutcome 2 ((call list delay c table) .0 .answer) ≡ true
+      → let after = (call list delay c table) .1 in
+      let got = call list delay (framed m message frame) after in
+      (got .0 ≡ givenBack n frame (outcome 1) (components.result (n .number) (packed (twoDigits 1)))) × (holderOf (got .1) (f .number .0) ≡ m .0)
+  next-registers-framed message frame n register inside room c table sound named answered =
+      let after = (call list delay c table) .1 in
+      let kept = calls-keep list delay (c ∷ []) table sound .sound in
+      let (got, holds) = next-registers c table sound named answered in (
+        framed-says list delay m message frame after room n register (form .sound) kept scheme string inside reply (form .room) 1 got,
+        ap (λ t. holderOf t (f .number .0)) (as-bare list delay m message frame after room n register (form .sound) kept scheme string inside reply (form .room) .table-after)
+            ∙ holds,
+      )

@@ -19,13 +19,13 @@ use Rattle.numbers.specs.declared.Msisdn.{Msisdn}
 use Rattle.numbers.proofs.Lengths.{length-of, is-number}
 use Rattle.crews.specs.Crews.{crewOf, countOf}
 use Rattle.strings.specs.declared.Erasing.the-variants.{Empty}
-use Rattle.strings.specs.Text.{Request, requestSound, textOf}
+use Rattle.strings.specs.Text.{Request, requestSound, textOf, codingScheme}
 use Rattle.strings.specs.Outcomes.{requestOf}
 use Rattle.strings.proofs.Text.{rules-sound, beforeAdditional, text-grows, octets-short}
 use Rattle.strings.proofs.Octets.{reads-written}
 use Rattle.tables.specs.Tables.{tableSound, listSound, flagsOf}
 use Rattle.rules.specs.Answers.{Answer, bufferRoom}
-use Rattle.rules.specs.Requests.{hasFollowMe, codingScheme, mostStringOctets, refusalChecks, Verdict, says, tells, Stepping, step, answered, replying, once, askingBy}
+use Rattle.rules.specs.Requests.{hasFollowMe, mostStringOctets, refusalChecks, Verdict, says, tells, Stepping, step, answered, replying, once, askingBy}
 use Rattle.rules.specs.Crews.{withCode, memberOf, Walk, isSuccess, walkedOn, walked}
 use Rattle.rules.specs.Run.{end, log}
 use Rattle.rules.specs.Calls.{Call, request, Reply, replied, nameOf, codesRead}

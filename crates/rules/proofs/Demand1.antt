@@ -6,11 +6,9 @@ use mathlib.Core.List.{List, [], map}
 use Prim.Native.Nat.{ℕ}
 use lib.Dec.{eqb}
 use borrow.Author.Tests.{not-true, not-false}
-use Rattle.answers.proofs.Tests.{no-path, and-left, or-neither}
+use Rattle.answers.proofs.Tests.{no-path, or-neither}
 use Rattle.answers.proofs.Decide.{decide-by, decide-each}
-use Rattle.numbers.specs.declared.FunctionalNumber.{FunctionalNumber}
 use Rattle.numbers.specs.declared.Msisdn.{Msisdn}
-use Rattle.numbers.specs.Numbers.{twoDigits}
 use Rattle.strings.specs.declared.Operation.{Operation}
 use Rattle.strings.specs.declared.Operation.the-variants.{Register, Erase, Interrogate}
 use Rattle.strings.specs.Text.{Request}
@@ -23,92 +21,23 @@ use Rattle.tables.specs.declared.Found.{Found}
 use Rattle.tables.specs.declared.Found.the-variants.{At, Nothing}
 use Rattle.tables.specs.Tables.{tableSound, rowOf, recordOf, flagsOf}
 use Rattle.tables.proofs.Stored.{record-found}
-use Rattle.rules.specs.Answers.{Answer, refusal, error, delivered, dropped, again as sendAgain, Outcome, made, outcomeClass, numbersOf, isOf, isRefusal, isError, isNegativeNumber, isNegative, interrogationNumber, crewRegistered, crewErased, packedOver, refusing}
+use Rattle.rules.specs.Answers.{Answer, delivered, dropped, again as sendAgain, Outcome, isNegativeNumber, interrogationNumber, crewRegistered, crewErased, refusing}
 use Rattle.rules.specs.Requests as requests
-use Rattle.rules.specs.Crews.{crewNumber, Walk, crewOutcome, requesting}
+use Rattle.rules.specs.Frames.{ownReply}
 use Rattle.rules.specs.Requests.{Verdict, says, tells, Stepping}
 use Rattle.rules.specs.Notices as notices
 use Rattle.rules.specs.Run.{end}
-use Rattle.rules.specs.Calls.{Call, request, sending, result, bufferOf, clockReading, call, nameOf, codesOf, stepsOf}
-use Rattle.rules.specs.Demand.{isCrewOutcome, mayChange, Demand1, registersAs, registers, requesterOf, holderOf}
+use Rattle.rules.specs.Calls.{Call, request, framed, sending, result, clockReading, call, nameOf, codesRead, codesOf, stepsOf}
+use Rattle.rules.specs.Demand.{isCrewOutcome, Demand1, registersAs, registers, requesterOf, holderOf}
 use Rattle.rules.proofs.Once.{requestingOnce, single}
+use Rattle.rules.proofs.Inside.{Opened, shut, carries, opened}
 use Rattle.rules.proofs.Visits.{found-sound, naming}
-use Rattle.rules.proofs.Each.{once-each, request-each}
+use Rattle.rules.proofs.Leaves.{leaves}
+use Rattle.rules.proofs.Each.{once-each}
 use Rattle.rules.proofs.Single.{call-single}
-use Rattle.rules.proofs.Steps.{goes-answered, View, own, stops, goes, view}
+use Rattle.rules.proofs.Steps.{goes-said, View, own, stops, goes, view}
 use Rattle.rules.proofs.Calls.{step-end}
-use Rattle.rules.proofs.Unsound.{unsound-call}
-
--- ---- what an outcome says of the memory
-
-module _ (table buffer : List ℕ) where
-  record Leaves (o : Outcome) : Type 0 where
-    refused : (isRefusal (o .answer) || isError (o .answer)) ≡ true → (o .table ≡ table) × (o .buffer ≡ buffer)
-    negative : isNegative (o .answer) ≡ true → (o .table ≡ table) × (o .buffer ≡ packedOver (twoDigits (numbersOf (o .answer) .number)) buffer)
-    others : isOf outcomeClass (o .answer) ≡ true → mayChange (o .answer) ≡ false → o .table ≡ table
-
-  -- a refusal, an error: nothing is written
-  silent : (a : Answer) → (isOf outcomeClass a ≡ false) → Leaves (record { answer = a; table = table; buffer = buffer })
-  silent a unsaid = record { refused = λ e. (refl, refl); negative = λ e. no-path (sym unsaid ∙ and-left _ _ e); others = λ e f. refl }
-
-  -- an answer that is neither a refusal nor an error nor an outcome
-  apart : (o : Outcome) → (isRefusal (o .answer) || isError (o .answer)) ≡ false → isOf outcomeClass (o .answer) ≡ false → Leaves o
-  apart o r unsaid = record {
-    refused = λ e. no-path (sym r ∙ e);
-    negative = λ e. no-path (sym unsaid ∙ and-left _ _ e);
-    others = λ e f. no-path (sym unsaid ∙ e);
-  }
-
-  -- a negative outcome: its two characters
-  denies : (n : ℕ) → Leaves (requests.saying n table buffer)
-  denies n = record { refused = λ e. no-path e; negative = λ e. (refl, refl); others = λ e f. refl }
-
-  -- 01 and 02
-  changes : (n : ℕ) (new : List ℕ) → mayChange (requests.saying n new buffer .answer) ≡ true
-      → isNegative (requests.saying n new buffer .answer) ≡ false → Leaves (requests.saying n new buffer)
-  changes n new d p = record { refused = λ e. no-path e; negative = λ e. no-path (sym p ∙ e); others = λ e f. no-path (sym f ∙ d) }
-
-  tells-holder : (msisdn : ℕ) → Leaves (requests.answered buffer (tells msisdn) table)
-  tells-holder msisdn = record { refused = λ e. no-path e; negative = λ e. no-path e; others = λ e f. refl }
-
-  -- a crew's
-  crew-changes : (o : Operation) (w : Walk) → Leaves (crewOutcome (crewNumber o) buffer w)
-  crew-changes Register w = record { refused = λ e. no-path e; negative = λ e. no-path e; others = λ e f. no-path (sym f) }
-  crew-changes Erase w = record { refused = λ e. no-path e; negative = λ e. no-path e; others = λ e f. no-path (sym f) }
-  crew-changes Interrogate w = record { refused = λ e. no-path e; negative = λ e. no-path e; others = λ e f. no-path (sym f) }
-
-  request-leaves : (list : List ℕ) (requester : Msisdn) (scheme : ℕ) (string : List ℕ) → Leaves (requesting table list buffer requester scheme string)
-  request-leaves list requester scheme string =
-      request-each table buffer Leaves (λ n. silent (refusal n) refl) (λ n. silent (error n) refl) (λ n l e. denies n) (λ new. changes 1 new refl refl)
-      (λ new. changes 2 new refl refl) tells-holder (λ o w tallied. crew-changes o w) list requester scheme string
-
-  sent-leaves : (number : FunctionalNumber) (place : Found) → Leaves (notices.sentAt number place table buffer)
-  sent-leaves number Nothing = silent _ refl
-  sent-leaves number (At i) = apart _ refl refl
-
-  sending-leaves : (number : FunctionalNumber) (delay clock : ℕ) → Leaves (notices.sendingNotice table buffer number delay clock)
-  unfolding notices.sendingNotice
-  sending-leaves number delay clock =
-      decide-by Leaves (refusing table buffer (notices.sendingChecks (tableSound table) buffer (number .0) (recordOf table (number .0)) delay clock)) _
-      (silent _ refl, (silent _ refl, (silent _ refl, (silent _ refl, (silent _ refl, (silent _ refl, tt))))))
-      (λ passed. sent-leaves number (rowOf table (number .0)))
-
-module _ (table : List ℕ) where
-  returned-apart : (zero clears : Bool) (new : List ℕ) → Leaves table [] (made (cond zero delivered (cond clears dropped sendAgain)) new [])
-  returned-apart true clears new = apart table [] _ refl refl
-  returned-apart false true new = apart table [] _ refl refl
-  returned-apart false false new = apart table [] _ refl refl
-
-  result-leaves : (number : FunctionalNumber) (kind clock : ℕ) → Leaves table [] (notices.takingResult table number kind clock)
-  unfolding notices.takingResult
-  result-leaves number kind clock =
-      decide-by (Leaves table []) (refusing table [] (notices.resultChecks (tableSound table) (number .0) (recordOf table (number .0)) kind)) _
-      (silent table [] _ refl, (silent table [] _ refl, (silent table [] _ refl, (silent table [] _ refl, tt))))
-      (λ passed. at (rowOf table (number .0)))
-    where
-      at : (place : Found) → Leaves table [] (notices.resultAt kind clock place table)
-      at Nothing = silent table [] _ refl
-      at (At i) = returned-apart (eqb kind 0) (notices.clears kind (recordAt table i .notice)) _
+use Rattle.rules.proofs.Unsound.{unsound-single, unsound-call}
 
 -- ---- a holder who registers again
 
@@ -161,22 +90,40 @@ operation-registers Register e = refl
 operation-registers Erase e = no-path e
 operation-registers Interrogate e = no-path e
 
-again : (list : List ℕ) (delay : ℕ) (c : Call) (table : List ℕ) (k : ℕ) → nameOf list c ≡ some k → codesOf c ≡ none → registers c ≡ true
-    → holderOf table k ≡ requesterOf c → call list delay c table .1 ≡ table
-again list delay (request requester scheme string reply) table k named alone registration holds =
+again-bare : (list : List ℕ) (delay : ℕ) (requester : Msisdn) (scheme : ℕ) (string reply table : List ℕ) (k : ℕ)
+    → nameOf list (request requester scheme string reply) ≡ some k → codesRead (requestOf string) ≡ none → registersAs (requestOf string) ≡ true
+    → holderOf table k ≡ requester .0 → call list delay (request requester scheme string reply) table .1 ≡ table
+again-bare list delay requester scheme string reply table k named alone registration holds =
     let x = naming list reply requester scheme string k named in
     ap (λ r. r .1) (call-single list delay (request requester scheme string reply) table alone)
     ∙ registers-again list reply requester scheme string table (x .fields) (x .reads)
     (operation-registers (x .fields .operation) (sym (ap registersAs (x .reads)) ∙ registration)) (rw (x .names) holds)
+
+again : (list : List ℕ) (delay : ℕ) (c : Call) (table : List ℕ) (k : ℕ) → nameOf list c ≡ some k → codesOf c ≡ none → registers c ≡ true
+    → holderOf table k ≡ requesterOf c → call list delay c table .1 ≡ table
+again list delay (request requester scheme string reply) table k named alone registration holds =
+    again-bare list delay requester scheme string reply table k named alone registration holds
+again list delay (framed requester message frame) table k named alone registration holds = by-table (tableSound table) refl
+  where
+    by-frame : tableSound table ≡ true → Opened list frame message requester delay → call list delay (framed requester message frame) table .1 ≡ table
+    by-frame sound (shut r unsaid why nameless c s) = ap (λ x. x .1) (c table sound)
+    by-frame sound (carries i inside passes w) =
+        ap (λ x. x .1) (w .calls table sound)
+        ∙ again-bare list delay requester (i .scheme) (i .string) ownReply table k (sym (w .name) ∙ named) (sym (ap codesRead (w .read)) ∙ alone)
+        (sym (ap registersAs (w .read)) ∙ registration) holds
+
+    by-table : (b : Bool) → tableSound table ≡ b → call list delay (framed requester message frame) table .1 ≡ table
+    by-table true sound = by-frame sound (opened list frame message requester delay)
+    by-table false unsound = let (n, buffer, e) = unsound-call table unsound list delay (framed requester message frame) in ap (λ x. x .1) e
 again list delay (sending now number buffer) table k named alone registration holds = no-path registration
 again list delay (result now number kind) table k named alone registration holds = no-path registration
 
 -- ---- a crew's request
 
 -- a single request, a sending and a result are not answered 11 or 12
-single-answered : (list : List ℕ) (delay : ℕ) (c : Call) (table : List ℕ) → isCrewOutcome (single list delay c table .0 .answer) ≡ false
-unfolding notices.sendingNotice notices.takingResult
-single-answered list delay (request requester scheme string reply) table =
+once-answered : (list : List ℕ) (requester : Msisdn) (scheme : ℕ) (string reply table : List ℕ)
+    → isCrewOutcome (requestingOnce table list reply requester scheme string .answer) ≡ false
+once-answered list requester scheme string reply table =
     once-each table reply (λ (o : Outcome). isCrewOutcome (o .answer) ≡ false) (λ n. refl) (λ n. refl) (λ n l e. denied n e) (λ new. refl) (λ new. refl) (λ m. refl)
     list requester scheme string
   where
@@ -184,6 +131,23 @@ single-answered list delay (request requester scheme string reply) table =
     denied n e =
         let other = or-neither (eqb n 1 || eqb n 2 || eqb n interrogationNumber || eqb n crewRegistered) (eqb n crewErased) (not-true _ e) in
         rw (or-neither (eqb n 1 || eqb n 2 || eqb n interrogationNumber) (eqb n crewRegistered) (other .0) .1, other .1) refl
+
+single-answered : (list : List ℕ) (delay : ℕ) (c : Call) (table : List ℕ) → isCrewOutcome (single list delay c table .0 .answer) ≡ false
+unfolding notices.sendingNotice notices.takingResult
+single-answered list delay (request requester scheme string reply) table = once-answered list requester scheme string reply table
+single-answered list delay (framed requester message frame) table = by-table (tableSound table) refl
+  where
+    by-frame : tableSound table ≡ true → Opened list frame message requester delay → isCrewOutcome (single list delay (framed requester message frame) table .0 .answer) ≡ false
+    by-frame sound (shut r unsaid why nameless c s) = ap (λ x. isCrewOutcome (x .0 .answer)) (s table sound) ∙ rw unsaid refl
+    by-frame sound (carries i inside passes w) =
+        let r = single list delay (request requester (i .scheme) (i .string) ownReply) table .0 in
+        ap (λ x. isCrewOutcome (x .0 .answer)) (w .singles table sound)
+        ∙ rw (w .outcomes r crewRegistered, w .outcomes r crewErased) (once-answered list requester (i .scheme) (i .string) ownReply table)
+
+    by-table : (b : Bool) → tableSound table ≡ b → isCrewOutcome (single list delay (framed requester message frame) table .0 .answer) ≡ false
+    by-table true sound = by-frame sound (opened list frame message requester delay)
+    by-table false unsound =
+        let (n, buffer, e) = unsound-single table unsound list delay (framed requester message frame) in ap (λ x. isCrewOutcome (x .0 .answer)) e
 single-answered list delay (sending now number buffer) table =
     decide-each (λ (o : Outcome). isCrewOutcome (o .answer) ≡ false)
     (refusing table buffer (notices.sendingChecks (tableSound table) buffer (number .0) (recordOf table (number .0)) delay (clockReading now))) _
@@ -234,18 +198,12 @@ module _ (list : List ℕ) (delay : ℕ) (c : Call) (table : List ℕ) where
       by-view : tableSound table ≡ true → {d : Call} → View list delay d → d ≡ c → (after ≡ table) × (stepsOf list c ≡ [])
       by-view sound (own d alone s) p = absurd (crew (ap codesOf (sym p) ∙ alone))
       by-view sound (stops d r f s) p = (ap (λ q. call list delay q table .1) (sym p) ∙ ap (λ x. x .1) (f table sound), ap (stepsOf list) (sym p) ∙ s)
-      by-view sound (goes {requester = requester} {scheme = scheme} {string = string} {reply = reply} g s) p =
-          no-path (sym (ap (λ q. isCrewOutcome (call list delay q table .0 .answer)) p ∙ e) ∙ goes-answered list requester scheme string reply g table sound)
+      by-view sound (goes {requester = requester} {scheme = scheme} {string = string} {reply = reply} g w s) p =
+          no-path (sym (ap (λ q. isCrewOutcome (call list delay q table .0 .answer)) p ∙ e) ∙ goes-said list delay requester scheme string reply g w table sound)
 
       by-table : (b : Bool) → tableSound table ≡ b → after ≡ table
       by-table true sound = by-view sound (view list delay c) refl .0
       by-table false s = unsound-stays s .1
-
-leaves : (list : List ℕ) (delay : ℕ) (c : Call) (table : List ℕ)
-    → Leaves table (bufferOf c) (record { answer = call list delay c table .0 .answer; table = call list delay c table .1; buffer = call list delay c table .0 .buffer })
-leaves list delay (request requester scheme string reply) table = request-leaves table reply list requester scheme string
-leaves list delay (sending now number buffer) table = sending-leaves table buffer number delay (clockReading now)
-leaves list delay (result now number kind) table = result-leaves table number kind (clockReading now)
 
 pub demand1 : (list : List ℕ) (delay : ℕ) (c : Call) (table : List ℕ) → Demand1 list delay c table
 demand1 list delay c table =
@@ -253,6 +211,8 @@ demand1 list delay c table =
     record {
       refused = l .refused;
       negative = l .negative;
+      returned-error = l .returned-error;
+      rejected = l .rejected;
       others = λ alone o n. l .others o (rw n (own-answered list delay c table alone));
       crew-goes = crew-goes list delay c table;
       crew-stops = crew-stops list delay c table;

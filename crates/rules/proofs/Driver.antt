@@ -2,7 +2,7 @@
 use mathlib.Core.Path.{_≡_, refl, sym, ap, _∙_, subst}
 use mathlib.Core.Logic.{_⊎_, inl, inr, ⊎-elim}
 use mathlib.Core.Bool.{Bool, true, false, _||_}
-use mathlib.Core.Option.{Option, none}
+use mathlib.Core.Option.{Option, none, some}
 use mathlib.Core.List.{List, [], _∷_}
 use Prim.Native.Nat.{ℕ, suc}
 use native.Mathlib.Omega.{arith}
@@ -10,34 +10,45 @@ use borrow.Author.Tests.{eqb-true, eq-eqb, not-false}
 use Rattle.answers.proofs.Decide.{all-pass}
 use Rattle.answers.proofs.Tests.{no-path, or-right, or-neither, same-or-not}
 use Rattle.numbers.specs.declared.Msisdn.{Msisdn}
+use Rattle.strings.specs.Text.{Request}
 use Rattle.records.specs.declared.Record.{Record}
 use Rattle.records.specs.Steps.{nobody, isNobody, same, isAbsent}
 use Rattle.tables.specs.Tables.{listSound, recordOf, flagsOf, tableSound}
 use Rattle.rules.specs.Answers.{isOutcome}
+use Rattle.rules.specs.Frames.{ownReply}
 use Rattle.rules.specs.Run.{end, log}
 use Rattle.rules.specs.Requests.{refusalChecks, hasFollowMe, isSupervisor, holderIn, noNotice}
-use Rattle.rules.specs.Calls.{Call, Reply, request, sending, result, call, nameOf, namesOne, codesOf, steps}
+use Rattle.rules.specs.Calls.{Call, Reply, request, framed, sending, result, call, readOf, nameOf, namesOne, codesOf, steps}
 use Rattle.rules.specs.Visits.{Visited}
 use Rattle.rules.specs.Pending.{never}
-use Rattle.rules.specs.Users.{isRequest, bothFlags, mayEndHold, endsHold, beginsHold, Stood, HoldEnded, HoldBegun}
-use Rattle.rules.specs.Demand.{isCrewOutcome, mayChange, registers, requesterOf, holderOf}
+use Rattle.rules.specs.Users.{isRequest, bothFlags, askerOf, erasesHoldIn, mayEndHold, endsHold, beginsHold, Stood, HoldEnded, HoldBegun}
+use Rattle.rules.specs.Demand.{isCrewOutcome, mayChange, registersAs, registers, requesterOf, holderOf}
 use Rattle.tables.proofs.Stored.{flags-small}
+use Rattle.rules.proofs.Inside.{named-inside}
 use Rattle.rules.proofs.Unsound.{unsound-call}
 use Rattle.rules.proofs.Single.{call-single, singles-log}
-use Rattle.rules.proofs.Steps.{goes-answered, View, own as alone-step, stops, goes, view}
+use Rattle.rules.proofs.Steps.{goes-said, View, own as alone-step, stops, goes, view}
 use Rattle.rules.proofs.Calls.{all-steps-single, singly-end}
 use Rattle.rules.proofs.Visits.{naming}
 use Rattle.rules.proofs.Local.{named-some}
-use Rattle.rules.proofs.Along.{Asked, negative, registration, erasure, own, forced, Does, asks, unsent, sends, untaken, clears, goes-on, Along, ends, passes, visits, along, word, one-msisdn, same-one, one-same, never-first}
+use Rattle.rules.proofs.Along.{Asked, AskedIn, negative, registration, erasure, own, forced, Does, asks, unsent, sends, untaken, clears, goes-on, Along, ends, passes, visits, along, word, one-msisdn, same-one, one-same, never-first}
 
 -- ---- what the tests say
 
 -- a request that names a number was given a sound list
-named-listed : (list : List ℕ) (k : ℕ) (requester : Msisdn) (scheme : ℕ) (string reply : List ℕ)
-    → namesOne list (request requester scheme string reply) k ≡ true → listSound list ≡ true
-named-listed list k requester scheme string reply n =
-    let passed = naming list reply requester scheme string k (named-some (nameOf list (request requester scheme string reply)) k n) .passed in
-    not-false _ (all-pass (refusalChecks true list reply requester scheme string) passed .1 .0)
+bare-listed : (list : List ℕ) (k : ℕ) (requester : Msisdn) (scheme : ℕ) (string reply : List ℕ)
+    → nameOf list (request requester scheme string reply) ≡ some k → listSound list ≡ true
+bare-listed list k requester scheme string reply n =
+    not-false _ (all-pass (refusalChecks true list reply requester scheme string) (naming list reply requester scheme string k n .passed) .1 .0)
+
+named-listed : (list : List ℕ) (k : ℕ) (c : Call) → isRequest c ≡ true → namesOne list c k ≡ true → listSound list ≡ true
+named-listed list k (request requester scheme string reply) e n =
+    bare-listed list k requester scheme string reply (named-some (nameOf list (request requester scheme string reply)) k n)
+named-listed list k (framed requester message frame) e n =
+    let (i, inside, m) = named-inside list frame message requester k (named-some (nameOf list (framed requester message frame)) k n) in
+    bare-listed list k requester (i .scheme) (i .string) ownReply m
+named-listed list k (sending now number buffer) e n = no-path e
+named-listed list k (result now number kind) e n = no-path e
 
 -- "flags 0 to 3: 1 has Follow Me, 2 supervisor"
 both-flags : (list : List ℕ) (msisdn : ℕ) → listSound list ≡ true → hasFollowMe (flagsOf list msisdn) ≡ true → isSupervisor (flagsOf list msisdn) ≡ true
@@ -46,14 +57,50 @@ both-flags list msisdn sound f s = omega (arith, eqb-true, flags-small list soun
 
 -- ---- one visit
 
+-- what is answered neither 01 nor 02 leaves the holder
+asked-keeps : {list : List ℕ} {r next : Record} {q : Msisdn} {read : Option Request} {one two : Bool} → Asked list r q read one two next
+    → one ≡ false → two ≡ false → next .holder ≡ r .holder
+asked-keeps negative a b = refl
+asked-keeps (registration p q h) a b = no-path (sym a)
+asked-keeps (erasure p q h m) a b = no-path (sym b)
+asked-keeps (own p q h m w) a b = no-path (sym b)
+asked-keeps (forced p q h m x y z) a b = no-path (sym b)
+
+-- a request leaves the holder, or nobody, or gives the number to who registers it
+asked-gives : {list : List ℕ} {r next : Record} {q : Msisdn} {read : Option Request} {one two : Bool} → Asked list r q read one two next
+    → (next .holder ≡ r .holder) ⊎ ((next .holder ≡ nobody) ⊎ ((registersAs read ≡ true) × (one ≡ true) × (next .holder .0 ≡ q .0)))
+asked-gives negative = inl refl
+asked-gives (registration p q h) = inr (inr (rw (p, q) refl, refl, refl))
+asked-gives (erasure p q h m) = inr (inl refl)
+asked-gives (own p q h m w) = inr (inl refl)
+asked-gives (forced p q h m x y z) = inr (inl refl)
+
+-- h holds the number still, or an erasure has ended her hold
+asked-ends : {list : List ℕ} {r next : Record} {q : Msisdn} {read : Option Request} {one two : Bool} → Asked list r q read one two next
+    → (h : Msisdn) → isNobody h ≡ false → listSound list ≡ true → r .holder ≡ h
+    → (next .holder ≡ h) ⊎ ((next .holder ≡ nobody) × (two ≡ true)
+    × ((b : Bool) → (isAbsent (r .notice) ≡ true → b ≡ true) → erasesHoldIn h b q (flagsOf list (q .0)) read ≡ true))
+asked-ends negative h held sound e = inl e
+asked-ends {q = requester} (registration p q w) h held sound e = inl (sym (same-one h requester (not-false _ (rw (e, held) at w))))
+asked-ends {r = r} {q = requester} (erasure p q w m) h held sound e =
+    let by = one-same requester h (sym (same-one (r .holder) requester m) ∙ e) in
+    inr (refl, refl, λ b i. rw (p, q, w, by) refl)
+asked-ends {r = r} {q = requester} (own {named = named} p q w m o) h held sound e =
+    let of = one-same named h (sym (same-one (r .holder) named m) ∙ e) in
+    let by = one-same requester h (sym (same-one (r .holder) requester o) ∙ e) in
+    inr (refl, refl, λ b i. rw (p, q, w, of, by) refl)
+asked-ends {list} {r = r} {q = requester} (forced {named = named} p q w m x y z) h held sound e =
+    let of = one-same named h (sym (same-one (r .holder) named m) ∙ e) in
+    let flags = both-flags list (requester .0) sound y z in
+    inr (refl, refl, λ b i. rw (p, q, w, of, flags, i x) (or-right (same requester h) true refl))
+
 -- a call asks for something, or leaves the holder
 data Holding (list : List ℕ) (r : Record) : Call → Visited → Type 0 where
-  asking : {requester : Msisdn} {scheme : ℕ} {string reply : List ℕ} {v : Visited} → Asked list r requester scheme string reply v
-      → Holding list r (request requester scheme string reply) v
+  asking : {c : Call} {v : Visited} → isRequest c ≡ true → AskedIn list r (askerOf c) (readOf c) v → Holding list r c v
   keeping : {c : Call} {v : Visited} → v .next .holder ≡ r .holder → Holding list r c v
 
 holding : {list : List ℕ} {r : Record} {c : Call} {v : Visited} → Does list r c v → Holding list r c v
-holding (asks d) = asking d
+holding (asks i d) = asking i d
 holding unsent = keeping refl
 holding (sends w) = keeping refl
 holding untaken = keeping refl
@@ -62,37 +109,24 @@ holding (goes-on p) = keeping refl
 
 -- no sending and no result changes the holder, and no answer but 01 and 02
 unasked-keeps : {list : List ℕ} {r : Record} {c : Call} {v : Visited} → Holding list r c v → isRequest c ≡ false → v .next .holder ≡ r .holder
-unasked-keeps (asking d) e = no-path (sym e)
+unasked-keeps (asking i d) e = no-path (sym e ∙ i)
 unasked-keeps (keeping s) e = s
 
 negative-keeps : {list : List ℕ} {r : Record} {c : Call} {v : Visited} → Holding list r c v
     → isOutcome 1 (v .reply .answer) ≡ false → isOutcome 2 (v .reply .answer) ≡ false → v .next .holder ≡ r .holder
 negative-keeps (keeping s) a b = s
-negative-keeps (asking (negative p q)) a b = refl
-negative-keeps (asking (registration p q h)) a b = no-path (sym a)
-negative-keeps (asking (erasure p q h m)) a b = no-path (sym b)
-negative-keeps (asking (own p q h m w)) a b = no-path (sym b)
-negative-keeps (asking (forced p q h m x y z)) a b = no-path (sym b)
-
--- nobody holds a free number still, or who holds it has registered it
-visit-begins : {list : List ℕ} {r : Record} {c : Call} {v : Visited} → Holding list r c v → r .holder ≡ nobody
-    → (v .next .holder ≡ nobody) ⊎ ((registers c ≡ true) × (isOutcome 1 (v .reply .answer) ≡ true) × (v .next .holder .0 ≡ requesterOf c))
-visit-begins (keeping s) e = inl (s ∙ e)
-visit-begins (asking (negative p q)) e = inl e
-visit-begins (asking (registration p q h)) e = inr (rw (p, q) refl, refl, refl)
-visit-begins (asking (erasure p q h m)) e = inl refl
-visit-begins (asking (own p q h m w)) e = inl refl
-visit-begins (asking (forced p q h m x y z)) e = inl refl
+negative-keeps (asking i d) a b = asked-keeps d a b
 
 -- a visit leaves the holder, or nobody, or gives the number to who registers it
 visit-gives : {list : List ℕ} {r : Record} {c : Call} {v : Visited} → Holding list r c v
     → (v .next .holder ≡ r .holder) ⊎ ((v .next .holder ≡ nobody) ⊎ ((registers c ≡ true) × (isOutcome 1 (v .reply .answer) ≡ true) × (v .next .holder .0 ≡ requesterOf c)))
 visit-gives (keeping s) = inl s
-visit-gives (asking (negative p q)) = inl refl
-visit-gives (asking (registration p q h)) = inr (inr (rw (p, q) refl, refl, refl))
-visit-gives (asking (erasure p q h m)) = inr (inl refl)
-visit-gives (asking (own p q h m w)) = inr (inl refl)
-visit-gives (asking (forced p q h m x y z)) = inr (inl refl)
+visit-gives (asking i d) = asked-gives d
+
+-- nobody holds a free number still, or who holds it has registered it
+visit-begins : {list : List ℕ} {r : Record} {c : Call} {v : Visited} → Holding list r c v → r .holder ≡ nobody
+    → (v .next .holder ≡ nobody) ⊎ ((registers c ≡ true) × (isOutcome 1 (v .reply .answer) ≡ true) × (v .next .holder .0 ≡ requesterOf c))
+visit-begins d e = ⊎-elim (λ s. inl (s ∙ e)) (λ x. x) (visit-gives d)
 
 module _ (list : List ℕ) (k : ℕ) (h : Msisdn) (held : isNobody h ≡ false) where
   -- h holds the number still, or an erasure has ended her hold
@@ -100,19 +134,7 @@ module _ (list : List ℕ) (k : ℕ) (h : Msisdn) (held : isNobody h ≡ false) 
       → (v .next .holder ≡ h) ⊎ ((v .next .holder ≡ nobody) × (isOutcome 2 (v .reply .answer) ≡ true)
       × ((b : Bool) → (isAbsent (r .notice) ≡ true → b ≡ true) → mayEndHold list h b c ≡ true))
   visit-ends (keeping s) n e = inl (s ∙ e)
-  visit-ends (asking (negative p q)) n e = inl e
-  visit-ends {r} (asking {requester = requester} (registration p q w)) n e = inl (sym (same-one h requester (not-false _ (rw (e, held) at w))))
-  visit-ends {r} (asking {requester = requester} (erasure p q w m)) n e =
-      let by = one-same requester h (sym (same-one (r .holder) requester m) ∙ e) in
-      inr (refl, refl, λ b i. rw (p, q, w, by) refl)
-  visit-ends {r} (asking {requester = requester} (own {named = named} p q w m o)) n e =
-      let of = one-same named h (sym (same-one (r .holder) named m) ∙ e) in
-      let by = one-same requester h (sym (same-one (r .holder) requester o) ∙ e) in
-      inr (refl, refl, λ b i. rw (p, q, w, of, by) refl)
-  visit-ends {r} (asking {requester = requester} {scheme} {string} {reply} (forced {named = named} p q w m x y z)) n e =
-      let of = one-same named h (sym (same-one (r .holder) named m) ∙ e) in
-      let flags = both-flags list (requester .0) (named-listed list k requester scheme string reply n) y z in
-      inr (refl, refl, λ b i. rw (p, q, w, of, flags, i x) (or-right (same requester h) true refl))
+  visit-ends {c = c} (asking i d) n e = asked-ends d h held (named-listed list k c i n) e
 
   -- ---- the walk along the calls
 
@@ -197,6 +219,7 @@ module _ (list : List ℕ) (delay k : ℕ) (c : Call) (table : List ℕ) where
 
   request-alone : (e : Call) → isRequest e ≡ false → codesOf e ≡ none
   request-alone (request requester scheme string reply) n = no-path (sym n)
+  request-alone (framed requester message frame) n = no-path (sym n)
   request-alone (sending now number buffer) n = refl
   request-alone (result now number kind) n = refl
 
@@ -214,9 +237,10 @@ module _ (list : List ℕ) (delay k : ℕ) (c : Call) (table : List ℕ) where
           let none = or-neither (isOutcome 1 (got .answer) || isOutcome 2 (got .answer)) (isCrewOutcome (got .answer)) e in
           ap word (kept-once (once (ap codesOf (sym p) ∙ alone)) (inr (or-neither (isOutcome 1 (got .answer)) (isOutcome 2 (got .answer)) (none .0))))
       by-view (stops d r f s) p sound = ap (λ x. holderOf (x .1) k) (ap (λ q. call list delay q table) (sym p) ∙ f table sound)
-      by-view (goes {requester = requester} {scheme = scheme} {string = string} {reply = reply} g s) p sound =
+      by-view (goes {c = d} {requester = requester} {scheme = scheme} {string = string} {reply = reply} g w s) p sound =
+          let a = call list delay d table .0 .answer in
           no-path (sym (ap (λ q. mayChange ((call list delay q table) .0 .answer)) p ∙ e)
-          ∙ or-right (isOutcome 1 (call list delay (request requester scheme string reply) table .0 .answer) || isOutcome 2 (call list delay (request requester scheme string reply) table .0 .answer)) (isCrewOutcome (call list delay (request requester scheme string reply) table .0 .answer)) (goes-answered list requester scheme string reply g table sound))
+          ∙ or-right (isOutcome 1 a || isOutcome 2 a) (isCrewOutcome a) (goes-said list delay requester scheme string reply g w table sound))
 
       by-table : (b : Bool) → tableSound table ≡ b → holderOf after k ≡ holderOf table k
       by-table true sound = by-view (view list delay c) refl sound

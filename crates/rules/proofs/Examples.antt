@@ -1,4 +1,4 @@
--- Document 01, "Examples": P1 to P15, and document 02's M-100, of the rules, computed from octets and words, as one list under one statement. Assumes nothing.
+-- Document 01, "Examples": P1 to P15, and document 02's M-100 and M-101, of the rules, computed from octets and words, as one list under one statement. Assumes nothing.
 use mathlib.Core.Path.{_≡_, refl}
 use mathlib.Core.Bool.{Bool, true}
 use mathlib.Core.List.{List, [], _∷_, _++_, map}
@@ -14,16 +14,20 @@ use Rattle.crews.specs.Crews.{isCode, isIn, distinct, codesSound, codesIn, code
 use Rattle.strings.specs.Text.{isAdditional, textOf, noticeFields}
 use Rattle.strings.specs.Reader.{operationAt, serviceAt, numberFieldAt, forcedAt, erasingAt, additionalAt, fieldsOf}
 use Rattle.strings.specs.Outcomes.{requestOf}
+use Rattle.frames.specs.Parts.{part, contentsOf, octetAt}
+use Rattle.frames.specs.Components.{component, bodyOf, invokeOf}
+use Rattle.frames.specs.Messages as messages
 use Rattle.records.specs.Steps.{elapsed, delayOf, delayAllowed}
 use Rattle.rows.specs.Rows as rows
 use Rattle.tables.specs.Keys.{placeOf}
 use Rattle.tables.specs.Tables.{tableSound, rowOf, recordOf, listSound, flagsOf}
-use Rattle.rules.specs.Answers.{Answer, refusal, error, outcome, sentTo, dropped, again}
+use Rattle.rules.specs.Answers.{Answer, refusal, error, outcome, returnError, reject, sentTo, dropped, again}
 use Rattle.rules.specs.Requests as requests
 use Rattle.rules.specs.Crews as crews
+use Rattle.rules.specs.Frames as frame
 use Rattle.rules.specs.Notices as notices
 use Rattle.rules.specs.Run.{end, log}
-use Rattle.rules.specs.Calls.{Call, request, sending, result, bufferOf, Reply, call}
+use Rattle.rules.specs.Calls.{Call, request, framed, sending, result, bufferOf, Reply, call}
 
 -- A = 4915100001 (flags 1), B = 4915100002 (flags 3), C = 4915100003 (flags 0), F = 0492123401, as stored
 abbrev pub A : ℕ
@@ -207,3 +211,40 @@ crewExamples =
 pub m-100 : All crewExamples
 unfolding countOf crewOf countedCodesAt spacedCodesAt soundCodesAt codesAt codesIn codesSound isCode isIn distinct each crews.withCode crews.walked valueOf digits octetsFor charsIn padded packed characters readable filled kept unpacked isDigit pushed storedForm isNumber digitsUpTo digitsOf leading leadingNumber isAdditional textOf noticeFields begins operationAt serviceAt numberFieldAt forcedAt erasingAt additionalAt fieldsOf requestOf elapsed delayOf delayAllowed rows.noticeBy rows.rowSound rows.noticeOf rows.recordAt rows.stored placeOf tableSound rowOf recordOf listSound flagsOf requests.step crews.requesting notices.sendingNotice notices.takingResult
 m-100 = refl and refl and refl and refl and refl and refl and done
+
+-- ---- document 02, M-101
+
+-- a Register with transaction 1 and invoke number 5 asking to register F: its message type, its operation, and what ends it
+abbrev pub asking : ℕ → ℕ → List ℕ → List ℕ
+asking type operation ending =
+    (0x1B ∷ type ∷ 0x1C ∷ 0x21 ∷ 0xA1 ∷ 0x1F ∷ 0x02 ∷ 0x01 ∷ 0x05 ∷ 0x02 ∷ 0x01 ∷ operation ∷ 0x30 ∷ 0x17 ∷ 0x04 ∷ 0x01 ∷ 0x0F ∷ 0x04 ∷ 0x12 ∷ [])
+    ++ packed registersF ++ ending
+
+-- by a subscriber, with a frame buffer of so many octets
+abbrev pub frames : ℕ → ℕ → List ℕ → Call
+frames octets msisdn message = framed (record { 0 = msisdn }) message (replicate octets 0)
+
+abbrev pub framedExamples : List Example
+framedExamples =
+    -- `01` in a Return Result, of 23 octets
+    answers 101 free
+    (gets (frames 120 A (asking 0x7B 0x3B messages.version)) (outcome 1 23)
+    (0x9B ∷ 0x2A ∷ 0x1C ∷ 0x13 ∷ 0xA2 ∷ 0x11 ∷ 0x02 ∷ 0x01 ∷ 0x05 ∷ 0x30 ∷ 0x0C ∷ 0x02 ∷ 0x01 ∷ 0x3B ∷ 0x30 ∷ 0x07 ∷ 0x04 ∷ 0x01 ∷ 0x0F ∷ 0x04 ∷ 0x02 ∷ octets01) ∷ [])
+    (held A)
+    -- an error in a Return Error: a requester that is no number
+    ∷ answers 101 free
+    (gets (frames 120 0 (asking 0x7B 0x3B messages.version)) (returnError 35 12) (0x9B ∷ 0x2A ∷ 0x1C ∷ 0x08 ∷ 0xA3 ∷ 0x06 ∷ 0x02 ∷ 0x01 ∷ 0x05 ∷ 0x02 ∷ 0x01 ∷ 0x23 ∷ []) ∷ []) free
+    -- an unknown operation, and a message without its end: Reject 1, Reject 2
+    ∷ answers 101 free
+    (gets (frames 120 A (asking 0x7B 0x3C messages.version)) (reject 1 12) (0x9B ∷ 0x2A ∷ 0x1C ∷ 0x08 ∷ 0xA4 ∷ 0x06 ∷ 0x02 ∷ 0x01 ∷ 0x05 ∷ 0x81 ∷ 0x01 ∷ 0x01 ∷ [])
+    ∷ gets (frames 120 A (asking 0x7B 0x3B [])) (reject 2 12) (0x9B ∷ 0x2A ∷ 0x1C ∷ 0x08 ∷ 0xA4 ∷ 0x06 ∷ 0x02 ∷ 0x01 ∷ 0x05 ∷ 0x81 ∷ 0x01 ∷ 0x02 ∷ [])
+    ∷ [])
+    free
+    -- no Register, and a frame buffer under 120 octets
+    ∷ answers 101 free
+    (gets (frames 120 A (asking 0x3B 0x3B messages.version)) (refusal 11) [] ∷ gets (frames 119 A (asking 0x3B 0x3B messages.version)) (refusal 1) [] ∷ []) free
+    ∷ []
+
+pub m-101 : All framedExamples
+unfolding countOf crewOf valueOf digits octetsFor charsIn padded packed characters readable filled kept unpacked isDigit pushed storedForm isNumber digitsUpTo digitsOf leading leadingNumber isAdditional textOf noticeFields begins operationAt serviceAt numberFieldAt forcedAt erasingAt additionalAt fieldsOf requestOf elapsed delayOf delayAllowed rows.noticeBy rows.rowSound rows.noticeOf rows.recordAt rows.stored placeOf tableSound rowOf recordOf listSound flagsOf requests.step crews.requesting notices.sendingNotice notices.takingResult part contentsOf octetAt component bodyOf invokeOf messages.messageOf messages.registerOf messages.release messages.inverted frame.framedRequest
+m-101 = refl and refl and refl and refl and done

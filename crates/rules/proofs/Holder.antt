@@ -26,11 +26,13 @@ use Rattle.records.specs.Steps as steps
 use Rattle.tables.specs.Tables.{tableSound, recordOf, flagsOf}
 use Rattle.rules.specs.Answers.{Answer, refusal, bufferRoom, isOutcome}
 use Rattle.rules.specs.Requests.{holderIn, afterErasure, rightChecks}
+use Rattle.rules.specs.Frames.{Inside, insideOf, ownReply}
 use Rattle.rules.specs.Run.{only, last, end, log}
-use Rattle.rules.specs.Calls.{Call, request, sending, result, Reply, clockReading, nameOf, namesOne}
-use Rattle.rules.specs.Visits.{Visited, visited, visitSaying, stepped, holderAnswered, decides, decided, sentStep, resultStep, visitRequest, visit, replySaying, missedRequest, missed}
+use Rattle.rules.specs.Calls.{Call, request, framed, sending, result, Reply, clockReading, nameOf, namesOne}
+use Rattle.rules.specs.Visits.{Visited, visited, visitSaying, stepped, holderAnswered, decides, decided, sentStep, resultStep, visitRequest, enveloped, visitInside, visit, replySaying, missedRequest, missedInside, missed}
 use Rattle.rules.specs.Demand.{requesterOf, decidesHolder, holderAfter, holderOf}
 use Rattle.rules.proofs.Once.{single}
+use Rattle.rules.proofs.Inside.{outcome-kept}
 use Rattle.rules.proofs.Visits.{recordChecks, sentChecks}
 use Rattle.rules.proofs.Sound.{single-keeps, single-own, single-absent, single-other}
 use Rattle.rules.proofs.Local.{named-some}
@@ -40,6 +42,10 @@ use Rattle.rules.proofs.Local.{named-some}
 -- the holder that an answer says: the requester after 01, nobody after 02, and the one before after any other
 abbrev pub said : Answer → ℕ → ℕ → ℕ
 said a requester before = cond (isOutcome 1 a) requester (cond (isOutcome 2 a) 0 before)
+
+-- an answer with the same outcomes, such as one in its frame, says the same
+said-so : (a b : Answer) (requester before : ℕ) → ((n : ℕ) → isOutcome n b ≡ isOutcome n a) → said b requester before ≡ said a requester before
+said-so a b requester before same = rw (same 1, same 2) refl
 
 -- the record that a visit leaves has that holder
 abbrev pub Says : ℕ → Record → Visited → Type 0
@@ -96,6 +102,17 @@ module _ (r : Record) where
 
 visit-says : (list : List ℕ) (delay : ℕ) (c : Call) (r : Record) → Says (requesterOf c) r (visit list delay c r)
 visit-says list delay (request requester scheme string reply) r = request-says r reply requester (flagsOf list (requester .0)) (requestOf string)
+visit-says list delay (framed requester message frame) r = go (insideOf message)
+  where
+    flags : ℕ
+    flags = flagsOf list (requester .0)
+
+    go : (inside : Option Inside) → Says (requester .0) r (visitInside flags requester frame inside r)
+    go none = refl
+    go (some i) =
+        let v = visitRequest flags requester ownReply (requestOf (i .string)) r in
+        request-says r ownReply requester flags (requestOf (i .string))
+        ∙ sym (said-so (v .reply .answer) (enveloped i frame (v .reply) .answer) (requester .0) (r .holder .0) (outcome-kept i frame (v .reply)))
 visit-says list delay (sending now number buffer) r =
     decide-each (Says 0 r) ((ltb (length buffer) bufferRoom, visited (refusal 1) buffer r) ∷ []) (sentStep number buffer r (steps.sent delay (clockReading now) r))
     (refl, tt) (sent-says r number buffer delay (clockReading now))
@@ -103,15 +120,23 @@ visit-says list delay (result now number kind) r = result-says r kind (clockRead
 
 -- ---- a call
 
+missed-request-says : (flags : ℕ) (reply : List ℕ) (q : ℕ) (read : Option Request) → said (missedRequest flags reply read .answer) q 0 ≡ 0
+missed-request-says flags reply q none = refl
+missed-request-says flags reply q (some f) =
+    decide-each (λ (r : Reply). said (r .answer) q 0 ≡ 0) (map (answering (λ n. replySaying n reply)) (rightChecks flags (f .erasing)))
+    (replySaying 41 reply) (refl, (refl, tt)) refl
+
 -- a number that is not in the table is neither given nor freed
 missed-says : (list : List ℕ) (c : Call) (requester : ℕ) → said (missed list c .answer) requester 0 ≡ 0
-missed-says list (request requester scheme string reply) q = go (requestOf string)
+missed-says list (request requester scheme string reply) q = missed-request-says (flagsOf list (requester .0)) reply q (requestOf string)
+missed-says list (framed requester message frame) q = go (insideOf message)
   where
-    go : (read : Option Request) → said (missedRequest (flagsOf list (requester .0)) reply read .answer) q 0 ≡ 0
+    go : (inside : Option Inside) → said (missedInside (flagsOf list (requester .0)) frame inside .answer) q 0 ≡ 0
     go none = refl
-    go (some f) =
-        decide-each (λ (r : Reply). said (r .answer) q 0 ≡ 0) (map (answering (λ n. replySaying n reply)) (rightChecks (flagsOf list (requester .0)) (f .erasing)))
-        (replySaying 41 reply) (refl, (refl, tt)) refl
+    go (some i) =
+        let r = missedRequest (flagsOf list (requester .0)) ownReply (requestOf (i .string)) in
+        said-so (r .answer) (enveloped i frame r .answer) q 0 (outcome-kept i frame r)
+        ∙ missed-request-says (flagsOf list (requester .0)) ownReply q (requestOf (i .string))
 missed-says list (sending now number buffer) q =
     decide-each (λ (r : Reply). said (r .answer) q 0 ≡ 0) ((ltb (length buffer) bufferRoom, record { answer = refusal 1; buffer = buffer }) ∷ [])
     (record { answer = refusal 7; buffer = buffer }) (refl, tt) refl

@@ -1,5 +1,6 @@
--- The theorems about the rules. `Once`: calls whose requests are single. `Visits`: the second form equals the first. `Each`: a request's answers. `Sound`: a call keeps a sound table sound, and what it does to the records. `Rearrange`, `Alone`: what follows for any local step. `Local`: calls are local. `Holder`: who holds a number. `Demand`, `Demand1`: demands 3 and 1. `Finding`: the lowest due number. `Examples`: P1 to P15. `Along`: a list of calls seen from one number. `NoticeEnds`, `Driver`, `Controller`, `Told`: the users' theorems.
+-- The theorems about the rules. `Once`: calls whose requests are single. `Inside`: a framed call is the request inside it, its reply put into the frame. `Visits`: the second form equals the first. `Each`: a request's answers. `Short`: a reply has at most 25 octets. `Sound`: a call keeps a sound table sound, and what it does to the records. `Rearrange`, `Alone`: what follows for any local step. `Local`: calls are local. `Holder`: who holds a number. `Demand`, `Demand1`: demands 3 and 1; `Leaves`: demand 1, answer by answer. `Framed`: the framed request equals the bare one. `ReadsBack`: what it writes reads as what it is. `Finding`: the lowest due number. `Examples`: P1 to P15, M-100 and M-101. `Along`: a list of calls seen from one number. `NoticeEnds`, `Driver`, `Controller`, `Told`: the users' theorems.
 pub mod Once
+pub mod Inside
 pub mod Single
 pub mod Unsound
 pub mod Visits
@@ -13,6 +14,8 @@ pub mod Steps
 pub mod Taken
 pub mod Tallied
 pub mod Each
+pub mod Short
+pub mod Leaves
 pub mod Calls
 pub mod Members
 pub mod Singles
@@ -20,6 +23,8 @@ pub mod Holder
 pub mod Demand
 pub mod Demand1
 pub mod Finding
+pub mod Framed
+pub mod ReadsBack
 pub mod Examples
 pub mod Along
 pub mod NoticeEnds

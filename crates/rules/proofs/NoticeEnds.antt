@@ -10,6 +10,7 @@ use lib.Dec.{eqb, ltb}
 use Rattle.answers.proofs.Decide.{decide-each}
 use Rattle.answers.proofs.Tests.{no-path, and-right, and-no}
 use Rattle.numbers.specs.declared.Msisdn.{Msisdn}
+use Rattle.strings.specs.Text.{Request}
 use Rattle.records.specs.declared.Notice.{Notice}
 use Rattle.records.specs.declared.Notice.the-variants.{Absent, Waiting, InFlight}
 use Rattle.records.specs.declared.Record.{Record}
@@ -24,9 +25,10 @@ use Rattle.tables.proofs.Stored.{record-found, record-missing}
 use Rattle.rules.specs.Answers.{refusal, bufferRoom, isSent}
 use Rattle.rules.specs.Run.{only, end, log}
 use Rattle.rules.specs.Notices.{noticeIn}
-use Rattle.rules.specs.Calls.{Call, Reply, request, sending, result, call, namesOne, codesOf, steps}
+use Rattle.rules.specs.Calls.{Call, Reply, request, framed, sending, result, call, namesOne, codesOf, steps}
 use Rattle.rules.specs.Visits.{Visited}
 use Rattle.rules.specs.Pending.{noticeFor, never, holdsAt, isSendingOf, isResultOf, sendingDone, resultTaken, ResultBetween, noticeCleared}
+use Rattle.rules.specs.Users.{isRequest}
 use Rattle.rules.proofs.Once.{single}
 use Rattle.rules.proofs.Visits.{found-sound}
 use Rattle.rules.proofs.Single.{call-single, singles-log}
@@ -61,13 +63,26 @@ one-more true x xs = omega arith
 one-more false x xs = omega arith
 
 -- a request leaves a pending notice as it is: it changes the holder at most
-asked-keeps : {list : List ℕ} {r : Record} {requester : Msisdn} {scheme : ℕ} {string reply : List ℕ} {v : Visited}
-    → Asked list r requester scheme string reply v → isAbsent (r .notice) ≡ false → v .next ≡ heldBy (v .next .holder) r
-asked-keeps (negative p q) n = refl
+asked-keeps : {list : List ℕ} {r next : Record} {requester : Msisdn} {read : Option Request} {one two : Bool}
+    → Asked list r requester read one two next → isAbsent (r .notice) ≡ false → next ≡ heldBy (next .holder) r
+asked-keeps negative n = refl
 asked-keeps (registration p q h) n = refl
 asked-keeps (erasure p q h m) n = refl
 asked-keeps (own p q h m w) n = refl
 asked-keeps (forced p q h m x y z) n = no-path (sym n ∙ x)
+
+-- a request, framed or not, is neither a sending nor a result
+pub request-unsent : (k : ℕ) (c : Call) (a : Reply) → isRequest c ≡ true → sendingDone k (c, a) ≡ false
+request-unsent k (request requester scheme string reply) a e = refl
+request-unsent k (framed requester message frame) a e = refl
+request-unsent k (sending now number buffer) a e = no-path e
+request-unsent k (result now number kind) a e = no-path e
+
+request-untaken : (k : ℕ) (c : Call) (a : Reply) → isRequest c ≡ true → resultTaken k (c, a) ≡ false
+request-untaken k (request requester scheme string reply) a e = refl
+request-untaken k (framed requester message frame) a e = refl
+request-untaken k (sending now number buffer) a e = no-path e
+request-untaken k (result now number kind) a e = no-path e
 
 -- the notice of r is pending still in the record `next`, to the same addressee, from the same supervisor, and counts the entry if it is a sending of k that succeeded
 pub record StillPending (k : ℕ) (r : Record) (entry : Call × Reply) (next : Record) : Type 0 where
@@ -81,9 +96,11 @@ module _ (list : List ℕ) (k : ℕ) where
   pub passed-unsent : (c : Call) {a : Reply} → Passed list k c a → sendingDone k (c, a) ≡ false
   passed-unsent c refused = and-no (isSendingOf k c) false refl
   passed-unsent (request requester scheme string reply) (unnamed n) = refl
+  passed-unsent (framed requester message frame) (unnamed n) = refl
   passed-unsent (sending now number buffer) (unnamed n) = rw n
   passed-unsent (result now number kind) (unnamed n) = refl
   passed-unsent (request requester scheme string reply) missing = refl
+  passed-unsent (framed requester message frame) missing = refl
   passed-unsent (sending now number buffer) missing =
       and-no (eqb (number .0) k) _ (decide-each (λ (a : Reply). isSent (a .answer) ≡ false)
       ((ltb (length buffer) bufferRoom, record { answer = refusal 1; buffer = buffer }) ∷ []) (record { answer = refusal 7; buffer = buffer }) (refl, tt) refl)
@@ -92,16 +109,18 @@ module _ (list : List ℕ) (k : ℕ) where
   passed-untaken : (c : Call) {a : Reply} → Passed list k c a → resultTaken k (c, a) ≡ false
   passed-untaken c refused = and-no (isResultOf k c) false refl
   passed-untaken (request requester scheme string reply) (unnamed n) = refl
+  passed-untaken (framed requester message frame) (unnamed n) = refl
   passed-untaken (sending now number buffer) (unnamed n) = refl
   passed-untaken (result now number kind) (unnamed n) = rw n
   passed-untaken (request requester scheme string reply) missing = refl
+  passed-untaken (framed requester message frame) missing = refl
   passed-untaken (sending now number buffer) missing = refl
   passed-untaken (result now number kind) missing = and-no (eqb (number .0) k) false refl
 
   -- a sending that succeeds finds the notice waiting and leaves it in flight
   sent-flies : {r : Record} {c : Call} {v : Visited} → Does list r c v → sendingDone k (c, v .reply) ≡ true
       → (isWaiting (r .notice) ≡ true) × (isInFlight (v .next .notice) ≡ true)
-  sent-flies (asks d) s = no-path s
+  sent-flies {c = c} {v = v} (asks i d) s = no-path (sym (request-unsent k c (v .reply) i) ∙ s)
   sent-flies (unsent {number = number}) s = no-path (and-right (eqb (number .0) k) false s)
   sent-flies {r} (sends w) s = (w, launched-flies (r .notice) w)
   sent-flies untaken s = no-path s
@@ -111,7 +130,7 @@ module _ (list : List ℕ) (k : ℕ) where
   -- a notice in flight stays in flight, up to a result that is not refused
   flying-on : {r : Record} {c : Call} {v : Visited} → namesOne list c k ≡ true → Does list r c v → isInFlight (r .notice) ≡ true
       → resultTaken k (c, v .reply) ≡ false → isInFlight (v .next .notice) ≡ true
-  flying-on {r} n (asks d) f u = rw (asked-keeps d (flies-pending (r .notice) f)) f
+  flying-on {r} n (asks i d) f u = rw (asked-keeps d (flies-pending (r .notice) f)) f
   flying-on n unsent f u = f
   flying-on {r} n (sends w) f u = absurd (not-both (r .notice) w f)
   flying-on n untaken f u = f
@@ -122,7 +141,8 @@ module _ (list : List ℕ) (k : ℕ) where
   -- a pending notice is pending still, up to the result that clears it
   pub still-pending : {r : Record} {c : Call} {v : Visited} → namesOne list c k ≡ true → Does list r c v → isAbsent (r .notice) ≡ false
       → noticeCleared k (c, v .reply) ≡ false → StillPending k r (c, v .reply) (v .next)
-  still-pending n (asks d) a u = rw (asked-keeps d a) (record { pending = a; addressee = refl; supervisor = refl; done = omega arith })
+  still-pending {c = c} {v = v} n (asks i d) a u =
+      rw (asked-keeps d a) (record { pending = a; addressee = refl; supervisor = refl; done = rw (request-unsent k c (v .reply) i) (omega arith) })
   still-pending n unsent a u = record { pending = a; addressee = refl; supervisor = refl; done = rw n (omega arith) }
   still-pending {r} n (sends w) a u =
       record { pending = flies-pending (launched (r .notice)) (launched-flies (r .notice) w); addressee = refl; supervisor = refl; done = rw n (launched-one-more (r .notice) w) }
@@ -134,7 +154,7 @@ module _ (list : List ℕ) (k : ℕ) where
   -- a result that is taken after the fifth sending clears the notice
   fifth-clears : {r : Record} {c : Call} {v : Visited} → Does list r c v → sendingsDone (r .notice) ≡ mostSendings → resultTaken k (c, v .reply) ≡ true
       → v .next .notice ≡ Absent
-  fifth-clears (asks d) m u = no-path u
+  fifth-clears {c = c} {v = v} (asks i d) m u = no-path (sym (request-untaken k c (v .reply) i) ∙ u)
   fifth-clears unsent m u = no-path u
   fifth-clears (sends w) m u = no-path u
   fifth-clears (untaken {number = number}) m u = no-path (and-right (eqb (number .0) k) false u)
@@ -198,6 +218,7 @@ table-most table k sound = go (rowOf table k) refl
 -- a result is its own step
 result-single : (k : ℕ) (e : Call × Reply) → resultTaken k e ≡ true → codesOf (e .0) ≡ none
 result-single k (request requester scheme string reply, a) u = no-path u
+result-single k (framed requester message frame, a) u = no-path u
 result-single k (sending now number buffer, a) u = no-path u
 result-single k (result now number kind, a) u = refl
 

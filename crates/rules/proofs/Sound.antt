@@ -39,10 +39,12 @@ use Rattle.tables.proofs.Stored.{row-found, own-record, other-record, table-sto
 use Rattle.rules.specs.Answers.{refusal, bufferRoom}
 use Rattle.rules.specs.Requests as requests
 use Rattle.rules.specs.Requests.{rightChecks}
+use Rattle.rules.specs.Frames.{ownReply}
 use Rattle.rules.specs.Run.{end}
-use Rattle.rules.specs.Calls.{Call, request, sending, result, Reply, clockReading, nameOf, isNamed, namesOne}
+use Rattle.rules.specs.Calls.{Call, request, framed, sending, result, Reply, clockReading, nameOf, isNamed, namesOne}
 use Rattle.rules.specs.Visits.{Visited, visited, visitSaying, stepped, holderAnswered, stepAt, tellAt, decidesAt, decides, decided, sentStep, resultStep, visitRequest, visit, missed}
 use Rattle.rules.proofs.Once.{single}
+use Rattle.rules.proofs.Inside.{named-inside}
 use Rattle.rules.proofs.Visits.{found-sound, step-visits, step-misses, requester-number, single-visits, single-misses, single-stops}
 
 -- ---- a visit leaves a sound record
@@ -88,6 +90,10 @@ module _ (r : Record) (sound : recordSound r ≡ true) where
   pub visit-sound : (list : List ℕ) (delay : ℕ) (c : Call) (k : ℕ) → nameOf list c ≡ some k → SoundVisit (visit list delay c r)
   visit-sound list delay (request requester scheme string reply) k e =
       request-sound (flagsOf list (requester .0)) requester reply (requestOf string) (requester-number list reply requester scheme string k e)
+  visit-sound list delay (framed requester message frame) k e =
+      let (i, inside, named) = named-inside list frame message requester k e in
+      rw inside (request-sound (flagsOf list (requester .0)) requester ownReply (requestOf (i .string))
+      (requester-number list ownReply requester (i .scheme) (i .string) k named))
   visit-sound list delay (sending now number buffer) k e =
       decide-each SoundVisit ((ltb (length buffer) bufferRoom, visited (refusal 1) buffer r) ∷ [])
       (sentStep number buffer r (steps.sent delay (clockReading now) r)) (sound, tt)
@@ -171,7 +177,7 @@ module _ (list : List ℕ) (delay : ℕ) (c : Call) (t : List ℕ) (sound : tabl
       placed k n (At i) e = rw (single-visits list delay t sound c k i n e) (kept-stored t i _ sound (row-found t k i e .0) (at-row k i n e))
 
       named : (n : Option ℕ) → nameOf list c ≡ n → Kept t (went .1)
-      named none n = rw (single-stops list delay t sound c n) (kept-same t sound)
+      named none n = rw (single-stops list delay c n .1 t sound) (kept-same t sound)
       named (some k) n = placed k n (rowOf t k) refl
 
   -- the record of the number that the call names decides, and becomes the next one
@@ -199,7 +205,7 @@ module _ (list : List ℕ) (delay : ℕ) (c : Call) (t : List ℕ) (sound : tabl
           ∙ other-record t i _ j e k (λ q. eqb-false j k (ap (λ o. isNamed o k) (sym n) ∙ m) (sym q))
 
       named : (n : Option ℕ) → nameOf list c ≡ n → recordOf (went .1) k ≡ recordOf t k
-      named none n = rw (single-stops list delay t sound c n)
+      named none n = rw (single-stops list delay c n .1 t sound)
       named (some j) n = placed j n (rowOf t j) refl
 
 -- a list of calls leaves a sound table, with the same numbers in the same rows

@@ -1,5 +1,6 @@
 -- What a call is by its single steps: its own, none, or a crew's single requests. Assumes nothing.
 use mathlib.Core.Path.{_≡_, refl, ap, _∙_, sym}
+use mathlib.Core.Logic.{⊎-elim}
 use mathlib.Core.Bool.{Bool, true, false, cond, _&&_}
 use mathlib.Core.Option.{Option, none, some}
 use mathlib.Core.List.{List, [], _∷_, map}
@@ -11,7 +12,7 @@ use Rattle.answers.specs.Begins.{begins}
 use Rattle.answers.specs.Checks.{_>>=_, onlyIf, anyHolds, decide}
 use Rattle.answers.specs.Leading.{each}
 use Rattle.answers.proofs.Tests.{no-path, and-left, and-right}
-use Rattle.answers.proofs.Checks.{not-some}
+use Rattle.answers.proofs.Checks.{not-some, bind-some}
 use Rattle.answers.proofs.Decide.{all-pass}
 use Rattle.packing.specs.Packing.{packed, unpacked}
 use Rattle.numbers.specs.declared.Msisdn.{Msisdn}
@@ -29,12 +30,15 @@ use Rattle.strings.proofs.Text.{sound-rules}
 use Rattle.strings.proofs.ReadBack.{read-only}
 use Rattle.strings.proofs.Octets.{request-reads}
 use Rattle.tables.specs.Tables.{tableSound, flagsOf}
-use Rattle.rules.specs.Answers.{Outcome, bufferRoom}
+use Rattle.rules.specs.Answers.{crewRegistered, crewErased, Outcome, bufferRoom}
 use Rattle.rules.specs.Requests.{isForced, hasFollowMe, refusalChecks, rightChecks, negative, saying}
 use Rattle.rules.specs.Crews.{withCode, memberOf, crewCodes, crewNumber, Walk, walked, setOut, crewOutcome, carriedOutFor, requesting}
-use Rattle.rules.specs.Calls.{Call, request, sending, result, Reply, replied, call, codesRead, codesOf, namesOne, singleCalls, stepsOf, steps}
+use Rattle.rules.specs.Frames.{framedChecks, Inside, insideOf, ownReply}
+use Rattle.rules.specs.Calls.{Call, request, framed, sending, result, Reply, replied, call, readOf, codesRead, codesOf, namesOne, singleCalls, stopsCrew, stepsOf, steps}
+use Rattle.rules.specs.Visits.{enveloped}
 use Rattle.rules.specs.Singles.{Roomy}
 use Rattle.rules.specs.Demand.{isCrewOutcome}
+use Rattle.rules.proofs.Inside.{turned, Wraps, itself, Opened, shut, carries, opened}
 use Rattle.rules.proofs.Visits.{by-stops, by-asks}
 use Rattle.rules.proofs.Crews.{Small, Shared, member-named, members-single, Walks, walks}
 use Rattle.rules.proofs.Single.{AllSingle}
@@ -48,8 +52,35 @@ own-step list (request requester scheme string reply) e = go (requestOf string) 
         → stepsOf list (request requester scheme string reply) ≡ request requester scheme string reply ∷ []
     go none r e = rw r refl
     go (some f) r e = rw (r, e) refl
+own-step list (framed requester message frame) e = by-inside (insideOf message) refl e
+  where
+    it : Call
+    it = framed requester message frame
+
+    by-read : (i : Inside) → insideOf message ≡ some i → (read : Option Request) → requestOf (i .string) ≡ read → codesRead read ≡ none → stepsOf list it ≡ it ∷ []
+    by-read i q none r e = rw (q, r) refl
+    by-read i q (some f) r e = rw (q, r, e) refl
+
+    by-inside : (inside : Option Inside) → insideOf message ≡ inside → codesRead (inside >>= λ i. requestOf (i .string)) ≡ none → stepsOf list it ≡ it ∷ []
+    by-inside none q e = rw q refl
+    by-inside (some i) q e = by-read i q (requestOf (i .string)) refl e
 own-step list (sending now number buffer) e = refl
 own-step list (result now number kind) e = refl
+
+-- a crew's request that its frame stops has none
+no-steps : (list : List ℕ) (requester : Msisdn) (message frame : List ℕ) {codes : List ℕ} → anyHolds (framedChecks true list frame message) ≡ true
+    → codesOf (framed requester message frame) ≡ some codes → stepsOf list (framed requester message frame) ≡ []
+no-steps list requester message frame {codes} h e = by-inside (insideOf message) refl e
+  where
+    by-read : (i : Inside) → insideOf message ≡ some i → (read : Option Request) → requestOf (i .string) ≡ read → codesRead read ≡ some codes
+        → stepsOf list (framed requester message frame) ≡ []
+    by-read i q none r e = not-some e
+    by-read i q (some f) r e = rw (h, q, r, e) refl
+
+    by-inside : (inside : Option Inside) → insideOf message ≡ inside → codesRead (inside >>= λ i. requestOf (i .string)) ≡ some codes
+        → stepsOf list (framed requester message frame) ≡ []
+    by-inside none q e = not-some e
+    by-inside (some i) q e = by-read i q (requestOf (i .string)) refl e
 
 -- where no call is a crew's, the single steps are the calls
 pub own-steps : (list : List ℕ) (cs : List Call) → AllSingle cs → steps list cs ≡ cs
@@ -96,15 +127,22 @@ passes-rights : (t reply : List ℕ) (flags : ℕ) (e : Erasing) (done : Outcome
     → decide (map (negative t reply) (rightChecks flags e)) done ≡ done
 passes-rights t reply flags e done h p = rw (h, p) refl
 
+-- what a call's string reads as was read from octets
+read-from : (c : Call) {f : Request} → readOf c ≡ some f → (string : List ℕ) × (requestOf string ≡ some f)
+read-from (request requester scheme string reply) e = (string, e)
+read-from (framed requester message frame) {f} e = bind-some (insideOf message) (λ i. requestOf (i .string)) e (λ i inside r. (i .string, r))
+read-from (sending now number buffer) e = not-some e
+read-from (result now number kind) e = not-some e
+
 -- a forced erasure is no crew's: a supervisor clears no crew
-pub forced-alone : (requester : Msisdn) (scheme : ℕ) (string reply : List ℕ) (f : Request) {named : Msisdn}
-    → requestOf string ≡ some f → f .erasing ≡ Forced named → codesOf (request requester scheme string reply) ≡ none
-forced-alone requester scheme string reply f {named} reads forces = rw reads (go (crewOf (f .additional)) refl)
+pub forced-alone : (c : Call) (f : Request) {named : Msisdn} → readOf c ≡ some f → f .erasing ≡ Forced named → codesOf c ≡ none
+forced-alone c f {named} reads forces = rw reads (go (crewOf (f .additional)) refl)
   where
     go : (codes : Option (List ℕ)) → crewOf (f .additional) ≡ codes → codes ≡ none
     go none e = refl
     go (some codes) e =
-        let plain = crew-plain f (read-only (unpacked string) (request-reads string reads .1) .0) e in
+        let (string, r) = read-from c reads in
+        let plain = crew-plain f (read-only (unpacked string) (request-reads string r .1) .0) e in
         no-path (sym (ap isForced plain) ∙ ap isForced forces)
 
 small-codes : (codes : List ℕ) → each isCode codes ≡ true → Small codes
@@ -164,7 +202,7 @@ module _ (list : List ℕ) (requester : Msisdn) (scheme : ℕ) (string reply : L
       ∙ ap (carriedOutFor t reply requester read) (g .crew)
 
   -- it is answered 11 or 12
-  pub goes-answered : (t : List ℕ) → tableSound t ≡ true → isCrewOutcome (requesting t list reply requester scheme string .answer) ≡ true
+  goes-answered : (t : List ℕ) → tableSound t ≡ true → isCrewOutcome (requesting t list reply requester scheme string .answer) ≡ true
   goes-answered t sound = ap (λ o. isCrewOutcome (o .answer)) (goes-walks t sound) ∙ by-operation (read .operation)
     where
       by-operation : (o : Operation) → isCrewOutcome (crewOutcome (crewNumber o) reply (walk t) .answer) ≡ true
@@ -178,47 +216,78 @@ module _ (list : List ℕ) (requester : Msisdn) (scheme : ℕ) (string reply : L
 pub data View (list : List ℕ) (delay : ℕ) : Call → Type 0 where
   own : (c : Call) → codesOf c ≡ none → stepsOf list c ≡ c ∷ [] → View list delay c
   stops : (c : Call) (r : Reply) → ((t : List ℕ) → tableSound t ≡ true → call list delay c t ≡ (r, t)) → stepsOf list c ≡ [] → View list delay c
-  goes : {requester : Msisdn} {scheme : ℕ} {string reply : List ℕ} (g : Goes list requester scheme string reply)
-      → stepsOf list (request requester scheme string reply) ≡ singleCalls requester scheme reply (g .fields) (g .codes)
-      → View list delay (request requester scheme string reply)
+  goes : {c : Call} {turn : Reply → Reply} {requester : Msisdn} {scheme : ℕ} {string reply : List ℕ} (g : Goes list requester scheme string reply)
+      → Wraps list delay turn c (request requester scheme string reply) → stepsOf list c ≡ singleCalls requester scheme reply (g .fields) (g .codes)
+      → View list delay c
 
-module _ (list : List ℕ) (delay : ℕ) (requester : Msisdn) (scheme : ℕ) (string reply : List ℕ) (f : Request) (codes : List ℕ)
-    (reads : requestOf string ≡ some f) (crew : crewOf (f .additional) ≡ some codes) where
-  abbrev it : Call
-  it = request requester scheme string reply
+-- of a request, bare or in its frame
+module _ (list : List ℕ) (delay : ℕ) (requester : Msisdn) (scheme : ℕ) (string reply : List ℕ) (c : Call) (turn : Reply → Reply)
+    (w : Wraps list delay turn c (request requester scheme string reply))
+    (crew-steps : (f : Request) (codes : List ℕ) → requestOf string ≡ some f → crewOf (f .additional) ≡ some codes
+    → stepsOf list c ≡ cond (stopsCrew list requester scheme string reply) [] (singleCalls requester scheme reply f codes)) where
+  module _ (f : Request) (codes : List ℕ) (reads : requestOf string ≡ some f) (crew : crewOf (f .additional) ≡ some codes) where
+    -- what is done where no check holds
+    abbrev done : List ℕ → Request → Outcome
+    done t h = carriedOutFor t reply requester h (crewOf (h .additional))
 
-  abbrev refused : Bool
-  refused = anyHolds (refusalChecks true list reply requester scheme string)
+    stays : (r : Reply) → ((t : List ℕ) → tableSound t ≡ true → call list delay (request requester scheme string reply) t ≡ (r, t))
+        → stopsCrew list requester scheme string reply ≡ true → View list delay c
+    stays r f′ p = stops c (turn r) (λ t sound. w .calls t sound ∙ ap (turned turn) (f′ t sound)) (crew-steps f codes reads crew ∙ rw p)
 
-  abbrev followed : Bool
-  followed = hasFollowMe (flagsOf list (requester .0))
+    crew-view : (a b : Bool) → anyHolds (refusalChecks true list reply requester scheme string) ≡ a → hasFollowMe (flagsOf list (requester .0)) ≡ b
+        → View list delay c
+    unfolding requesting
+    crew-view true b p q = stays _ (λ t sound. ap replied (by-stops list reply requester scheme string t sound (done t) p)) (rw p)
+    crew-view false false p q =
+        stays (replied (saying 42 [] reply) .0) (λ t sound. ap replied (by-asks list reply requester scheme string t sound (done t) f p reads ∙ rw q)) (rw (p, q))
+    crew-view false true p q =
+        goes (record { fields = f; codes = codes; reads = reads; crew = crew; passed = p; right = q }) w (crew-steps f codes reads crew ∙ rw (p, q))
 
-  crew-view : (a b : Bool) → refused ≡ a → followed ≡ b → View list delay it
-  unfolding requesting
-  crew-view true b p q =
-      stops it _ (λ t sound. ap replied (by-stops list reply requester scheme string t sound (λ h. carriedOutFor t reply requester h (crewOf (h .additional))) p))
-      (rw (p, reads, crew) refl)
-  crew-view false false p q =
-      stops it (replied (saying 42 [] reply) .0)
-      (λ t sound. ap replied (by-asks list reply requester scheme string t sound (λ h. carriedOutFor t reply requester h (crewOf (h .additional))) f p reads ∙ rw q))
-      (rw (p, q, reads, crew) refl)
-  crew-view false true p q = goes {requester = requester} {scheme = scheme} {string = string} {reply = reply} (record { fields = f; codes = codes; reads = reads; crew = crew; passed = p; right = q }) (rw (p, q, reads, crew) refl)
+  alone-view : codesRead (requestOf string) ≡ none → View list delay c
+  alone-view e = let alone : codesOf c ≡ none = ap codesRead (w .read) ∙ e in own c alone (own-step list c alone)
+
+  request-view : View list delay c
+  request-view = by-read (requestOf string) refl
+    where
+      by-codes : (f : Request) → requestOf string ≡ some f → (codes : Option (List ℕ)) → crewOf (f .additional) ≡ codes → View list delay c
+      by-codes f r none e = alone-view (rw r e)
+      by-codes f r (some codes) e =
+          crew-view f codes r e (anyHolds (refusalChecks true list reply requester scheme string)) (hasFollowMe (flagsOf list (requester .0))) refl refl
+
+      by-read : (read : Option Request) → requestOf string ≡ read → View list delay c
+      by-read none r = alone-view (rw r refl)
+      by-read (some f) r = by-codes f r (crewOf (f .additional)) refl
 
 pub view : (list : List ℕ) (delay : ℕ) (c : Call) → View list delay c
-view list delay (request requester scheme string reply) = by-read (requestOf string) refl
+view list delay (request requester scheme string reply) =
+    request-view list delay requester scheme string reply _ _ (itself list delay (request requester scheme string reply)) (λ f codes r e. rw (r, e) refl)
+view list delay (framed requester message frame) = go (opened list frame message requester delay)
   where
-    by-codes : (f : Request) → requestOf string ≡ some f → (codes : Option (List ℕ)) → crewOf (f .additional) ≡ codes
-        → View list delay (request requester scheme string reply)
-    by-codes f r none e = let alone : codesOf (request requester scheme string reply) ≡ none = rw (r, e) refl in own (request requester scheme string reply) alone (own-step list (request requester scheme string reply) alone)
-    by-codes f r (some codes) e =
-        crew-view list delay requester scheme string reply f codes r e (anyHolds (refusalChecks true list reply requester scheme string))
-        (hasFollowMe (flagsOf list (requester .0))) refl refl
+    it : Call
+    it = framed requester message frame
 
-    by-read : (read : Option Request) → requestOf string ≡ read → View list delay (request requester scheme string reply)
-    by-read none r = let alone : codesOf (request requester scheme string reply) ≡ none = rw r refl in own (request requester scheme string reply) alone (own-step list (request requester scheme string reply) alone)
-    by-read (some f) r = by-codes f r (crewOf (f .additional)) refl
+    -- one that its frame stops
+    stopped : (r : Reply) → ((t : List ℕ) → tableSound t ≡ true → call list delay it t ≡ (r, t)) → anyHolds (framedChecks true list frame message) ≡ true
+        → (codes : Option (List ℕ)) → codesOf it ≡ codes → View list delay it
+    stopped r f h none e = own it e (own-step list it e)
+    stopped r f h (some codes) e = stops it r f (no-steps list requester message frame h e)
+
+    go : Opened list frame message requester delay → View list delay it
+    go (shut r unsaid why nameless c s) =
+        ⊎-elim (λ h. stopped r c h (codesOf it) refl) (λ n. let alone : codesOf it ≡ none = rw n refl in own it alone (own-step list it alone)) why
+    go (carries i inside passes w) =
+        request-view list delay requester (i .scheme) (i .string) ownReply it (enveloped i frame) w (λ f codes r e. rw (passes, inside, r, e) refl)
 view list delay (sending now number buffer) = own (sending now number buffer) refl refl
 view list delay (result now number kind) = own (result now number kind) refl refl
+
+-- a crew's request that goes is answered 11 or 12, in its frame too
+pub goes-said : (list : List ℕ) (delay : ℕ) {c : Call} {turn : Reply → Reply} (requester : Msisdn) (scheme : ℕ) (string reply : List ℕ)
+    → Goes list requester scheme string reply → Wraps list delay turn c (request requester scheme string reply) → (t : List ℕ) → tableSound t ≡ true
+    → isCrewOutcome (call list delay c t .0 .answer) ≡ true
+goes-said list delay requester scheme string reply g w t sound =
+    let r = call list delay (request requester scheme string reply) t .0 in
+    ap (λ x. isCrewOutcome (x .0 .answer)) (w .calls t sound)
+    ∙ rw (w .outcomes r crewRegistered, w .outcomes r crewErased) (goes-answered list requester scheme string reply g t sound)
 
 -- ---- the single requests of a crew that goes
 

@@ -1,33 +1,33 @@
 -- The told: who is forced off a number is the addressee of every sending that succeeds, up to the result that clears the notice, and reads the number and the supervisor in it. Assumes nothing.
 use mathlib.Core.Path.{_≡_, refl, sym, ap, _∙_}
-use mathlib.Core.Bool.{true, false}
+use mathlib.Core.Bool.{Bool, true, false}
 use mathlib.Core.Option.{Option, some}
 use mathlib.Core.List.{List, [], _∷_}
 use Prim.Native.Nat.{ℕ, zero, suc}
 use native.Mathlib.Omega.{arith}
 use lib.ListN.{getElem?}
 use lib.Dec.{eqb}
+use Rattle.answers.proofs.Checks.{not-some}
 use Rattle.answers.proofs.Tests.{no-path, and-right}
 use Rattle.numbers.specs.declared.FunctionalNumber.{FunctionalNumber}
 use Rattle.numbers.specs.declared.Msisdn.{Msisdn}
 use Rattle.strings.specs.declared.Erasing.the-variants.{Forced}
 use Rattle.strings.specs.Text.{Request}
-use Rattle.strings.specs.Outcomes.{requestOf}
 use Rattle.records.specs.declared.Record.{Record}
 use Rattle.records.specs.Steps.{same, isAbsent}
 use Rattle.tables.specs.Tables.{recordOf}
 use Rattle.rules.specs.Answers.{isOutcome}
 use Rattle.rules.specs.Run.{log}
-use Rattle.rules.specs.Calls.{Call, Reply, request, sending, result, namesOne, call, steps}
+use Rattle.rules.specs.Calls.{Call, Reply, request, framed, sending, result, readOf, namesOne, call, steps}
 use Rattle.rules.specs.Visits.{Visited}
 use Rattle.rules.specs.Pending.{never, holdsOf, sendingDone, noticeCleared}
-use Rattle.rules.specs.Users.{telling}
+use Rattle.rules.specs.Users.{askerOf, telling}
 use Rattle.rules.proofs.Once.{single}
 use Rattle.rules.proofs.Single.{call-single, singles-log}
 use Rattle.rules.proofs.Steps.{forced-alone}
 use Rattle.rules.proofs.Calls.{all-steps-single}
 use Rattle.rules.proofs.Along.{Asked, negative, registration, erasure, own, forced, Does, asks, unsent, sends, untaken, clears, goes-on, Along, ends, passes, visits, along, answered-02, same-one, not-same, never-first}
-use Rattle.rules.proofs.NoticeEnds.{passed-unsent, still-pending}
+use Rattle.rules.proofs.NoticeEnds.{request-unsent, passed-unsent, still-pending}
 
 -- a notice to h from s is pending
 record Telling (h s : Msisdn) (r : Record) : Type 0 where
@@ -38,13 +38,14 @@ record Telling (h s : Msisdn) (r : Record) : Type 0 where
 -- the entry is a sending, and it tells h of s
 abbrev Tells : Msisdn → Msisdn → Call × Reply → Type 0
 Tells h s (request requester scheme string reply, a) = ⊥
+Tells h s (framed requester message frame, a) = ⊥
 Tells h s (sending now number buffer, a) = a ≡ telling number h s buffer
 Tells h s (result now number kind, a) = ⊥
 
 module _ (list : List ℕ) (k : ℕ) where
   -- a sending that succeeds tells the record's addressee of its supervisor
   sending-tells : {r : Record} {c : Call} {v : Visited} → Does list r c v → sendingDone k (c, v .reply) ≡ true → Tells (r .addressee) (r .supervisor) (c, v .reply)
-  sending-tells (asks d) u = no-path u
+  sending-tells {c = c} {v = v} (asks i d) u = no-path (sym (request-unsent k c (v .reply) i) ∙ u)
   sending-tells (unsent {number = number}) u = no-path (and-right (eqb (number .0) k) false u)
   sending-tells (sends w) u = refl
   sending-tells untaken u = no-path u
@@ -52,16 +53,25 @@ module _ (list : List ℕ) (k : ℕ) where
   sending-tells (goes-on p) u = no-path u
 
   -- a forced erasure naming h, by another, answered 02, leaves a notice to h from her
-  forced-tells : {r : Record} {h s : Msisdn} {scheme : ℕ} {string reply : List ℕ} {f : Request} {v : Visited} → Asked list r s scheme string reply v
-      → requestOf string ≡ some f → f .erasing ≡ Forced h → same h s ≡ false → isOutcome 2 (v .reply .answer) ≡ true → Telling h s (v .next)
-  forced-tells (negative p q) t e d u = no-path (sym q ∙ u)
+  forced-tells : {r next : Record} {h s : Msisdn} {read : Option Request} {one two : Bool} {f : Request} → Asked list r s read one two next
+      → read ≡ some f → f .erasing ≡ Forced h → same h s ≡ false → two ≡ true → Telling h s next
+  forced-tells negative t e d u = no-path u
   forced-tells (registration p q w) t e d u = no-path u
   forced-tells (erasure p q w m) t e d u = absurd (let z : _≡_ {A = ℕ} 0 1 = cc in omega arith)
-  forced-tells {r} {h} {s} (own {named = named} p q w m o) t e d u =
+  forced-tells {r} {h = h} (own {named = named} p q w m o) t e d u =
       let one : h ≡ r .holder = cc (same-one (r .holder) named m) in
       no-path (sym d ∙ rw one o)
-  forced-tells {r} {h} (forced {named = named} p q w m x y z) t e d u =
+  forced-tells {r} (forced {named = named} p q w m x y z) t e d u =
       record { pending = refl; addressee = cc (same-one (r .holder) named m); supervisor = refl }
+
+  call-tells : {r : Record} {c : Call} {v : Visited} {h : Msisdn} {f : Request} → Does list r c v → readOf c ≡ some f → f .erasing ≡ Forced h
+      → (askerOf c ≡ h → ⊥) → isOutcome 2 (v .reply .answer) ≡ true → Telling h (askerOf c) (v .next)
+  call-tells {c = c} {h = h} (asks i d) t e o u = forced-tells d t e (not-same h (askerOf c) (λ q. o (sym q))) u
+  call-tells unsent t e o u = not-some t
+  call-tells (sends w) t e o u = not-some t
+  call-tells untaken t e o u = not-some t
+  call-tells (clears q) t e o u = not-some t
+  call-tells (goes-on p) t e o u = not-some t
 
   module _ (h s : Msisdn) where
     told-along : {r : Record} {l : List (Call × Reply)} {p : Option Record} → Along list k (some r) l p → Telling h s r → never (noticeCleared k) l ≡ true
@@ -79,25 +89,26 @@ module _ (list : List ℕ) (k : ℕ) where
 
 -- ---- the told
 
--- s is not h, and asks for a forced erasure of k naming h, which is answered 02; then come any calls, none of them a result that clears k's notice
-module _ (list : List ℕ) (delay k : ℕ) (table : List ℕ) (h s : Msisdn) (scheme : ℕ) (string reply : List ℕ) (f : Request)
-    (named : namesOne list (request s scheme string reply) k ≡ true) (reads : requestOf string ≡ some f) (forces : f .erasing ≡ Forced h)
-    (other : s ≡ h → ⊥) (answered : isOutcome 2 ((call list delay (request s scheme string reply) table) .0 .answer) ≡ true) where
+-- a call c, framed or not, asks for a forced erasure of k naming h, and its requester is not h; it is answered 02; then come any calls, none of them a result that clears k's notice
+module _ (list : List ℕ) (delay k : ℕ) (table : List ℕ) (h : Msisdn) (c : Call) (f : Request)
+    (named : namesOne list c k ≡ true) (reads : readOf c ≡ some f) (forces : f .erasing ≡ Forced h)
+    (other : askerOf c ≡ h → ⊥) (answered : isOutcome 2 ((call list delay c table) .0 .answer) ≡ true) where
   abbrev after : List ℕ
-  after = (call list delay (request s scheme string reply) table) .1
+  after = (call list delay c table) .1
 
-  singly : call list delay (request s scheme string reply) table ≡ single list delay (request s scheme string reply) table
-  singly = call-single list delay (request s scheme string reply) table (forced-alone s scheme string reply f reads forces)
+  -- the supervisor
+  abbrev s : Msisdn
+  s = askerOf c
+
+  singly : call list delay c table ≡ single list delay c table
+  singly = call-single list delay c table (forced-alone c f reads forces)
 
   notified : (r : Record) × (recordOf after k ≡ some r) × Telling h s r
   notified =
-      let (r, v, d, e, u) = answered-02 (along list delay k (request s scheme string reply ∷ []) table) named (ap (λ x. isOutcome 2 (x .0 .answer)) (sym singly) ∙ answered) in
-      (v .next, ap (λ x. recordOf (x .1) k) singly ∙ e, by-asking d u)
-    where
-      by-asking : {r : Record} {v : Visited} → Does list r (request s scheme string reply) v → isOutcome 2 (v .reply .answer) ≡ true → Telling h s (v .next)
-      by-asking (asks d) u = forced-tells list k d reads forces (not-same h s (λ e. other (sym e))) u
+      let (r, v, d, e, u) = answered-02 (along list delay k (c ∷ []) table) named (ap (λ x. isOutcome 2 (x .0 .answer)) (sym singly) ∙ answered) in
+      (v .next, ap (λ x. recordOf (x .1) k) singly ∙ e, call-tells list k d reads forces other u)
 
-  -- every sending of k that succeeds tells h of s, whoever holds k meanwhile: among the single steps of the calls, a sending being its own
+  -- every sending of k that succeeds tells h of her, whoever holds k meanwhile: among the single steps of the calls, a sending being its own
   pub holder-is-told : (calls : List Call) → never (noticeCleared k) (log (call list delay) (steps list calls) after) ≡ true
       → (i now : ℕ) (number : FunctionalNumber) (buffer : List ℕ) (a : Reply)
       → getElem? (log (call list delay) (steps list calls) after) i ≡ some (sending now number buffer, a)

@@ -43,10 +43,12 @@ use Rattle.tables.proofs.Stored.{row-found}
 use Rattle.rules.specs.Answers.{Answer, refusal, error, delivered, dropped, again, Outcome, made, bufferRoom, refusing}
 use Rattle.rules.specs.Requests as requests
 use Rattle.rules.specs.Requests.{Stepping, comesTo, says}
+use Rattle.rules.specs.Frames.{ownReply}
 use Rattle.rules.specs.Notices as notices
-use Rattle.rules.specs.Calls.{Call, request, sending, result, replied, clockReading, numberRead, nameOf}
-use Rattle.rules.specs.Visits.{stepAt, tellAt, decidesAt, visited, storing, leaving, visitSaying, stepped, holderAnswered, erases, decides, decided, sentStep, resultStep, visitSending, visitResult, visitRequest, visit, replySaying, missedSending, missedResult, missedRequest, missed, stopped}
+use Rattle.rules.specs.Calls.{Call, request, framed, sending, result, Reply, replied, clockReading, numberRead, nameOf}
+use Rattle.rules.specs.Visits.{stepAt, tellAt, decidesAt, visited, storing, leaving, visitSaying, stepped, holderAnswered, erases, decides, decided, sentStep, resultStep, visitSending, visitResult, visitRequest, visit, replySaying, missedSending, missedResult, missedRequest, missed, enveloped}
 use Rattle.rules.proofs.Once.{requestingOnce, single}
+use Rattle.rules.proofs.Inside.{turned, Opened, shut, carries, opened}
 
 -- ---- the row of a number in a sound table
 
@@ -344,25 +346,62 @@ module _ (t : List ℕ) (number : FunctionalNumber) (kind clock : ℕ) (sound : 
 
 module _ (list : List ℕ) (delay : ℕ) (t : List ℕ) (sound : tableSound t ≡ true) where
   -- the number that the call names is in row i: that row's record decides
-  pub single-visits : (c : Call) (k i : ℕ) → nameOf list c ≡ some k → rowOf t k ≡ At i
-      → single list delay c t ≡ (visit list delay c (recordAt t i) .reply, stored t i (visit list delay c (recordAt t i) .next))
-  single-visits (request requester scheme string reply) k i n e =
+  abbrev VisitsAt : Call → ℕ → Type 0
+  VisitsAt c i = single list delay c t ≡ (visit list delay c (recordAt t i) .reply, stored t i (visit list delay c (recordAt t i) .next))
+
+  bare-visits : (requester : Msisdn) (scheme : ℕ) (string reply : List ℕ) (k i : ℕ) → nameOf list (request requester scheme string reply) ≡ some k
+      → rowOf t k ≡ At i → VisitsAt (request requester scheme string reply) i
+  bare-visits requester scheme string reply k i n e =
       let x = naming list reply requester scheme string k n in
       ap replied (request-visits list reply requester scheme string t sound (x .fields) (x .passed) (x .reads) i (rw (x .names) e) ∙ rw (x .reads))
+
+  pub single-visits : (c : Call) (k i : ℕ) → nameOf list c ≡ some k → rowOf t k ≡ At i → VisitsAt c i
+  single-visits (request requester scheme string reply) k i n e = bare-visits requester scheme string reply k i n e
+  single-visits (framed requester message frame) k i n e = go (opened list frame message requester delay)
+    where
+      go : Opened list frame message requester delay → VisitsAt (framed requester message frame) i
+      go (shut r unsaid why nameless c s) = not-some (sym nameless ∙ n)
+      go (carries j inside passes w) =
+          w .singles t sound ∙ ap (turned (enveloped j frame)) (bare-visits requester (j .scheme) (j .string) ownReply k i (sym (w .name) ∙ n) e) ∙ rw inside refl
   single-visits (sending now number buffer) k i n e = ap replied (sending-visits t buffer number delay (clockReading now) sound i (cc))
   single-visits (result now number kind) k i n e = ap replied (result-visits t number kind (clockReading now) sound i (cc))
 
   -- it is not in the table
-  pub single-misses : (c : Call) (k : ℕ) → nameOf list c ≡ some k → rowOf t k ≡ Nothing → single list delay c t ≡ (missed list c, t)
-  single-misses (request requester scheme string reply) k n e =
+  bare-misses : (requester : Msisdn) (scheme : ℕ) (string reply : List ℕ) (k : ℕ) → nameOf list (request requester scheme string reply) ≡ some k
+      → rowOf t k ≡ Nothing → single list delay (request requester scheme string reply) t ≡ (missed list (request requester scheme string reply), t)
+  bare-misses requester scheme string reply k n e =
       let x = naming list reply requester scheme string k n in
       ap replied (request-misses list reply requester scheme string t sound (x .fields) (x .passed) (x .reads) (rw (x .names) e) ∙ rw (x .reads))
+
+  pub single-misses : (c : Call) (k : ℕ) → nameOf list c ≡ some k → rowOf t k ≡ Nothing → single list delay c t ≡ (missed list c, t)
+  single-misses (request requester scheme string reply) k n e = bare-misses requester scheme string reply k n e
+  single-misses (framed requester message frame) k n e = go (opened list frame message requester delay)
+    where
+      go : Opened list frame message requester delay → single list delay (framed requester message frame) t ≡ (missed list (framed requester message frame), t)
+      go (shut r unsaid why nameless c s) = not-some (sym nameless ∙ n)
+      go (carries j inside passes w) =
+          w .singles t sound ∙ ap (turned (enveloped j frame)) (bare-misses requester (j .scheme) (j .string) ownReply k (sym (w .name) ∙ n) e) ∙ rw inside refl
   single-misses (sending now number buffer) k n e = ap replied (sending-misses t buffer number delay (clockReading now) sound (cc))
   single-misses (result now number kind) k n e = ap replied (result-misses t number kind (clockReading now) sound (cc))
 
-  -- the call names none
-  pub single-stops : (c : Call) → nameOf list c ≡ none → single list delay c t ≡ (stopped list c, t)
-  single-stops (request requester scheme string reply) n =
-      ap replied (request-stops list reply requester scheme string t sound (unnamed list reply requester scheme string n))
+-- the call names none: it gets the same over every sound table, which stays
+module _ (list : List ℕ) (delay : ℕ) where
+  abbrev Stops : Call → Type 0
+  Stops c = (r : Reply) × ((t : List ℕ) → tableSound t ≡ true → single list delay c t ≡ (r, t))
+
+  bare-stops : (requester : Msisdn) (scheme : ℕ) (string reply : List ℕ) → nameOf list (request requester scheme string reply) ≡ none
+      → Stops (request requester scheme string reply)
+  bare-stops requester scheme string reply n =
+      (_, λ t sound. ap replied (request-stops list reply requester scheme string t sound (unnamed list reply requester scheme string n)))
+
+  pub single-stops : (c : Call) → nameOf list c ≡ none → Stops c
+  single-stops (request requester scheme string reply) n = bare-stops requester scheme string reply n
+  single-stops (framed requester message frame) n = go (opened list frame message requester delay)
+    where
+      go : Opened list frame message requester delay → Stops (framed requester message frame)
+      go (shut r unsaid why nameless c s) = (r, s)
+      go (carries j inside passes w) =
+          let (r, stops) = bare-stops requester (j .scheme) (j .string) ownReply (sym (w .name) ∙ n) in
+          (enveloped j frame r, λ t sound. w .singles t sound ∙ ap (turned (enveloped j frame)) (stops t sound))
   single-stops (sending now number buffer) n = not-some (sym n)
   single-stops (result now number kind) n = not-some (sym n)

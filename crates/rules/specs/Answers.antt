@@ -10,14 +10,17 @@ use Rattle.numbers.specs.Numbers.{digitsOf, twoDigits}
 
 -- "Refusals, errors and outcomes are numbered apart"
 pub data Answer : Type 0 where
-  -- refusals 1 to 9
+  -- refusals 1 to 9, and 11
   refusal : ℕ → Answer
   -- errors 35, 36 and 71
   error : ℕ → Answer
-  -- an outcome by its number, with its octet count
+  -- an outcome by its number, with the octet count of its reply, or of the frame around that
   outcome : ℕ → ℕ → Answer
   -- outcome 03: the holder's MSISDN, with the octet count
   holderIs : ℕ → ℕ → Answer
+  -- a Return Error with its code, a Reject with its problem: in a frame, with the frame's octet count
+  returnError : ℕ → ℕ → Answer
+  reject : ℕ → ℕ → Answer
   -- a notice sent: its addressee, with the octet count
   sentTo : ℕ → ℕ → Answer
   -- what a result returns
@@ -49,6 +52,12 @@ foundClass = 6
 
 abbrev pub noneDueClass : ℕ
 noneDueClass = 7
+
+abbrev pub returnErrorClass : ℕ
+returnErrorClass = 9
+
+abbrev pub rejectClass : ℕ
+rejectClass = 10
 
 -- what a result returns
 abbrev pub deliveredNumber : ℕ
@@ -86,6 +95,8 @@ numbersOf (refusal n) = four refusalClass n 0 0
 numbersOf (error n) = four errorClass n 0 0
 numbersOf (outcome n octets) = four outcomeClass n octets 0
 numbersOf (holderIs msisdn octets) = four outcomeClass interrogationNumber octets msisdn
+numbersOf (returnError n octets) = four returnErrorClass n octets 0
+numbersOf (reject n octets) = four rejectClass n octets 0
 numbersOf (sentTo addressee octets) = four sentClass 0 octets addressee
 numbersOf delivered = four resultClass deliveredNumber 0 0
 numbersOf dropped = four resultClass droppedNumber 0 0
@@ -102,6 +113,13 @@ isRefusal a = isOf refusalClass a
 
 abbrev pub isError : Answer → Bool
 isError a = isOf errorClass a
+
+-- "Return Error and Reject fill the frame buffer"
+abbrev pub isReturnError : Answer → Bool
+isReturnError a = isOf returnErrorClass a
+
+abbrev pub isReject : Answer → Bool
+isReject a = isOf rejectClass a
 
 -- it is outcome n; outcomes 01 and 02 are not refusals 1 and 2
 abbrev pub isOutcome : ℕ → Answer → Bool
@@ -135,6 +153,10 @@ made a t b = record { answer = a; table = t; buffer = b }
 -- the reply and notice buffers: "under 80 octets" is refusal 1
 abbrev pub bufferRoom : ℕ
 bufferRoom = 80
+
+-- the longest reply, `11 10 `, ten codes and ` 0`, has 28 characters
+abbrev pub mostReplyOctets : ℕ
+mostReplyOctets = 25
 
 -- "Interrogation answers 03, and the MSISDN is written into the reply text after the code and the space"
 abbrev pub holderText : ℕ → List ℕ

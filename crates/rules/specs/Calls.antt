@@ -1,11 +1,11 @@
--- Requests, sendings and results as calls over one table, with one subscriber list and one delay; the numbers that a call names; and its single steps. Assumes nothing.
+-- Requests, framed ones, sendings and results as calls over one table, with one subscriber list and one delay; the numbers that a call names; and its single steps. Assumes nothing.
 use Prim.Native.Nat.{ℕ, _*_, _%_, _^_}
 use mathlib.Core.Bool.{Bool, true, false, cond, not, _||_}
 use mathlib.Core.Option.{Option, none, some}
 use mathlib.Core.List.{List, [], _∷_, _++_, map}
 use lib.ListN.{take, drop}
 use lib.Dec.{eqb}
-use Rattle.answers.specs.Checks.{anyHolds}
+use Rattle.answers.specs.Checks.{anyHolds, _>>=_}
 use Rattle.packing.specs.Packing.{packed}
 use Rattle.numbers.specs.declared.FunctionalNumber.{FunctionalNumber}
 use Rattle.numbers.specs.declared.Msisdn.{Msisdn}
@@ -19,12 +19,15 @@ use Rattle.tables.specs.Tables.{rowOf, flagsOf}
 use Rattle.rules.specs.Answers.{Answer, Outcome}
 use Rattle.rules.specs.Requests.{hasFollowMe, refusalChecks}
 use Rattle.rules.specs.Crews.{withCode, memberOf, crewCodes, requesting}
+use Rattle.rules.specs.Frames.{framedChecks, Inside, insideOf, ownReply, framedRequest}
 use Rattle.rules.specs.Notices as notices
 
 -- a call, with its own clock and buffer
 pub data Call : Type 0 where
   -- requester, data coding scheme, string, reply buffer
   request : Msisdn → ℕ → List ℕ → List ℕ → Call
+  -- requester, message, frame buffer
+  framed : Msisdn → List ℕ → List ℕ → Call
   -- now, functional number, buffer
   sending : ℕ → FunctionalNumber → List ℕ → Call
   -- now, functional number, kind
@@ -33,6 +36,7 @@ pub data Call : Type 0 where
 -- the buffer that a call is lent; a result is lent none
 abbrev pub bufferOf : Call → List ℕ
 bufferOf (request requester scheme string reply) = reply
+bufferOf (framed requester message frame) = frame
 bufferOf (sending now number buffer) = buffer
 bufferOf (result now number kind) = []
 
@@ -51,18 +55,32 @@ clockReading now = now % 2 ^ 32
 -- one call over the table
 abbrev pub call : List ℕ → ℕ → Call → List ℕ → Reply × List ℕ
 call list delay (request requester scheme string reply) table = replied (requesting table list reply requester scheme string)
+call list delay (framed requester message frame) table = replied (framedRequest table list frame requester message)
 call list delay (sending now number buffer) table = replied (notices.sendingNotice table buffer number delay (clockReading now))
 call list delay (result now number kind) table = replied (notices.takingResult table number kind (clockReading now))
+
+-- what the string of a request reads as; a framed one's stands inside it
+abbrev pub readOf : Call → Option Request
+readOf (request requester scheme string reply) = requestOf string
+readOf (framed requester message frame) = insideOf message >>= λ i. requestOf (i .string)
+readOf (sending now number buffer) = none
+readOf (result now number kind) = none
 
 abbrev pub numberRead : Option Request → Option ℕ
 numberRead none = none
 numberRead (some f) = some (f .number .0)
 
 -- "A request names the number in its string if the string reads; one refused before that names none."
--- The table is sound here, as it is before each call of demand 3's lists. A sending or a result names the number that it is given
-abbrev pub nameOf : List ℕ → Call → Option ℕ
-nameOf list (request requester scheme string reply) =
+-- The table is sound here, as it is before each call of demand 3's lists
+abbrev pub requestName : List ℕ → Msisdn → ℕ → List ℕ → List ℕ → Option ℕ
+requestName list requester scheme string reply =
     cond (anyHolds (refusalChecks true list reply requester scheme string)) none (numberRead (requestOf string))
+
+-- a framed request names what the request inside names; one that is refused or rejected has none inside. A sending or a result names the number that it is given
+abbrev pub nameOf : List ℕ → Call → Option ℕ
+nameOf list (request requester scheme string reply) = requestName list requester scheme string reply
+nameOf list (framed requester message frame) =
+    cond (anyHolds (framedChecks true list frame message)) none (insideOf message >>= λ i. requestName list requester (i .scheme) (i .string) ownReply)
 nameOf list (sending now number buffer) = some (number .0)
 nameOf list (result now number kind) = some (number .0)
 
@@ -82,9 +100,7 @@ codesRead none = none
 codesRead (some f) = crewOf (f .additional)
 
 abbrev pub codesOf : Call → Option (List ℕ)
-codesOf (request requester scheme string reply) = codesRead (requestOf string)
-codesOf (sending now number buffer) = none
-codesOf (result now number kind) = none
+codesOf c = codesRead (readOf c)
 
 -- "In demand 3 such a call names all its numbers"; any other names one at most
 abbrev pub allNamed : Option ℕ → Option (List ℕ) → List ℕ
@@ -108,11 +124,22 @@ abbrev pub stepsRead : Call → Bool → Msisdn → ℕ → List ℕ → Option 
 stepsRead c stops requester scheme reply none = c ∷ []
 stepsRead c stops requester scheme reply (some f) = stepsFor c stops requester scheme reply f (crewOf (f .additional))
 
+-- a crew's request has no step
+abbrev pub stopsCrew : List ℕ → Msisdn → ℕ → List ℕ → List ℕ → Bool
+stopsCrew list requester scheme string reply =
+    anyHolds (refusalChecks true list reply requester scheme string) || not (hasFollowMe (flagsOf list (requester .0)))
+
+-- a framed crew's request has the steps of the request inside
+abbrev pub stepsInside : List ℕ → Call → Bool → Msisdn → Option Inside → List Call
+stepsInside list c refused requester none = c ∷ []
+stepsInside list c refused requester (some i) =
+    stepsRead c (refused || stopsCrew list requester (i .scheme) (i .string) ownReply) requester (i .scheme) ownReply (requestOf (i .string))
+
 abbrev pub stepsOf : List ℕ → Call → List Call
 stepsOf list (request requester scheme string reply) =
-    stepsRead (request requester scheme string reply)
-    (anyHolds (refusalChecks true list reply requester scheme string) || not (hasFollowMe (flagsOf list (requester .0))))
-    requester scheme reply (requestOf string)
+    stepsRead (request requester scheme string reply) (stopsCrew list requester scheme string reply) requester scheme reply (requestOf string)
+stepsOf list (framed requester message frame) =
+    stepsInside list (framed requester message frame) (anyHolds (framedChecks true list frame message)) requester (insideOf message)
 stepsOf list (sending now number buffer) = sending now number buffer ∷ []
 stepsOf list (result now number kind) = result now number kind ∷ []
 

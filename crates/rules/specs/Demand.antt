@@ -5,20 +5,26 @@ use mathlib.Core.Option.{Option, none, some}
 use mathlib.Core.List.{List, [], _∷_, _++_}
 use Prim.Native.Nat.{ℕ, _<_}
 use lib.ListN.{length, getElem?}
+use Rattle.answers.specs.Writing.{over}
+use Rattle.packing.specs.Packing.{packed}
 use Rattle.numbers.specs.Numbers.{twoDigits}
 use Rattle.strings.specs.Text.{Request}
-use Rattle.strings.specs.Outcomes.{requestOf}
+use Rattle.frames.specs.Components.{Component}
+use Rattle.frames.specs.Components as components
+use Rattle.frames.specs.Messages.{Register, registerOf}
 use Rattle.tables.specs.Tables.{tableSound, recordOf}
-use Rattle.rules.specs.Answers.{Answer, numbersOf, outcomeClass, crewRegistered, crewErased, isOf, isRefusal, isError, isOutcome, isNegative, packedOver}
+use Rattle.rules.specs.Answers.{Answer, numbersOf, outcomeClass, crewRegistered, crewErased, isOf, isRefusal, isError, isReturnError, isReject, isOutcome, isNegative}
 use Rattle.rules.specs.Requests.{isRegister, holderIn}
+use Rattle.rules.specs.Frames.{released}
 use Rattle.rules.specs.Run.{only, last, end, log, Rearranged}
-use Rattle.rules.specs.Calls.{Call, request, sending, result, bufferOf, Reply, call, nameOf, namesOne, codesOf, names, stepsOf, steps, alone}
+use Rattle.rules.specs.Calls.{Call, request, framed, sending, result, bufferOf, Reply, call, readOf, nameOf, namesOne, codesOf, names, stepsOf, steps, alone}
 
 -- ---- who holds a number
 
 -- the requester of a call; nobody requests a sending or a result
 abbrev pub requesterOf : Call → ℕ
 requesterOf (request requester scheme string reply) = requester .0
+requesterOf (framed requester message frame) = requester .0
 requesterOf (sending now number buffer) = 0
 requesterOf (result now number kind) = 0
 
@@ -35,15 +41,13 @@ holderAfter (some p) start = cond (isOutcome 1 (p .1 .answer)) (requesterOf (p .
 abbrev pub holderOf : List ℕ → ℕ → ℕ
 holderOf table k = holderIn (recordOf table k) .0
 
--- the call is a request whose string reads as a registration
+-- the call is a request, framed or not, whose string reads as a registration
 abbrev pub registersAs : Option Request → Bool
 registersAs none = false
 registersAs (some f) = isRegister (f .operation)
 
 abbrev pub registers : Call → Bool
-registers (request requester scheme string reply) = registersAs (requestOf string)
-registers (sending now number buffer) = false
-registers (result now number kind) = false
+registers c = registersAs (readOf c)
 
 -- ---- demand 1
 
@@ -55,6 +59,24 @@ isCrewOutcome a = isOutcome crewRegistered a || isOutcome crewErased a
 abbrev pub mayChange : Answer → Bool
 mayChange a = isOutcome 1 a || isOutcome 2 a || isCrewOutcome a
 
+-- a Release Complete over the front of a framed call's buffer, by its component; any other call's buffer stays
+abbrev pub releasedTo : List ℕ → (ℕ → Component) → Option Register → List ℕ
+releasedTo frame answer none = frame
+releasedTo frame answer (some r) = released (r .first) frame (answer (r .number))
+
+abbrev pub releaseOver : Call → (ℕ → Component) → List ℕ
+releaseOver (request requester scheme string reply) answer = reply
+releaseOver (framed requester message frame) answer = releasedTo frame answer (registerOf message)
+releaseOver (sending now number buffer) answer = buffer
+releaseOver (result now number kind) answer = []
+
+-- a packed string over the front of the buffer; of a framed call, in a Return Result
+abbrev pub replyOver : Call → List ℕ → List ℕ
+replyOver (request requester scheme string reply) octets = over octets reply
+replyOver (framed requester message frame) octets = releaseOver (framed requester message frame) (λ number. components.result number octets)
+replyOver (sending now number buffer) octets = over octets buffer
+replyOver (result now number kind) octets = []
+
 module _ (list : List ℕ) (delay : ℕ) (c : Call) (table : List ℕ) where
   abbrev got : Reply
   got = call list delay c table .0
@@ -62,13 +84,20 @@ module _ (list : List ℕ) (delay : ℕ) (c : Call) (table : List ℕ) where
   abbrev after : List ℕ
   after = call list delay c table .1
 
-  -- of any request, sending or result, on any words and octets. A finding has an answer and nothing else: it is lent nothing that it may change
+  -- of any request, framed or not, sending or result, on any words and octets. A finding has an answer and nothing else: it is lent nothing that it may change
   pub record Demand1 : Type 0 where
     -- each refusal and each error changes no table and no buffer
     pub refused : (isRefusal (got .answer) || isError (got .answer)) ≡ true → (after ≡ table) × (got .buffer ≡ bufferOf c)
     -- a negative outcome writes its two characters and changes no table
     pub negative :
-        isNegative (got .answer) ≡ true → (after ≡ table) × (got .buffer ≡ packedOver (twoDigits (numbersOf (got .answer) .number)) (bufferOf c))
+        isNegative (got .answer) ≡ true → (after ≡ table) × (got .buffer ≡ replyOver c (packed (twoDigits (numbersOf (got .answer) .number))))
+    -- "Return Error and Reject fill the frame buffer, demand 1's one exception, and change no table"
+    pub returned-error :
+        isReturnError (got .answer) ≡ true
+        → (after ≡ table) × (got .buffer ≡ releaseOver c (λ number. components.error number (numbersOf (got .answer) .number)))
+    pub rejected :
+        isReject (got .answer) ≡ true
+        → (after ≡ table) × (got .buffer ≡ releaseOver c (λ number. components.reject number (numbersOf (got .answer) .number)))
     -- "outcomes other than a changing 01 or 02 leave the table"
     pub others : codesOf c ≡ none → isOf outcomeClass (got .answer) ≡ true → (isOutcome 1 (got .answer) || isOutcome 2 (got .answer)) ≡ false → after ≡ table
     -- of a crew's request each step is read as a call: it is answered 11 or 12, and its steps leave the table; or it has no step, and the table stays
@@ -77,7 +106,7 @@ module _ (list : List ℕ) (delay : ℕ) (c : Call) (table : List ℕ) where
     -- 01 is "no change if already so": a holder who registers again changes nothing
     pub registered-again : (k : ℕ) → nameOf list c ≡ some k → codesOf c ≡ none → registers c ≡ true → holderOf table k ≡ requesterOf c → after ≡ table
 
--- ---- demand 3: for one sound table, list and permitted delay, any list of requests, sendings and results, each with its own clock and buffer
+-- ---- demand 3: for one sound table, list and permitted delay, any list of requests, framed or not, sendings and results, each with its own clock and buffer
 
 -- the steps that name k, and what steps that name k got, in their order
 abbrev pub callsOf : List ℕ → ℕ → List Call → List Call

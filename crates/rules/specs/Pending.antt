@@ -10,7 +10,7 @@ use Rattle.records.specs.declared.Notice.{Notice}
 use Rattle.tables.specs.Tables.{recordOf}
 use Rattle.rules.specs.Answers.{isRefusal, isSent, isClearing}
 use Rattle.rules.specs.Notices.{noticeIn}
-use Rattle.rules.specs.Calls.{Call, request, sending, result, Reply}
+use Rattle.rules.specs.Calls.{Call, request, framed, sending, result, Reply}
 
 -- the notice that a table keeps for the number k: none, as at phase 0, where k is not in it
 abbrev pub noticeFor : List ℕ → ℕ → Notice
@@ -38,12 +38,14 @@ module _ {X : Type 0} where
 -- a sending of the number k
 abbrev pub isSendingOf : ℕ → Call → Bool
 isSendingOf k (request requester scheme string reply) = false
+isSendingOf k (framed requester message frame) = false
 isSendingOf k (sending now number buffer) = eqb (number .0) k
 isSendingOf k (result now number kind) = false
 
 -- a result that names the number k
 abbrev pub isResultOf : ℕ → Call → Bool
 isResultOf k (request requester scheme string reply) = false
+isResultOf k (framed requester message frame) = false
 isResultOf k (sending now number buffer) = false
 isResultOf k (result now number kind) = eqb (number .0) k
 

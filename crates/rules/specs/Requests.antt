@@ -12,7 +12,7 @@ use Rattle.strings.specs.declared.Operation.{Operation}
 use Rattle.strings.specs.declared.Operation.the-variants.{Register, Erase, Interrogate}
 use Rattle.strings.specs.declared.Erasing.{Erasing}
 use Rattle.strings.specs.declared.Erasing.the-variants.{Empty, Forced}
-use Rattle.strings.specs.Text.{Request}
+use Rattle.strings.specs.Text.{Request, codingScheme}
 use Rattle.strings.specs.Outcomes.{requestOf}
 use Rattle.records.specs.declared.Record.{Record}
 use Rattle.records.specs.Steps.{nobody, isNobody, same, heldBy, forcedOff, isAbsent}
@@ -70,10 +70,6 @@ noNotice (some r) = isAbsent (r .notice)
 -- an outcome's answer, with its text in the reply
 abbrev pub saying : ℕ → List ℕ → List ℕ → Outcome
 saying n table reply = made (outcome n (octetCount (twoDigits n))) table (packedOver (twoDigits n) reply)
-
--- the data coding scheme
-abbrev pub codingScheme : ℕ
-codingScheme = 0x0F
 
 -- "over 160 octets"
 abbrev pub mostStringOctets : ℕ

@@ -11,13 +11,13 @@ use Rattle.numbers.specs.declared.FunctionalNumber.{FunctionalNumber}
 use Rattle.numbers.specs.declared.Msisdn.{Msisdn}
 use Rattle.strings.specs.declared.Erasing.{Erasing}
 use Rattle.strings.specs.declared.Erasing.the-variants.{Empty, Forced}
-use Rattle.strings.specs.Text.{Request, textOf, noticeFields}
+use Rattle.strings.specs.Text.{Request, textOf, noticeFields, codingScheme}
 use Rattle.strings.specs.Outcomes.{requestOf}
 use Rattle.records.specs.Steps.{same}
 use Rattle.tables.specs.Tables.{recordOf, listSound, flagsOf}
 use Rattle.rules.specs.Answers.{sentTo, isOutcome, bufferRoom, packedOver, octetCount}
-use Rattle.rules.specs.Requests.{isErase, noNotice, codingScheme, mostStringOctets}
-use Rattle.rules.specs.Calls.{Call, request, sending, result, Reply, namesOne}
+use Rattle.rules.specs.Requests.{isErase, noNotice, mostStringOctets}
+use Rattle.rules.specs.Calls.{Call, request, framed, sending, result, Reply, readOf, namesOne}
 use Rattle.rules.specs.Demand.{registers, requesterOf, holderOf}
 
 -- ---- the driver
@@ -25,6 +25,10 @@ use Rattle.rules.specs.Demand.{registers, requesterOf, holderOf}
 -- flags 3: "1 has Follow Me, 2 supervisor"
 abbrev pub bothFlags : ℕ
 bothFlags = 3
+
+-- who asks: a call's requester
+abbrev pub askerOf : Call → Msisdn
+askerOf c = record { 0 = requesterOf c }
 
 -- an erasure that may end the hold of h: plain, by h; or forced, naming h exactly, by h herself or by a requester with flags 3 at phase 0
 abbrev pub erasesHold : Msisdn → Bool → Msisdn → ℕ → Erasing → Bool
@@ -35,14 +39,14 @@ abbrev pub erasesHoldIn : Msisdn → Bool → Msisdn → ℕ → Option Request 
 erasesHoldIn h phase0 requester flags none = false
 erasesHoldIn h phase0 requester flags (some f) = isErase (f .operation) && erasesHold h phase0 requester flags (f .erasing)
 
--- the call is a request whose string reads as such an erasure
+-- the call is a request, framed or not, whose string reads as such an erasure
 abbrev pub mayEndHold : List ℕ → Msisdn → Bool → Call → Bool
-mayEndHold list h phase0 (request requester scheme string reply) = erasesHoldIn h phase0 requester (flagsOf list (requester .0)) (requestOf string)
-mayEndHold list h phase0 (sending now number buffer) = false
-mayEndHold list h phase0 (result now number kind) = false
+mayEndHold list h phase0 c = erasesHoldIn h phase0 (askerOf c) (flagsOf list (requesterOf c)) (readOf c)
 
+-- a request, framed or not
 abbrev pub isRequest : Call → Bool
 isRequest (request requester scheme string reply) = true
+isRequest (framed requester message frame) = true
 isRequest (sending now number buffer) = false
 isRequest (result now number kind) = false
 

@@ -1,6 +1,6 @@
 -- A helper: a second form of the rules, for the theorems and the code, proved equal to `Requests` and `Notices` (proofs/Visits). Once a request's string reads, and for every sending and result, a single call visits the record of one number, and a step of that record decides. Assumes nothing.
 use Prim.Native.Nat.{ℕ}
-use mathlib.Core.Bool.{true, not, _&&_}
+use mathlib.Core.Bool.{not, _&&_}
 use mathlib.Core.Option.{Option, none, some}
 use mathlib.Core.List.{List, [], _∷_}
 use lib.ListN.{length}
@@ -28,8 +28,9 @@ use Rattle.records.specs.Steps as steps
 use Rattle.rows.specs.Rows.{recordAt, stored}
 use Rattle.tables.specs.Tables.{flagsOf}
 use Rattle.rules.specs.Answers.{Answer, refusal, error, outcome, holderIs, sentTo, delivered, dropped, again, Outcome, made, bufferRoom, holderText, packedOver, octetCount}
-use Rattle.rules.specs.Requests.{hasFollowMe, isSupervisor, isForced, refusalChecks, Stepping, comesTo, says, tells}
-use Rattle.rules.specs.Calls.{Call, request, sending, result, Reply, clockReading}
+use Rattle.rules.specs.Requests.{hasFollowMe, isSupervisor, isForced, Stepping, comesTo, says, tells}
+use Rattle.rules.specs.Frames.{answeredIn, Inside, insideOf, ownReply}
+use Rattle.rules.specs.Calls.{Call, request, framed, sending, result, Reply, replied, clockReading}
 
 -- what a call gets, and the record that it leaves
 pub record Visited : Type 0 where
@@ -121,9 +122,19 @@ visitRequest flags requester reply (some f) r =
     decide ((not (hasFollowMe flags), visitSaying 42 reply r) ∷ (isForced (f .erasing) && not (isSupervisor flags), visitSaying 22 reply r) ∷ [])
     (decided f requester reply r)
 
+-- what the request inside gets, in its frame; a message without one names no number
+abbrev pub enveloped : Inside → List ℕ → Reply → Reply
+enveloped i frame r = replied (answeredIn (i .first) (i .number) frame [] (r .buffer) (r .answer)) .0
+
+abbrev pub visitInside : ℕ → Msisdn → List ℕ → Option Inside → Record → Visited
+visitInside flags requester frame none r = visited (refusal 11) frame r
+visitInside flags requester frame (some i) r =
+    let v = visitRequest flags requester ownReply (requestOf (i .string)) r in record { reply = enveloped i frame (v .reply); next = v .next }
+
 -- what a call that names a number makes of that number's record
 abbrev pub visit : List ℕ → ℕ → Call → Record → Visited
 visit list delay (request requester scheme string reply) r = visitRequest (flagsOf list (requester .0)) requester reply (requestOf string) r
+visit list delay (framed requester message frame) r = visitInside (flagsOf list (requester .0)) requester frame (insideOf message) r
 visit list delay (sending now number buffer) r = visitSending delay (clockReading now) number buffer r
 visit list delay (result now number kind) r = visitResult kind (clockReading now) r
 
@@ -137,6 +148,10 @@ missedRequest flags reply none = record { answer = error 36; buffer = reply }
 missedRequest flags reply (some f) =
     decide ((not (hasFollowMe flags), replySaying 42 reply) ∷ (isForced (f .erasing) && not (isSupervisor flags), replySaying 22 reply) ∷ []) (replySaying 41 reply)
 
+abbrev pub missedInside : ℕ → List ℕ → Option Inside → Reply
+missedInside flags frame none = record { answer = refusal 11; buffer = frame }
+missedInside flags frame (some i) = enveloped i frame (missedRequest flags ownReply (requestOf (i .string)))
+
 abbrev pub missedSending : List ℕ → Reply
 missedSending buffer =
     decide ((ltb (length buffer) bufferRoom, record { answer = refusal 1; buffer = buffer }) ∷ []) (record { answer = refusal 7; buffer = buffer })
@@ -146,13 +161,6 @@ missedResult = record { answer = refusal 7; buffer = [] }
 
 abbrev pub missed : List ℕ → Call → Reply
 missed list (request requester scheme string reply) = missedRequest (flagsOf list (requester .0)) reply (requestOf string)
+missed list (framed requester message frame) = missedInside (flagsOf list (requester .0)) frame (insideOf message)
 missed list (sending now number buffer) = missedSending buffer
 missed list (result now number kind) = missedResult
-
--- ---- a request that names none: its refusal or error, and the buffer as it was
-
-abbrev pub stopped : List ℕ → Call → Reply
-stopped list (request requester scheme string reply) =
-    record { answer = decide (refusalChecks true list reply requester scheme string) (error 36); buffer = reply }
-stopped list (sending now number buffer) = record { answer = refusal 7; buffer = buffer }
-stopped list (result now number kind) = record { answer = refusal 7; buffer = [] }

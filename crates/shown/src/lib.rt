@@ -1,12 +1,17 @@
 // The calls by their words and octets, and what they answer, as text.
+mod framed;
 mod made;
 
 use answers::Written;
 use crews::Crew;
 pub use made::FINDING;
+pub use made::FRAMED;
 pub use made::NUMBER;
 pub use made::PACK;
 pub use made::READ;
+pub use made::REGISTER;
+pub use made::REGISTERED;
+pub use made::RELEASED;
 pub use made::REQUEST;
 pub use made::RESULT;
 pub use made::SENDING;
@@ -14,9 +19,9 @@ pub use made::TWO_TO_THE_8;
 pub use made::TWO_TO_THE_32;
 pub use made::UNPACK;
 pub use made::WRITE;
-pub use made::fills_buffer;
+use made::fills_buffer;
 pub use made::low_8;
-pub use made::make_call;
+use made::make_call;
 pub use made::shows_table;
 use strings::Erasing;
 use strings::Fields;
@@ -27,6 +32,11 @@ use visits::FindingAnswer;
 use visits::RequestAnswer;
 use visits::ResultAnswer;
 use visits::SendingAnswer;
+ghost use mathlib.Core.Path.{_≡_};
+ghost use lib.ListN.{length};
+
+// Room for the buffer that a call is lent.
+pub const BUFFER: usize = 512;
 
 // The place of each form among those that `put` has.
 const REFUSED: usize = 0;
@@ -57,6 +67,18 @@ const NO_NUMBER: usize = 12;
 
 const NOTHING: usize = 13;
 
+const RETURN_ERROR: usize = 14;
+
+const REJECT: usize = 15;
+
+const A_REQUEST: usize = 16;
+
+const A_RESULT: usize = 17;
+
+const AN_ERROR: usize = 18;
+
+const A_PROBLEM: usize = 19;
+
 pub struct Said {
     pub form: usize,
     pub values: [u64; VALUES],
@@ -70,7 +92,7 @@ fn wide(n: u8) -> u64 {
 fn plain(form: usize, value: u64) -> Said {
     Said {
         form,
-        values: [value, 0, 0, 0],
+        values: [value, 0, 0, 0, 0],
         count: 0,
     }
 }
@@ -79,7 +101,7 @@ fn plain(form: usize, value: u64) -> Said {
 fn counted(form: usize, value: u64, count: usize) -> Said {
     Said {
         form,
-        values: [value, count as u64, 0, 0],
+        values: [value, count as u64, 0, 0, 0],
         count,
     }
 }
@@ -88,7 +110,7 @@ fn counted(form: usize, value: u64, count: usize) -> Said {
 fn outcome(n: u8, count: usize) -> Said {
     Said {
         form: OUTCOME,
-        values: [wide(n / 10), wide(n % 10), count as u64, 0],
+        values: [wide(n / 10), wide(n % 10), count as u64, 0, 0],
         count,
     }
 }
@@ -141,19 +163,13 @@ pub fn of_number(is_number: bool) -> Said {
     plain(NO_NUMBER, 0)
 }
 
-pub fn nothing() -> Said {
-    plain(NOTHING, 0)
-}
-
-pub fn put(out: &mut [u8], at: usize, said: Said) -> usize {
+fn put(said: Said) {
     let values = said.values;
     texts::put_form(
-        out,
-        at,
-        b"refused %;error %;outcome %%, % octets;outcome 03, holder %, % octets;sent to %, % octets;delivered;dropped;again;due %;none due;%;a number;no number;;",
+        b"refused %;error %;outcome %%, % octets;outcome 03, holder %, % octets;sent to %, % octets;delivered;dropped;again;due %;none due;%;a number;no number;;return error %, % octets;reject %, % octets;first %, invoke %, scheme %, string from %, % octets;first %, invoke %, result from %, % octets;first %, invoke %, error %;first %, invoke %, problem %;",
         said.form,
         &values,
-    )
+    );
 }
 
 // ---- the fields of a request
@@ -176,13 +192,13 @@ fn others_of(fields: Fields) -> Said {
         Erasing::Empty => counted(3, start, fields.count),
         Erasing::Forced(msisdn) => Said {
             form: 4,
-            values: [msisdn.0, start, fields.count as u64, 0],
+            values: [msisdn.0, start, fields.count as u64, 0, 0],
             count: fields.count,
         },
     }
 }
 
-// What ends the line: how many codes a crew has besides the lead's.
+// The last of them: how many codes a crew has besides the lead's.
 fn crew_of(fields: Fields) -> Said {
     let crew = fields.crew;
     match crew {
@@ -192,32 +208,90 @@ fn crew_of(fields: Fields) -> Said {
     }
 }
 
-fn put_field(out: &mut [u8], at: usize, said: Said) -> usize {
+fn put_field(said: Said) {
     let values = said.values;
     texts::put_form(
-        out,
-        at,
-        b"register, number %;erase, number %;interrogate, number %;, MSISDN none, additional from %, % characters ';, MSISDN %, additional from %, % characters ';'\n;', of a crew, codes %\n;",
+        b"register, number %;erase, number %;interrogate, number %;, MSISDN none, additional from %, % characters ';, MSISDN %, additional from %, % characters ';';', of a crew, codes %;",
         said.form,
         &values,
-    )
+    );
 }
 
-fn put_fields(out: &mut [u8], at: usize, fields: Fields, text: &[u8]) -> usize {
-    let at = put_field(out, at, operation_of(fields));
-    let at = put_field(out, at, others_of(fields));
+fn put_fields(fields: Fields, text: &[u8]) {
+    put_field(operation_of(fields));
+    put_field(others_of(fields));
     let end = std::num::wrapping_add_usize(fields.start, fields.count);
-    let at = texts::put_part(out, at, text, fields.start, end);
-    put_field(out, at, crew_of(fields))
+    texts::put_part(text, fields.start, end);
+    put_field(crew_of(fields));
 }
 
-// Writes what a request's string reads as.
-pub fn put_reading(out: &mut [u8], at: usize, octets: &[u8]) -> usize {
+// Prints what a request's string reads as.
+fn put_reading(octets: &[u8]) {
     let read = strings::read_request(octets);
     let reading = read.reading;
     let text = read.text;
     let Reading::Read(fields) = reading else {
-        return texts::put(out, at, b"error 36\n");
+        texts::put(b"error 36");
+        return;
     };
-    put_fields(out, at, fields, &text)
+    put_fields(fields, &text);
+}
+
+// A string that is printed as it is read: nothing is left to say.
+fn read(octets: &[u8]) -> Said {
+    put_reading(octets);
+    plain(NOTHING, 0)
+}
+
+// ---- a call shown
+
+fn filled(filling: u8) -> [u8; BUFFER]
+    ensures { λ r. ⌜ 512 ≡ length r ⌝ }
+{
+    [filling; BUFFER]
+}
+
+// Prints what a call answered and wrote.
+fn put_answer(call: usize, said: Said, buffer: &[u8], filling: u8) {
+    put(said);
+    if fills_buffer(call) {
+        texts::put_octets(buffer, said.count, filling);
+    }
+}
+
+// Makes a call, and prints what it answers and writes.
+fn show_on(
+    call: usize,
+    fields: texts::Fields,
+    octets: &[u8],
+    table: &mut [u64],
+    list: &[u64],
+    buffer: &mut [u8],
+    filling: u8,
+) {
+    let said = make_call(call, fields, octets, table, list, buffer);
+    put_answer(call, said, buffer, filling);
+}
+
+// The same on a filled buffer.
+pub fn show_call(
+    call: usize,
+    fields: texts::Fields,
+    octets: &[u8],
+    table: &mut [u64],
+    list: &[u64],
+    room: usize,
+    filling: u8,
+) {
+    let mut buffer = filled(filling);
+    let room = streams::within(room, &buffer);
+    show_on(
+        call,
+        fields,
+        octets,
+        table,
+        list,
+        &mut buffer[..room],
+        filling,
+    );
 }

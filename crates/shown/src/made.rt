@@ -1,5 +1,6 @@
 // The calls, each with the words of its line, a tail's octets and what it is lent.
 use crate::Said;
+use crate::framed;
 use numbers::FunctionalNumber;
 use numbers::Msisdn;
 use strings::Erasing;
@@ -16,17 +17,25 @@ pub const RESULT: usize = 9;
 
 pub const FINDING: usize = 10;
 
-pub const PACK: usize = 11;
+pub const FRAMED: usize = 11;
 
-pub const UNPACK: usize = 12;
+pub const PACK: usize = 12;
 
-pub const WRITE: usize = 13;
+pub const UNPACK: usize = 13;
 
-pub const READ: usize = 14;
+pub const WRITE: usize = 14;
 
-pub const NUMBER: usize = 15;
+pub const READ: usize = 15;
 
-// Delays, clocks and kinds have 32 bits, coding schemes and fillings 8.
+pub const NUMBER: usize = 16;
+
+pub const REGISTER: usize = 17;
+
+pub const REGISTERED: usize = 18;
+
+pub const RELEASED: usize = 19;
+
+// Delays, clocks and kinds have 32 bits; coding schemes, fillings, transaction identifiers and invoke numbers 8.
 pub const TWO_TO_THE_32: u64 = 4_294_967_296;
 
 pub const TWO_TO_THE_8: u64 = 256;
@@ -42,19 +51,19 @@ pub fn low_8(word: u64) -> u8 {
 // The calls that write into the buffer, and those that show the table.
 pub fn fills_buffer(call: usize) -> bool {
     match call {
-        REQUEST | SENDING | PACK | UNPACK | WRITE => true,
+        REQUEST | SENDING | FRAMED | PACK | UNPACK | WRITE | REGISTER => true,
         _ => false,
     }
 }
 
 pub fn shows_table(call: usize) -> bool {
     match call {
-        REQUEST | SENDING | RESULT => true,
+        REQUEST | SENDING | RESULT | FRAMED => true,
         _ => false,
     }
 }
 
-fn operation_of(word: u64) -> Operation {
+pub(crate) fn operation_of(word: u64) -> Operation {
     match word {
         0 => Operation::Register,
         1 => Operation::Erase,
@@ -62,8 +71,9 @@ fn operation_of(word: u64) -> Operation {
     }
 }
 
-fn erasing_of(count: usize, msisdn: u64) -> Erasing {
-    if count == 3 {
+// An MSISDN, where a line has that word.
+pub(crate) fn erasing_of(has: bool, msisdn: u64) -> Erasing {
+    if has {
         return Erasing::Forced(Msisdn(msisdn));
     }
     Erasing::Empty
@@ -72,7 +82,7 @@ fn erasing_of(count: usize, msisdn: u64) -> Erasing {
 fn write(words: &[u64; MOST_WORDS], count: usize, additional: &[u8], buffer: &mut [u8]) -> Said {
     let operation = operation_of(words[0]);
     let number = FunctionalNumber(words[1]);
-    let erasing = erasing_of(count, words[2]);
+    let erasing = erasing_of(count == 3, words[2]);
     let written = writers::write_request(operation, number, erasing, additional, buffer);
     crate::of_writing(written)
 }
@@ -106,24 +116,7 @@ fn look(words: &[u64; MOST_WORDS], table: &[u64]) -> Said {
     crate::of_finding(node::finding(table, low_32(words[0]), low_32(words[1])))
 }
 
-// A call that is lent table and list.
-fn call_node(
-    call: usize,
-    words: &[u64; MOST_WORDS],
-    octets: &[u8],
-    table: &mut [u64],
-    list: &[u64],
-    buffer: &mut [u8],
-) -> Said {
-    match call {
-        REQUEST => ask(words, octets, table, list, buffer),
-        SENDING => send(words, table, buffer),
-        RESULT => report(words, table),
-        _ => look(words, table),
-    }
-}
-
-// Another call.
+// A call of strings or numbers.
 fn call_strings(
     call: usize,
     words: &[u64; MOST_WORDS],
@@ -135,8 +128,23 @@ fn call_strings(
         PACK => crate::of_writing(packing::pack(octets, buffer)),
         UNPACK => crate::of_writing(packing::unpack(octets, buffer)),
         WRITE => write(words, count, octets, buffer),
-        NUMBER => crate::of_number(numbers::is_number(words[0])),
-        _ => crate::nothing(),
+        READ => crate::read(octets),
+        _ => crate::of_number(numbers::is_number(words[0])),
+    }
+}
+
+// A call of frames alone.
+fn call_frames(
+    call: usize,
+    words: &[u64; MOST_WORDS],
+    count: usize,
+    octets: &[u8],
+    buffer: &mut [u8],
+) -> Said {
+    match call {
+        REGISTER => framed::write(words, count, octets, buffer),
+        REGISTERED => framed::read_register(octets),
+        _ => framed::read_release(octets),
     }
 }
 
@@ -149,8 +157,13 @@ pub fn make_call(
     buffer: &mut [u8],
 ) -> Said {
     let words = fields.words;
-    if call <= FINDING {
-        return call_node(call, &words, octets, table, list, buffer);
+    match call {
+        REQUEST => ask(&words, octets, table, list, buffer),
+        SENDING => send(&words, table, buffer),
+        RESULT => report(&words, table),
+        FINDING => look(&words, table),
+        FRAMED => framed::ask(&words, octets, table, list, buffer),
+        REGISTER..=RELEASED => call_frames(call, &words, fields.count, octets, buffer),
+        _ => call_strings(call, &words, fields.count, octets, buffer),
     }
-    call_strings(call, &words, fields.count, octets, buffer)
 }

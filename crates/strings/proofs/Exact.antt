@@ -37,7 +37,7 @@ module _ {X : Type 0} where
       let d = onlyIf-some (begins p s) e in
       (ap (λ (f : Field X). f .got) (d .1), begins-only p s (d .0) ∙ ap (λ (f : Field X). p ++ f .rest) (d .1))
 
-  else-some : (a b : Option X) {x : X} → orElse a b ≡ some x → (a ≡ some x) ⊎ (b ≡ some x)
+  pub else-some : (a b : Option X) {x : X} → orElse a b ≡ some x → (a ≡ some x) ⊎ (b ≡ some x)
   else-some none b e = inr e
   else-some (some y) b e = inl e
 

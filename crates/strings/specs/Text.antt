@@ -125,6 +125,10 @@ textOf f = joined
 unfoldable pub noticeFields : FunctionalNumber → Msisdn → Request
 noticeFields number supervisor = record { operation = Erase; number = number; erasing = Forced supervisor; additional = [] }
 
+-- "data coding scheme is not 0x0F": the scheme of a request's string
+abbrev pub codingScheme : ℕ
+codingScheme = 0x0F
+
 -- "at most 72 characters, 63 octets"
 abbrev pub mostCharacters : ℕ
 mostCharacters = 72

@@ -20,6 +20,9 @@ pub const MOST_ADDITIONAL: usize = 30;
 // The text of sound fields has at most so many characters.
 pub const MOST_CHARACTERS: usize = 72;
 
+// The data coding scheme of a request's string.
+pub const CODING_SCHEME: u8 = 0x0F;
+
 // What is asked for: `**`, `##` or `*#`.
 pub enum Operation {
     Register,

@@ -1,2 +1,3 @@
--- `Numbers`: an answer in document 01's words as the numbers of a C struct, and numbers as fields.
+-- `Numbers`: an answer in document 01's words as the numbers of a C struct, and numbers as fields. `Frames`: the same of messages that are read.
 pub mod Numbers
+pub mod Frames

@@ -1,7 +1,13 @@
 // The structs that the C functions return, and the numbers that stand in them for the answers.
 use answers::Written;
 use crews::Crew;
+use exchange::FramedAnswer;
+use frames::Body;
+use frames::RegisterRead;
+use frames::ReleaseRead;
+use frames::VERSION;
 use numbers::Msisdn;
+use strings::CODING_SCHEME;
 use strings::Erasing;
 use strings::Fields;
 use strings::Operation;
@@ -11,8 +17,12 @@ use visits::ResultAnswer;
 use visits::SendingAnswer;
 ghost use mathlib.Core.Path.{_≡_};
 ghost use Rattle.answers.specs.Writing.{said};
+ghost use Rattle.frames.specs.Messages.{registerOf, releaseOf};
+ghost use Rattle.frames.specs.Read.{toldRegister, toldRelease};
 ghost use Rattle.visits.specs.Said.{saidRequest, saidSending, saidResult, saidFinding};
+ghost use Rattle.exchange.specs.Said.{saidFramed};
 ghost use Rattle.structs.specs.Numbers.{ofSaid, ofAnswer, ofOperation, ofErasing, ofCrew, codeCount, ofFields, structOf, operationOf, erasingOf};
+ghost use Rattle.structs.specs.Frames.{stringless, stringAt, ofRegister, ofRelease};
 
 // The classes of an answer.
 const WRITTEN: u32 = 0;
@@ -32,6 +42,13 @@ const FOUND: u32 = 6;
 const NONE_DUE: u32 = 7;
 
 const READ: u32 = 8;
+
+const RETURN_ERROR: u32 = 9;
+
+const REJECT: u32 = 10;
+
+// The refusal of a message.
+const WRONG_MESSAGE: u8 = 11;
 
 // What a function answers: the class; the number of a refusal, an error, an outcome or a result; the count of octets or characters;
 // the holder's MSISDN, the notice's addressee or the number found.
@@ -58,6 +75,19 @@ pub struct RequestRead {
     pub codes: usize,
 }
 
+// What a message's reader answers: the class; the number of a refusal, of an error or of a Reject; the first octet and the invoke number;
+// the string by its coding scheme, its start in the message and its length.
+#[repr(C)]
+pub struct FrameRead {
+    pub class: u32,
+    pub number: u32,
+    pub first: u32,
+    pub invoke: u32,
+    pub scheme: u32,
+    pub start: usize,
+    pub length: usize,
+}
+
 // The operation that a number stands for.
 pub enum Operating {
     Known(Operation),
@@ -72,6 +102,18 @@ fn numbered(class: u32, number: u32) -> Answer
         class,
         number,
         count: 0,
+        value: 0,
+    }
+}
+
+// An answer that is a number of its class and the octets that say so.
+fn counted(class: u32, number: u8, octets: usize) -> Answer
+    ensures { λ r. ⌜ r ≡ structOf class number octets 0 ⌝ }
+{
+    Answer {
+        class,
+        number: number as u32,
+        count: octets,
         value: 0,
     }
 }
@@ -154,6 +196,24 @@ pub fn of_finding(answer: FindingAnswer) -> Answer
             value: number.0,
         },
         FindingAnswer::NoneDue => numbered(NONE_DUE, 0),
+    }
+}
+
+// A framed request's answer.
+pub fn of_framed(answer: FramedAnswer) -> Answer
+    ensures { λ r. ⌜ r ≡ ofAnswer (saidFramed answer) ⌝ }
+{
+    match answer {
+        FramedAnswer::Refused(n) => numbered(REFUSAL, n as u32),
+        FramedAnswer::Outcome(n, octets) => counted(OUTCOME, n, octets),
+        FramedAnswer::Held(holder, octets) => Answer {
+            class: OUTCOME,
+            number: 3,
+            count: octets,
+            value: holder.0,
+        },
+        FramedAnswer::Error(n, octets) => counted(RETURN_ERROR, n, octets),
+        FramedAnswer::Reject(n, octets) => counted(REJECT, n, octets),
     }
 }
 
@@ -240,5 +300,67 @@ pub fn of_fields(fields: Fields) -> RequestRead
         start: fields.start,
         length: fields.count,
         codes: codes_of(crew),
+    }
+}
+
+// A message without a string.
+fn no_string(class: u32, number: u8, first: u8, invoke: u8) -> FrameRead
+    ensures { λ r. ⌜ r ≡ stringless class number first invoke ⌝ }
+{
+    FrameRead {
+        class,
+        number: number as u32,
+        first: first as u32,
+        invoke: invoke as u32,
+        scheme: 0,
+        start: 0,
+        length: 0,
+    }
+}
+
+// A message with a string, by its place.
+fn string_at(first: u8, invoke: u8, scheme: u8, start: usize, length: usize) -> FrameRead
+    ensures { λ r. ⌜ r ≡ stringAt first invoke scheme start length ⌝ }
+{
+    FrameRead {
+        class: READ,
+        number: 0,
+        first: first as u32,
+        invoke: invoke as u32,
+        scheme: scheme as u32,
+        start,
+        length,
+    }
+}
+
+// The Register that was read in a message.
+pub fn of_register(message: &[u8], read: RegisterRead) -> FrameRead
+    requires { ⌜ toldRegister read (now message) ≡ registerOf (now message) ⌝ }
+    ensures { λ r. ⌜ r ≡ ofRegister (now (message .entry)) (registerOf (now (message .entry))) ⌝ }
+{
+    let RegisterRead::Numbered(first, invoke, body) = read else {
+        return no_string(REFUSAL, WRONG_MESSAGE, 0, 0);
+    };
+    match body {
+        Body::Wrong(problem) => no_string(REJECT, problem, first, invoke),
+        Body::Asks(scheme, count) => {
+            let end = message.len() - VERSION.len();
+            string_at(first, invoke, scheme, end - count, count)
+        }
+    }
+}
+
+// The Release Complete that was read in a message.
+pub fn of_release(message: &[u8], read: ReleaseRead) -> FrameRead
+    requires { ⌜ toldRelease read (now message) ≡ releaseOf (now message) ⌝ }
+    ensures { λ r. ⌜ r ≡ ofRelease (now (message .entry)) (releaseOf (now (message .entry))) ⌝ }
+{
+    match read {
+        ReleaseRead::Result(first, invoke, count) => {
+            string_at(first, invoke, CODING_SCHEME, message.len() - count, count)
+        }
+        ReleaseRead::Error(first, invoke, code) => no_string(RETURN_ERROR, code, first, invoke),
+        ReleaseRead::Reject(first, invoke, problem) => no_string(REJECT, problem, first, invoke),
+        ReleaseRead::Refused => no_string(REFUSAL, WRONG_MESSAGE, 0, 0),
     }
 }

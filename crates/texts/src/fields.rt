@@ -1,5 +1,4 @@
 // The fields of a line: a name, words in decimal, and perhaps a tail of characters or octets.
-use crate::put_part;
 use crate::wide;
 ghost use Prim.Native.Nat.{_≤_};
 
@@ -189,13 +188,27 @@ fn read_octets(line: &[u8], from: usize, out: &mut [u8]) -> OctetsRead {
     OctetsRead { good: true, count }
 }
 
+// Reads the characters from an index to the end of the line, which leave room.
+fn read_characters(line: &[u8], from: usize, out: &mut [u8]) -> OctetsRead {
+    let mut count = 0;
+    let mut at = from;
+    while at < line.len() {
+        if out.len() <= count {
+            return OctetsRead { good: false, count };
+        }
+        out[count] = line[at];
+        count += 1;
+        at += 1;
+    }
+    let good = count < out.len();
+    OctetsRead { good, count }
+}
+
 // Reads the octets or the characters of a tail; no tail is none.
 pub fn read_tail(line: &[u8], tail: usize, out: &mut [u8]) -> OctetsRead {
     let from = std::num::wrapping_add_usize(tail, 1);
-    if !is_text(line, tail) {
-        return read_octets(line, from, out);
+    if is_text(line, tail) {
+        return read_characters(line, from, out);
     }
-    let count = put_part(out, 0, line, from, line.len());
-    let good = count < out.len();
-    OctetsRead { good, count }
+    read_octets(line, from, out)
 }

@@ -1,5 +1,5 @@
-// Words and octets as text: the fields of a line read, words and octets written, and rows of words set and compared. What does not
-// fit into memory is left out, and a position at the end of memory says so.
+// Words and octets as text: the fields of a line read, words and octets printed piece by piece, and rows of words set and compared. Words that
+// do not fit into memory are left out, and a count of all that it holds says so.
 mod fields;
 mod words;
 
@@ -16,9 +16,10 @@ pub use words::put_changes;
 pub use words::used;
 ghost use mathlib.Core.Path.{_≡_};
 ghost use Prim.Native.Nat.{_≤_};
+ghost use lib.ListN.{length};
 
 // How many values a form takes, the mark of one, and the mark of its end.
-pub const VALUES: usize = 4;
+pub const VALUES: usize = 5;
 
 const VALUE: u8 = b'%';
 
@@ -30,55 +31,45 @@ pub(crate) fn wide(octet: u8) -> u64
     octet as u64
 }
 
-pub fn least(a: usize, b: usize) -> usize
+pub(crate) fn least(a: usize, b: usize) -> usize
     ensures { λ r. ⌜ (r ≤ a) × (r ≤ b) ⌝ }
 {
     if a < b { a } else { b }
 }
 
-// Writes the characters from an index to another at a position; the position behind them.
-pub fn put_part(out: &mut [u8], at: usize, characters: &[u8], from: usize, end: usize) -> usize {
+// Each piece is written at once: an output that is lent through all functions would make each of their proofs dearer.
+pub fn put(characters: &[u8]) {
+    streams::write_output(b"calls", characters);
+}
+
+// Prints the characters from an index to another.
+pub fn put_part(characters: &[u8], from: usize, end: usize) {
     let end = least(end, characters.len());
-    let mut to = at;
-    let mut i = from;
-    while i < end {
-        if out.len() <= to {
-            return to;
-        }
-        out[to] = characters[i];
-        to += 1;
-        i += 1;
-    }
-    to
+    let from = least(from, end);
+    put(&characters[from..end]);
 }
 
-pub fn put(out: &mut [u8], at: usize, characters: &[u8]) -> usize {
-    put_part(out, at, characters, 0, characters.len())
-}
-
-pub fn put_number(out: &mut [u8], at: usize, n: u64) -> usize {
+fn put_number(n: u64) {
     let mut digits = [0u8; 20];
     let count = io::decimal(n, &mut digits);
-    put(out, at, &digits[..count])
+    put(&digits[..count]);
 }
 
-pub fn put_octet(out: &mut [u8], at: usize, octet: u8) -> usize {
+fn put_octet(octet: u8) {
     let mut digits = [0u8; 16];
     let count = io::hex(wide(octet), 2, &mut digits);
-    put(out, at, &digits[..count])
+    put(&digits[..count]);
 }
 
-// Writes the first octets.
-fn put_first(out: &mut [u8], at: usize, octets: &[u8], count: usize) -> usize {
+// Prints the first octets.
+fn put_first(octets: &[u8], count: usize) {
     let end = least(count, octets.len());
-    let mut to = at;
     let mut i = 0;
     while i < end {
-        to = put(out, to, b" ");
-        to = put_octet(out, to, octets[i]);
+        put(b" ");
+        put_octet(octets[i]);
         i += 1;
     }
-    to
 }
 
 // How many octets from an index on hold what they were filled with.
@@ -94,37 +85,40 @@ fn holding(octets: &[u8], from: usize, filling: u8) -> usize {
     left
 }
 
-// Writes the octets that a call wrote, how many beyond hold what the buffer was filled with, and whether another is among them.
-pub fn put_octets(out: &mut [u8], at: usize, octets: &[u8], count: usize, filling: u8) -> usize {
-    let end = least(count, octets.len());
-    let left = holding(octets, end, filling);
-    let at = put(out, at, b" [");
-    let at = put_first(out, at, octets, end);
-    let at = put(out, at, b" ] ");
-    let at = put_number(out, at, left as u64);
-    let at = put(out, at, b" of ");
-    let at = put_octet(out, at, filling);
-    if left < octets.len() - end {
-        return put(out, at, b", others changed");
+// Prints how many octets hold what they were filled with, and whether all do.
+fn put_rest(left: usize, all: usize, filling: u8) {
+    put(b" ] ");
+    put_number(left as u64);
+    put(b" of ");
+    put_octet(filling);
+    if left < all {
+        put(b", others changed");
     }
-    at
 }
 
-// Writes the words from an index to another, each behind a space.
-pub fn put_words(out: &mut [u8], at: usize, words: &[u64], from: usize, end: usize) -> usize {
+// Prints the octets that a call wrote, how many beyond hold what the buffer was filled with, and whether another is among them.
+pub fn put_octets(octets: &[u8], count: usize, filling: u8) {
+    let end = least(count, octets.len());
+    put(b" [");
+    put_first(octets, end);
+    put_rest(holding(octets, end, filling), octets.len() - end, filling);
+}
+
+// Prints the words from an index to another, each behind a space.
+pub(crate) fn put_words(words: &[u64], from: usize, end: usize) {
     let end = least(end, words.len());
-    let mut to = at;
     let mut i = from;
     while i < end {
-        to = put(out, to, b" ");
-        to = put_number(out, to, words[i]);
+        put(b" ");
+        put_number(words[i]);
         i += 1;
     }
-    to
 }
 
 // Where one of several forms starts, each of which ends with a semicolon.
-fn form_start(forms: &[u8], place: usize) -> usize {
+fn form_start(forms: &[u8], place: usize) -> usize
+    ensures { λ r. ⌜ r ≤ length (now (forms .entry)) ⌝ }
+{
     let mut left = place;
     let mut i = 0;
     while i < forms.len() {
@@ -146,29 +140,18 @@ fn value_at(values: &[u64; VALUES], place: usize) -> u64 {
     values[place]
 }
 
-// Writes one of several forms, with a value for each of its marks.
-pub fn put_form(
-    out: &mut [u8],
-    at: usize,
-    forms: &[u8],
-    place: usize,
-    values: &[u64; VALUES],
-) -> usize {
-    let mut to = at;
+// Prints one of several forms, with a value for each of its marks.
+pub fn put_form(forms: &[u8], place: usize, values: &[u64; VALUES]) {
     let mut next = 0;
     let mut i = form_start(forms, place);
-    while i < forms.len() {
-        let character = forms[i];
-        i += 1;
-        if character == END {
-            return to;
+    let end = bytes::scan::find(forms, i, forms.len(), END);
+    while i < end {
+        let mark = bytes::scan::find(forms, i, end, VALUE);
+        put(&forms[i..mark]);
+        if mark < end {
+            put_number(value_at(values, next));
         }
-        if character == VALUE {
-            to = put_number(out, to, value_at(values, next));
-            next = std::num::wrapping_add_usize(next, 1);
-        } else {
-            to = put(out, to, &[character]);
-        }
+        next = std::num::wrapping_add_usize(next, 1);
+        i = mark + 1;
     }
-    to
 }

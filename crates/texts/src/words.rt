@@ -102,37 +102,32 @@ fn row_end(start: usize, length: usize, width: usize) -> usize
     start + width
 }
 
-// Writes a row that is not as before.
-fn put_row(
-    out: &mut [u8],
-    at: usize,
-    before: &[u64],
-    after: &[u64],
-    start: usize,
-    end: usize,
-    row: u64,
-) -> usize {
+// Prints a row that is not as before; whether it is as before.
+fn put_row(before: &[u64], after: &[u64], start: usize, end: usize, row: u64) -> bool {
     if stay(before, after, start, end) {
-        return at;
+        return true;
     }
-    let at = put(out, at, b", row ");
-    let at = put_number(out, at, row);
-    let at = put(out, at, b":");
-    put_words(out, at, after, start, end)
+    put(b", row ");
+    put_number(row);
+    put(b":");
+    put_words(after, start, end);
+    false
 }
 
-// Writes the rows of a width that are not as before, each with its place.
-pub fn put_changes(out: &mut [u8], at: usize, before: &[u64], after: &[u64], width: usize) -> usize
+// Prints the rows of a width that are not as before, each with its place, or that all are as before.
+pub fn put_changes(before: &[u64], after: &[u64], width: usize)
     requires { ⌜ 0 < width ⌝ }
 {
-    let mut to = at;
+    let mut stays = true;
     let mut start = 0;
     let mut row = 0;
     while start < after.len() {
         let end = row_end(start, after.len(), width);
-        to = put_row(out, to, before, after, start, end, row);
+        stays = stays & put_row(before, after, start, end, row);
         row = std::num::wrapping_add_u64(row, 1);
         start = end;
     }
-    to
+    if stays {
+        put(b", table stays");
+    }
 }

@@ -2,7 +2,7 @@
 use mathlib.Core.Path.{_≡_, refl, sym, ap, _∙_}
 use mathlib.Core.List.{List}
 use Prim.Native.Nat.{ℕ}
-use Rattle.rules.specs.Answers.{Answer, refusal, error, outcome, holderIs, sentTo, delivered, dropped, again, found, noneDue, Outcome, made}
+use Rattle.rules.specs.Answers.{Answer, refusal, error, outcome, holderIs, returnError, reject, sentTo, delivered, dropped, again, found, noneDue, Outcome, made}
 use Rattle.visits.specs.Said.{saidRequest, saidSending, saidResult, saidFinding}
 use Rattle.visits.specs.declared.RequestAnswer.{RequestAnswer}
 use Rattle.visits.specs.declared.RequestAnswer.the-variants as request
@@ -19,7 +19,7 @@ module _ {X : Type 0} (said : X → Answer) (unsaid : Answer → X) (back : (x :
   told-apart v w e = sym (back v) ∙ ap unsaid e ∙ back w
 
   -- the answer, the table and the buffer of one outcome
-  no-choice : (v w : X) (t u b d : List ℕ) (o : Outcome) → made (said v) t b ≡ o → made (said w) u d ≡ o → (v ≡ w) × (t ≡ u) × (b ≡ d)
+  pub no-choice : (v w : X) (t u b d : List ℕ) (o : Outcome) → made (said v) t b ≡ o → made (said w) u d ≡ o → (v ≡ w) × (t ≡ u) × (b ≡ d)
   no-choice v w t u b d o p q =
       let e = p ∙ sym q in (
         told-apart v w (ap (λ (x : Outcome). x .answer) e),
@@ -28,12 +28,14 @@ module _ {X : Type 0} (said : X → Answer) (unsaid : Answer → X) (back : (x :
       )
 
 -- one value for each case of an answer
-module _ {X : Type 0} (onRefusal onError : ℕ → X) (onOutcome onHolder onSent : ℕ → ℕ → X) (onDelivered onDropped onAgain : X) (onFound : ℕ → X) (onNoneDue : X) where
-  byCase : Answer → X
+module _ {X : Type 0} (onRefusal onError : ℕ → X) (onOutcome onHolder onReturnError onReject onSent : ℕ → ℕ → X) (onDelivered onDropped onAgain : X) (onFound : ℕ → X) (onNoneDue : X) where
+  unfoldable pub byCase : Answer → X
   byCase (refusal n) = onRefusal n
   byCase (error n) = onError n
   byCase (outcome n octets) = onOutcome n octets
   byCase (holderIs msisdn octets) = onHolder msisdn octets
+  byCase (returnError n octets) = onReturnError n octets
+  byCase (reject n octets) = onReject n octets
   byCase (sentTo addressee octets) = onSent addressee octets
   byCase delivered = onDelivered
   byCase dropped = onDropped
@@ -46,7 +48,7 @@ module _ {X : Type 0} (onRefusal onError : ℕ → X) (onOutcome onHolder onSent
 unsaidRequest : Answer → RequestAnswer
 unsaidRequest =
     let other = request.Refused 0 in
-    byCase request.Refused request.Error request.Outcome (λ m octets. request.Held (record { 0 = m }) octets) (λ a octets. other) other other other (λ n. other) other
+    byCase request.Refused request.Error request.Outcome (λ m octets. request.Held (record { 0 = m }) octets) (λ n octets. other) (λ n octets. other) (λ a octets. other) other other other (λ n. other) other
 
 request-back : (x : RequestAnswer) → unsaidRequest (saidRequest x) ≡ x
 unfolding byCase unsaidRequest
@@ -69,7 +71,7 @@ say-choice v w b d p q = (told-apart saidRequest unsaidRequest request-back v w 
 unsaidSending : Answer → SendingAnswer
 unsaidSending =
     let other = sending.Refused 0 in
-    byCase sending.Refused (λ n. other) (λ n octets. other) (λ m octets. other) (λ a octets. sending.Sent (record { 0 = a }) octets) other other other (λ n. other) other
+    byCase sending.Refused (λ n. other) (λ n octets. other) (λ m octets. other) (λ n octets. other) (λ n octets. other) (λ a octets. sending.Sent (record { 0 = a }) octets) other other other (λ n. other) other
 
 sending-back : (x : SendingAnswer) → unsaidSending (saidSending x) ≡ x
 unfolding byCase unsaidSending
@@ -85,7 +87,7 @@ sending-choice = no-choice saidSending unsaidSending sending-back
 unsaidResult : Answer → ResultAnswer
 unsaidResult =
     let other = result.Refused 0 in
-    byCase result.Refused (λ n. other) (λ n octets. other) (λ m octets. other) (λ a octets. other) result.Delivered result.Dropped result.Again (λ n. other) other
+    byCase result.Refused (λ n. other) (λ n octets. other) (λ m octets. other) (λ n octets. other) (λ n octets. other) (λ a octets. other) result.Delivered result.Dropped result.Again (λ n. other) other
 
 result-back : (x : ResultAnswer) → unsaidResult (saidResult x) ≡ x
 unfolding byCase unsaidResult
@@ -103,7 +105,7 @@ result-choice = no-choice saidResult unsaidResult result-back
 unsaidFinding : Answer → FindingAnswer
 unsaidFinding =
     let other = finding.Refused 0 in
-    byCase finding.Refused (λ n. other) (λ n octets. other) (λ m octets. other) (λ a octets. other) other other other (λ n. finding.Due (record { 0 = n })) finding.NoneDue
+    byCase finding.Refused (λ n. other) (λ n octets. other) (λ m octets. other) (λ n octets. other) (λ n octets. other) (λ a octets. other) other other other (λ n. finding.Due (record { 0 = n })) finding.NoneDue
 
 finding-back : (x : FindingAnswer) → unsaidFinding (saidFinding x) ≡ x
 unfolding byCase unsaidFinding

@@ -19,7 +19,7 @@ ghost use Rattle.strings.specs.Text.{erasingSound, requestFrom, requestSound, o
 ghost use Rattle.strings.specs.Outcomes.{writingRequest};
 
 // The buffer of a request's writer has at least so many octets.
-const WRITER_ROOM: usize = 160;
+pub const WRITER_ROOM: usize = 160;
 
 // Writes characters over the front of a part.
 pub fn put(characters: &[u8], out: &mut [u8]) -> usize

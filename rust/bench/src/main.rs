@@ -41,6 +41,21 @@ mod osmocore {
             octets: *const u8,
             length: u8,
         ) -> c_int;
+        fn gsm0480_decode_ss_request(
+            message: *const u8,
+            length: u16,
+            request: *mut SsRequest,
+        ) -> c_int;
+    }
+
+    /// `struct ss_request`: octets alone, the operation first, then service,
+    /// text and data of 160 each, and four more.
+    pub type SsRequest = [u8; 326];
+
+    /// Reads a Register, and unpacks its string.
+    pub fn read(message: &[u8], request: &mut SsRequest) -> bool {
+        // SAFETY: the message's length is given, and the request is a whole one.
+        unsafe { gsm0480_decode_ss_request(message.as_ptr(), message.len() as u16, request) == 1 }
     }
 
     /// `text` ends with a zero.
@@ -342,6 +357,132 @@ fn crews() {
     );
 }
 
+/// One framed request by ours and Rust's, each on its own table, and the bare
+/// pass.
+fn framed_request(
+    turns: usize,
+    ours: &mut [u64],
+    theirs: &mut [u64],
+    people: &[u64],
+    requester: u64,
+    message: &[u8],
+) -> [f64; 3] {
+    let (mut a, mut b) = ([1u8; 120], [1u8; 120]);
+    let words = ours.to_vec();
+    let times = best(
+        turns,
+        &mut [
+            &mut || {
+                let people = black_box(people);
+                black_box(c::framed_request(ours, people, &mut a, requester, message));
+            },
+            &mut || {
+                let people = black_box(people);
+                let frame = &mut b;
+                black_box(oracle::framed_request(
+                    theirs, people, frame, requester, message,
+                ));
+            },
+            &mut || {
+                black_box(sum(black_box(&words)).wrapping_add(sum(black_box(people))));
+            },
+        ],
+    );
+    assert_eq!(a, b, "the same frame");
+    times
+}
+
+/// A framed request beside the bare one of the same string.
+fn framed() {
+    println!("\nframed requests beside bare ones:");
+    for (numbers, subscribers) in [(1, 1), (64, 64), (1024, 4096)] {
+        let (mut ours, mut theirs, people) = (table(numbers), table(numbers), list(subscribers));
+        let number = NUMBERS + 7 * (numbers / 2) as u64;
+        let requester = SUBSCRIBERS + 3 * (subscribers / 2) as u64;
+        let (mut string, mut message) = ([1u8; 160], [1u8; 120]);
+        let count = c::write_request(2, number, 0, &[], &mut string).count;
+        let string = &string[..count];
+        let count = c::write_register(0, 1, 2, number, 0, &[], &mut message).count;
+        let message = &message[..count];
+        let turns = if numbers > 64 { 50 } else { 1000 };
+        let (left, right) = (&mut ours, &mut theirs);
+        let bare = request(turns, left, right, &people, requester, string);
+        line(&mut Vec::new(), "request", numbers, subscribers, bare);
+        let t = framed_request(turns, left, right, &people, requester, message);
+        line(&mut Vec::new(), "framed", numbers, subscribers, t);
+        let more = [0, 1].map(|i| t[i] - bare[i]);
+        println!("the frame: {:.1}, Rust {:.1}", more[0], more[1]);
+    }
+}
+
+/// A Register read by ours and Rust's, then read and its string unpacked by
+/// ours, Rust's and libosmocore, whose decoder does both.
+fn read_times(message: &[u8]) -> [f64; 5] {
+    let (mut a, mut b) = ([1u8; 160], [1u8; 160]);
+    #[cfg(osmocore)]
+    let mut theirs: osmocore::SsRequest = [0; 326];
+    let mut osmo_read = || {
+        #[cfg(osmocore)]
+        black_box(osmocore::read(black_box(message), &mut theirs));
+    };
+    let times = best(
+        1000,
+        &mut [
+            &mut || {
+                black_box(c::read_register(black_box(message)));
+            },
+            &mut || {
+                black_box(oracle::read_register(black_box(message)).ok());
+            },
+            &mut || {
+                let read = c::read_register(black_box(message));
+                let string = &message[read.start..][..read.length];
+                black_box(c::unpack(string, &mut a));
+            },
+            &mut || {
+                let read = oracle::read_register(black_box(message)).map(|read| read.content);
+                if let Ok(oracle::Invoked::Request { string, .. }) = read {
+                    black_box(oracle::unpack(string.of(message), &mut b).ok());
+                }
+            },
+            &mut osmo_read,
+        ],
+    );
+    #[cfg(osmocore)]
+    assert_eq!(theirs[0], 0x3B, "libosmocore reads the operation");
+    assert_eq!(a, b, "the same characters");
+    times
+}
+
+/// The Register of a registration, and the longest one.
+fn registers() {
+    println!(
+        "\nRegister   read: ours, Rust (ns)   read and unpacked: ours, Rust, libosmocore (ns)"
+    );
+    let (highest, lowest) = (1_999_999_999_999_999, 1_000_000_000_000_000);
+    let longest = &b"ABCDEFGHIJKLMNOPQRSTUVWXYZ0123"[..];
+    for (operation, number, msisdn, additional) in
+        [(0, NUMBERS, 0, &b""[..]), (1, highest, lowest, longest)]
+    {
+        let mut frame = [1u8; 120];
+        let made = c::write_register(0, 1, operation, number, msisdn, additional, &mut frame);
+        let t = read_times(&frame[..made.count]);
+        println!(
+            "{:8}   {:7.1} {:7.1}                 {:7.1} {:7.1} {:8.1}  x{:.1}",
+            made.count,
+            t[0],
+            t[1],
+            t[2],
+            t[3],
+            t[4],
+            t[4] / t[2]
+        );
+    }
+    if !cfg!(osmocore) {
+        println!("(libosmocore-dev is not installed: its column says nothing)");
+    }
+}
+
 /// Nanoseconds that one row more costs, between two sizes.
 fn growth(lines: &[Line]) {
     let at = |call, numbers, subscribers| {
@@ -404,6 +545,8 @@ fn main() {
     }
     growth(&lines);
     crews();
+    framed();
+    registers();
     harder("a notice in each", |i, row| {
         let addressee = SUBSCRIBERS + 5 * i as u64;
         row[2..].copy_from_slice(&[3, addressee, addressee + 1, 77]);

@@ -8,7 +8,7 @@ use std::collections::BTreeMap;
 
 use ffn::c;
 use oracle::generate::{Call, Generator, Random, Reply};
-use oracle::{Answer, Fields, Operation};
+use oracle::{Answer, Fields, Invoked, Message, Operation, Place, Released};
 
 /// How often each kind of answer came up.
 pub type Counts = BTreeMap<String, u64>;
@@ -23,6 +23,8 @@ enum Said {
     Count(Result<usize, u8>),
     Fields(Option<Read>),
     IsNumber(bool),
+    Register(Result<Message<Invoked>, u8>),
+    Release(Result<Message<Released<Place>>, u8>),
 }
 
 /// A call with its memory, and the text that the request reader is lent.
@@ -63,7 +65,11 @@ fn lend(mut call: Call, random: &mut Random) -> Lent {
     let mut text = Vec::new();
     match &mut call {
         // There the word 0 stands for an absent MSISDN, so none is named.
-        Call::WriteRequest { fields, .. } if fields.forced == Some(0) => fields.forced = None,
+        Call::WriteRequest { fields, .. } | Call::WriteRegister { fields, .. }
+            if fields.forced == Some(0) =>
+        {
+            fields.forced = None;
+        }
         Call::ReadRequest { octets } => {
             let room = characters(octets);
             let length = random.pick(&[0, room.saturating_sub(1), room, room + 1, 72, 200]);
@@ -84,6 +90,8 @@ fn ask_oracle(lent: &mut Lent) -> Said {
         Reply::Answer(answer) => Said::Answer(answer),
         Reply::Count(count) => Said::Count(count),
         Reply::IsNumber(is_number) => Said::IsNumber(is_number),
+        Reply::Register(read) => Said::Register(read),
+        Reply::Release(read) => Said::Release(read),
         Reply::Fields(fields) => Said::Fields(fields.map(|f| {
             let additional = f.additional.as_ref().to_vec();
             let codes = oracle::crew_codes(&additional).map(<[_]>::len);
@@ -142,12 +150,101 @@ fn ask_library(lent: &mut Lent) -> Said {
             let written = count(c::write_request(operation, *word, 0, &[], &mut [0; 160]));
             Said::IsNumber(written != Err(9))
         }
+        Call::FramedRequest {
+            table,
+            list,
+            frame,
+            requester,
+            message,
+        } => answer(c::framed_request(table, list, frame, *requester, message)),
+        Call::WriteRegister {
+            transaction,
+            invoke,
+            fields,
+            frame,
+        } => {
+            let operation = number_of(fields.operation);
+            let written = write_register(*transaction, *invoke, operation, fields, frame);
+            Said::Count(count(written))
+        }
+        Call::ReadRegister { message } => Said::Register(register(c::read_register(message))),
+        Call::ReadRelease { message } => Said::Release(release(c::read_release(message))),
     }
 }
 
 fn write(operation: u32, fields: &Fields<Vec<u8>>, out: &mut [u8]) -> c::Answer {
     let msisdn = fields.forced.unwrap_or(0);
     c::write_request(operation, fields.number, msisdn, &fields.additional, out)
+}
+
+fn write_register(
+    transaction: u8,
+    invoke: u8,
+    operation: u32,
+    fields: &Fields<Vec<u8>>,
+    frame: &mut [u8],
+) -> c::Answer {
+    let (number, msisdn) = (fields.number, fields.forced.unwrap_or(0));
+    let additional = &fields.additional;
+    c::write_register(
+        transaction,
+        invoke,
+        operation,
+        number,
+        msisdn,
+        additional,
+        frame,
+    )
+}
+
+/// What a Register reads as; a field that its class does not name is 0.
+fn register(read: c::FrameRead) -> Result<Message<Invoked>, u8> {
+    let content = match read.class {
+        c::READ if read.number == 0 => Invoked::Request {
+            scheme: octet(read.scheme),
+            string: place(read),
+        },
+        c::REJECT if no_string(read) => Invoked::Problem(octet(read.number)),
+        _ => return Err(unread(read)),
+    };
+    Ok(message(read, content))
+}
+
+/// What a Release Complete reads as.
+fn release(read: c::FrameRead) -> Result<Message<Released<Place>>, u8> {
+    let content = match read.class {
+        c::READ if (read.number, read.scheme) == (0, 0x0F) => Released::Result(place(read)),
+        c::RETURN_ERROR if no_string(read) => Released::Error(octet(read.number)),
+        c::REJECT if no_string(read) => Released::Reject(octet(read.number)),
+        _ => return Err(unread(read)),
+    };
+    Ok(message(read, content))
+}
+
+fn message<T>(read: c::FrameRead, content: T) -> Message<T> {
+    Message {
+        first: octet(read.first),
+        invoke: octet(read.invoke),
+        content,
+    }
+}
+
+fn place(read: c::FrameRead) -> Place {
+    Place {
+        start: read.start,
+        length: read.length,
+    }
+}
+
+fn no_string(read: c::FrameRead) -> bool {
+    (read.scheme, read.start, read.length) == (0, 0, 0)
+}
+
+/// The refusal of a message; all else is 0.
+fn unread(read: c::FrameRead) -> u8 {
+    let head = (read.class, read.first, read.invoke);
+    assert!(head == (c::REFUSAL, 0, 0) && no_string(read), "{read:?}");
+    octet(read.number)
 }
 
 /// The fields, the additional field taken from the text or, where the caller's
@@ -179,14 +276,21 @@ fn read(octets: &[u8], text: &mut [u8]) -> Option<Read> {
 /// A number that is no operation is refused as fields that break the rules
 /// are: 9, and after 1.
 fn unknown_operation(before: &Lent, random: &mut Random) -> Result<(), String> {
-    let Call::WriteRequest { fields, out } = &before.call else {
-        return Ok(());
-    };
     let operation = random.pick(&[3, 4, 256, 1 << 31, u32::MAX]);
-    let mut left = out.clone();
-    let said = count(write(operation, fields, &mut left));
-    let expected = if out.len() < 160 { 1 } else { 9 };
-    if said == Err(expected) && left == *out {
+    let (said, left, out, room) = match &before.call {
+        Call::WriteRequest { fields, out } => {
+            let mut left = out.clone();
+            (write(operation, fields, &mut left), left, out, 160)
+        }
+        Call::WriteRegister { fields, frame, .. } => {
+            let mut left = frame.clone();
+            let said = write_register(0, 0, operation, fields, &mut left);
+            (said, left, frame, 120)
+        }
+        _ => return Ok(()),
+    };
+    let expected = if out.len() < room { 1 } else { 9 };
+    if count(said) == Err(expected) && left == *out {
         Ok(())
     } else {
         Err(format!("operation {operation}: {said:?}, {before:?}"))
@@ -230,6 +334,8 @@ fn answer(answer: c::Answer) -> Said {
             octets,
             msisdn,
         },
+        (c::RETURN_ERROR, code, _, 0) => Answer::ReturnError { code, octets },
+        (c::REJECT, problem, _, 0) => Answer::Reject { problem, octets },
         (c::SENT, 0, _, addressee) => Answer::Sent { addressee, octets },
         (c::RESULT, 0, 0, 0) => Answer::Delivered,
         (c::RESULT, 1, 0, 0) => Answer::Dropped,
@@ -256,11 +362,17 @@ fn kind(call: &Call, said: &Said) -> String {
         Call::WriteRequest { .. } => "write request",
         Call::ReadRequest { .. } => "read request",
         Call::IsNumber { .. } => "number",
+        Call::FramedRequest { .. } => "framed request",
+        Call::WriteRegister { .. } => "write register",
+        Call::ReadRegister { .. } => "read register",
+        Call::ReadRelease { .. } => "read release",
     };
     let said = match said {
         Said::Answer(Answer::Refusal(n)) | Said::Count(Err(n)) => format!("refused {n}"),
         Said::Answer(Answer::Error(n)) => format!("error {n}"),
         Said::Answer(Answer::Outcome { number, .. }) => format!("{number:02}"),
+        Said::Answer(Answer::ReturnError { code, .. }) => format!("error {code}"),
+        Said::Answer(Answer::Reject { problem, .. }) => format!("reject {problem}"),
         Said::Answer(Answer::Sent { .. }) => "sent".into(),
         Said::Answer(Answer::Found(_)) => "found".into(),
         Said::Answer(answer) => format!("{answer:?}").to_lowercase(),
@@ -269,6 +381,16 @@ fn kind(call: &Call, said: &Said) -> String {
         Said::Fields(Some((fields, None))) => format!("{:?}", fields.operation).to_lowercase(),
         Said::Fields(None) => "error 36".into(),
         Said::IsNumber(is_number) => is_number.to_string(),
+        Said::Register(Err(n)) | Said::Release(Err(n)) => format!("refused {n}"),
+        Said::Register(Ok(read)) => match read.content {
+            Invoked::Request { .. } => "request".into(),
+            Invoked::Problem(problem) => format!("problem {problem}"),
+        },
+        Said::Release(Ok(read)) => match read.content {
+            Released::Result(_) => "result".into(),
+            Released::Error(_) => "error".into(),
+            Released::Reject(_) => "reject".into(),
+        },
     };
     format!("{call}: {said}")
 }
@@ -298,7 +420,7 @@ mod tests {
         expected("result", "refused 2, refused 3, refused 4, refused 7");
         expected("result", "delivered, dropped, again");
         expected("finding", "refused 2, refused 6, found, nonedue");
-        for call in ["pack", "unpack", "write request"] {
+        for call in ["pack", "unpack", "write request", "write register"] {
             expected(call, "refused 1, refused 9, written");
         }
         expected(
@@ -306,5 +428,12 @@ mod tests {
             "register, erase, interrogate, crew, error 36",
         );
         expected("number", "true, false");
+        expected(
+            "framed request",
+            "refused 1, refused 11, refused 8, refused 2, reject 1, reject 2, \
+             error 35, error 36, error 71, 01, 02, 03, 11, 12, 22, 41, 42, 61, 62, 63",
+        );
+        expected("read register", "request, problem 1, problem 2, refused 11");
+        expected("read release", "result, error, reject, refused 11");
     }
 }

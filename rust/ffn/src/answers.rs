@@ -64,7 +64,8 @@ reason! {
         Delay = 6: "the delay is neither 0 nor 60 to 600 seconds",
         Number = 7: "the functional number is malformed or not in the table",
         ListUnsound = 8: "the list is unsound",
-        Unfit = 9: "the fields break the string's rules, a value is not one that the packer takes, or unused bits are not 0",
+        Unfit = 9: "the fields break the string's rules, a value is not one that the packer takes, unused bits are not 0, or the transaction identifier is above 15",
+        Message = 11: "the message is wrong anywhere up to its invoke number, or is no Release Complete of the node",
     }
 }
 
@@ -74,6 +75,14 @@ reason! {
         DataMissing = 35: "the requester's MSISDN is not 5 to 15 digits, or the string has 0 octets",
         UnexpectedDataValue = 36: "the string has over 160 octets or unreadable bits, or breaks its rules",
         UnknownAlphabet = 71: "the data coding scheme is not 0x0F",
+    }
+}
+
+reason! {
+    /// Why a framed request is rejected.
+    Problem: "problem" {
+        UnrecognizedOperation = 1: "the operation is missing, unreadable or unknown",
+        MistypedParameter = 2: "something behind the operation is wrong",
     }
 }
 
@@ -190,6 +199,54 @@ impl Outcome {
 pub struct Reply {
     pub outcome: Outcome,
     pub octets: usize,
+}
+
+/// What a framed request was answered, by the cases of a Release Complete.
+#[derive(Clone, Copy, Debug, PartialEq, Eq)]
+pub enum Answered {
+    /// Return Result, with the outcome's text as its string.
+    Result(Outcome),
+    /// Return Error.
+    Error(RequestError),
+    /// Reject.
+    Reject(Problem),
+}
+
+/// A framed request that is not refused: its Release Complete is in the first
+/// `octets` octets of the frame.
+#[derive(Clone, Copy, Debug, PartialEq, Eq)]
+pub struct FramedReply {
+    pub answered: Answered,
+    pub octets: usize,
+}
+
+/// A message that was read.
+#[derive(Clone, Copy, Debug, PartialEq, Eq)]
+pub struct Message<T> {
+    /// The transaction identifier: 0 to 15, 8 being the flag.
+    pub transaction: u8,
+    pub invoke: u8,
+    pub content: T,
+}
+
+/// What a Register holds.
+#[derive(Clone, Copy, Debug, PartialEq, Eq)]
+pub enum Register<'a> {
+    /// A request: data coding scheme, and the string in the message.
+    Request { scheme: u8, string: &'a [u8] },
+    /// What a framed request would be rejected with.
+    Rejected(Problem),
+}
+
+/// The three cases of a Release Complete.
+#[derive(Clone, Copy, Debug, PartialEq, Eq)]
+pub enum Release<'a> {
+    /// Return Result, with its string in the message.
+    Result(&'a [u8]),
+    /// Return Error. The node's codes are those of [`RequestError`].
+    Error(u8),
+    /// Reject. The node's problems are those of [`Problem`].
+    Reject(u8),
 }
 
 /// A notice to send: the first `octets` octets of the buffer, to `addressee`.

@@ -13,15 +13,18 @@ pub const SENT: u32 = 4;
 pub const RESULT: u32 = 5;
 pub const FOUND: u32 = 6;
 pub const NONE_DUE: u32 = 7;
-/// Of [`read_request`] alone.
+/// Of [`read_request`], [`read_register`] and [`read_release`].
 pub const READ: u32 = 8;
+/// Of frames.
+pub const RETURN_ERROR: u32 = 9;
+pub const REJECT: u32 = 10;
 
 /// `struct ffn_answer`. A field that its class does not name is 0.
 #[repr(C)]
 #[derive(Clone, Copy, Debug, PartialEq, Eq)]
 pub struct Answer {
     pub class: u32,
-    /// Of a refusal, an error, an outcome or a result.
+    /// Of a refusal, an error, an outcome, a result or a Reject.
     pub number: u32,
     /// Of octets or characters.
     pub count: usize,
@@ -49,8 +52,24 @@ pub struct RequestRead {
     pub codes: usize,
 }
 
+/// `struct ffn_frame_read`. A field that its class does not name is 0.
+#[repr(C)]
+#[derive(Clone, Copy, Debug, PartialEq, Eq)]
+pub struct FrameRead {
+    pub class: u32,
+    /// Of a refusal, an error or a Reject.
+    pub number: u32,
+    /// The message's first octet.
+    pub first: u32,
+    pub invoke: u32,
+    pub scheme: u32,
+    /// Of the string in the message.
+    pub start: usize,
+    pub length: usize,
+}
+
 mod linked {
-    use super::{Answer, RequestRead};
+    use super::{Answer, FrameRead, RequestRead};
 
     extern "C" {
         pub fn ffn_pack(
@@ -109,6 +128,30 @@ mod linked {
             now: u32,
         ) -> Answer;
         pub fn ffn_finding(table: *const u64, table_words: usize, delay: u32, now: u32) -> Answer;
+        pub fn ffn_framed_request(
+            table: *mut u64,
+            table_words: usize,
+            list: *const u64,
+            list_words: usize,
+            frame: *mut u8,
+            frame_length: usize,
+            requester: u64,
+            message: *const u8,
+            message_length: usize,
+        ) -> Answer;
+        pub fn ffn_write_register(
+            transaction: u8,
+            invoke: u8,
+            operation: u32,
+            functional_number: u64,
+            msisdn: u64,
+            additional: *const u8,
+            additional_length: usize,
+            frame: *mut u8,
+            frame_length: usize,
+        ) -> Answer;
+        pub fn ffn_read_register(message: *const u8, message_length: usize) -> FrameRead;
+        pub fn ffn_read_release(message: *const u8, message_length: usize) -> FrameRead;
     }
 }
 
@@ -208,4 +251,58 @@ pub fn result(table: &mut [u64], functional_number: u64, kind: u32, now: u32) ->
 
 pub fn finding(table: &[u64], delay: u32, now: u32) -> Answer {
     unsafe { linked::ffn_finding(table.as_ptr(), table.len(), delay, now) }
+}
+
+pub fn framed_request(
+    table: &mut [u64],
+    list: &[u64],
+    frame: &mut [u8],
+    requester: u64,
+    message: &[u8],
+) -> Answer {
+    unsafe {
+        linked::ffn_framed_request(
+            table.as_mut_ptr(),
+            table.len(),
+            list.as_ptr(),
+            list.len(),
+            frame.as_mut_ptr(),
+            frame.len(),
+            requester,
+            message.as_ptr(),
+            message.len(),
+        )
+    }
+}
+
+pub fn write_register(
+    transaction: u8,
+    invoke: u8,
+    operation: u32,
+    functional_number: u64,
+    msisdn: u64,
+    additional: &[u8],
+    frame: &mut [u8],
+) -> Answer {
+    unsafe {
+        linked::ffn_write_register(
+            transaction,
+            invoke,
+            operation,
+            functional_number,
+            msisdn,
+            additional.as_ptr(),
+            additional.len(),
+            frame.as_mut_ptr(),
+            frame.len(),
+        )
+    }
+}
+
+pub fn read_register(message: &[u8]) -> FrameRead {
+    unsafe { linked::ffn_read_register(message.as_ptr(), message.len()) }
+}
+
+pub fn read_release(message: &[u8]) -> FrameRead {
+    unsafe { linked::ffn_read_release(message.as_ptr(), message.len()) }
 }

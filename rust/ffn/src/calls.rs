@@ -68,15 +68,15 @@ impl ReadRequest {
 }
 
 /// What the library answered is always there: its contracts name every answer.
-fn answered<T>(answer: Option<T>) -> T {
+pub(crate) fn answered<T>(answer: Option<T>) -> T {
     answer.unwrap_or_else(|| unreachable!("no answer of the library"))
 }
 
-fn refusal(number: u32) -> Refusal {
+pub(crate) fn refusal(number: u32) -> Refusal {
     answered(Refusal::from_number(number))
 }
 
-fn error(number: u32) -> RequestError {
+pub(crate) fn error(number: u32) -> RequestError {
     answered(RequestError::from_number(number))
 }
 
@@ -88,7 +88,7 @@ fn crew(octets: &[u8]) -> Crew {
 }
 
 /// The outcome with this number and value, whose text is packed in `octets`.
-fn outcome(number: u32, value: u64, octets: &[u8]) -> Outcome {
+pub(crate) fn outcome(number: u32, value: u64, octets: &[u8]) -> Outcome {
     match number {
         1 => Outcome::Registered,
         2 => Outcome::Erased,
@@ -107,7 +107,7 @@ fn outcome(number: u32, value: u64, octets: &[u8]) -> Outcome {
     }
 }
 
-fn written(answer: c::Answer) -> Result<usize, Refusal> {
+pub(crate) fn written(answer: c::Answer) -> Result<usize, Refusal> {
     match answer.class {
         c::WRITTEN => Ok(answer.count),
         c::REFUSAL => Err(refusal(answer.number)),

@@ -1,13 +1,14 @@
 //! The Follow Me node for Rust.
 //!
 //! The work is done by `libffn_c.a`, written in Rattle and proved, for every
-//! input, to answer and to leave in all lent memory exactly what document 01
-//! says. This crate turns its numbers into enums and adds nothing of its own.
+//! input, to answer and to leave in all lent memory exactly what documents 01
+//! and 02 say. This crate turns its numbers into enums and adds nothing of its own.
 //!
 //! A table has six words a number, a list two words a subscriber, as document
 //! 01 lays them out. Whatever a call refuses or finds in error, it touches no
-//! memory; what it writes stands at the start of the buffer, and everything
-//! beyond its count stays.
+//! memory, but that a framed request in error or rejected writes the frame that
+//! says so; what a call writes stands at the start of the buffer, and
+//! everything beyond its count stays.
 //!
 //! The archive is x86-64 code. Without the feature `archive` the numbers and
 //! answers are there alone, on any processor.
@@ -18,10 +19,13 @@ pub mod c;
 #[cfg(feature = "archive")]
 mod calls;
 mod crews;
+#[cfg(feature = "archive")]
+mod frames;
 mod number;
 
 pub use answers::{
-    Failure, Kind, Operation, Outcome, Refusal, Reply, RequestError, Resulted, Sent,
+    Answered, Failure, FramedReply, Kind, Message, Operation, Outcome, Problem, Refusal, Register,
+    Release, Reply, RequestError, Resulted, Sent,
 };
 #[cfg(feature = "archive")]
 pub use calls::{
@@ -29,4 +33,6 @@ pub use calls::{
     Request, BUFFER_ROOM, CODING_SCHEME, MOST_CHARACTERS, WRITER_ROOM,
 };
 pub use crews::{Codes, Crew, CrewField};
+#[cfg(feature = "archive")]
+pub use frames::{framed_request, read_register, read_release, write_register, FRAME_ROOM};
 pub use number::{FunctionalNumber, Msisdn, NumberError};

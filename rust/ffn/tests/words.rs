@@ -3,7 +3,7 @@
 
 use std::error::Error;
 
-use ffn::{Failure, FunctionalNumber, Msisdn, NumberError, Refusal, RequestError};
+use ffn::{Failure, FunctionalNumber, Msisdn, NumberError, Problem, Refusal, RequestError};
 
 #[test]
 fn numbers_are_read_with_their_zeros() {
@@ -89,7 +89,7 @@ fn words_that_are_no_numbers_are_malformed() {
 
 #[test]
 fn every_refusal_has_its_number_and_words() {
-    let said: Vec<String> = (0..=10)
+    let said: Vec<String> = (0..=20)
         .filter_map(Refusal::from_number)
         .map(|refusal| refusal.to_string())
         .collect();
@@ -105,7 +105,9 @@ fn every_refusal_has_its_number_and_words() {
             "refusal 7: the functional number is malformed or not in the table",
             "refusal 8: the list is unsound",
             "refusal 9: the fields break the string's rules, a value is not one that \
-             the packer takes, or unused bits are not 0",
+             the packer takes, unused bits are not 0, or the transaction identifier is above 15",
+            "refusal 11: the message is wrong anywhere up to its invoke number, or is no \
+             Release Complete of the node",
         ]
     );
 }
@@ -127,8 +129,23 @@ fn every_error_has_its_number_and_words() {
 }
 
 #[test]
+fn every_problem_has_its_number_and_words() {
+    let said: Vec<String> = (0..=255)
+        .filter_map(Problem::from_number)
+        .map(|problem| problem.to_string())
+        .collect();
+    assert_eq!(
+        said,
+        [
+            "problem 1: the operation is missing, unreadable or unknown",
+            "problem 2: something behind the operation is wrong",
+        ]
+    );
+}
+
+#[test]
 fn a_failure_speaks_as_its_reason_does() {
-    for refusal in (1..=9).filter_map(Refusal::from_number) {
+    for refusal in (1..=11).filter_map(Refusal::from_number) {
         assert_eq!(Failure::Refused(refusal).to_string(), refusal.to_string());
     }
     for error in [35, 36, 71].map(|n| RequestError::from_number(n).unwrap()) {

@@ -4,7 +4,8 @@
 use std::fmt::Write;
 
 use crate::crew::crew_codes;
-use crate::node::{finding, request, result, sending, Answer};
+use crate::frame::{read_register, read_release, write_register, Invoked, Released};
+use crate::node::{finding, framed_request, request, result, sending, Answer};
 use crate::number::is_number;
 use crate::packing::{pack, packed_length, unpack};
 use crate::string::{read_request, write_request, Fields, Operation};
@@ -121,6 +122,32 @@ fn small(word: u64) -> Option<u32> {
     word.try_into().ok()
 }
 
+fn low(word: u64) -> Option<u8> {
+    word.try_into().ok()
+}
+
+/// The fields of a request: operation, number and perhaps MSISDN as words, the
+/// additional field as a tail.
+fn request_fields(words: &[u64], tail: Tail) -> Option<Fields<Vec<u8>>> {
+    let (operation, number, forced) = match *words {
+        [operation, number] => (operation, number, None),
+        [operation, number, msisdn] => (operation, number, Some(msisdn)),
+        _ => return None,
+    };
+    let operation = match operation {
+        0 => Operation::Register,
+        1 => Operation::Erase,
+        2 => Operation::Interrogate,
+        _ => return None,
+    };
+    Some(Fields {
+        operation,
+        number,
+        forced,
+        additional: tail.octets()?,
+    })
+}
+
 /// Puts words behind others if they stay below `limit`.
 fn extend(memory: &mut Vec<u64>, limit: usize, words: impl Iterator<Item = u64>) -> Option<()> {
     let used = memory.len();
@@ -165,7 +192,18 @@ impl Calls {
     fn named(&mut self, line: &[u8]) -> Option<String> {
         let (name, rest) = split(line);
         let (words, tail) = fields(rest)?;
-        let takes_tail = matches!(name, b"request" | b"pack" | b"unpack" | b"write" | b"read");
+        let takes_tail = matches!(
+            name,
+            b"request"
+                | b"pack"
+                | b"unpack"
+                | b"write"
+                | b"read"
+                | b"framed"
+                | b"register"
+                | b"registered"
+                | b"released"
+        );
         if !takes_tail && !matches!(tail, Tail::None) {
             return None;
         }
@@ -197,11 +235,19 @@ impl Calls {
             }
             (b"pack", []) => self.writing(|out| tail.octets().map(|chars| pack(&chars, out))),
             (b"unpack", []) => self.writing(|out| tail.octets().map(|octets| unpack(&octets, out))),
-            (b"write", &[operation, number]) => self.write(operation, number, None, tail),
-            (b"write", &[operation, number, msisdn]) => {
-                self.write(operation, number, Some(msisdn), tail)
+            (b"write", words) => {
+                let fields = request_fields(words, tail)?;
+                self.writing(|out| Some(write_request(&fields, out)))
             }
             (b"read", []) => Some(reading(&tail.string()?)),
+            (b"framed", &[requester]) => self.framed(requester, &tail.octets()?),
+            (b"register", [transaction, invoke, words @ ..]) => {
+                let (transaction, invoke) = (low(*transaction)?, low(*invoke)?);
+                let fields = request_fields(words, tail)?;
+                self.writing(|out| Some(write_register(transaction, invoke, &fields, out)))
+            }
+            (b"registered", []) => Some(registered(&tail.octets()?)),
+            (b"released", []) => Some(released(&tail.octets()?)),
             (b"number", &[word]) => Some(
                 if is_number(word) {
                     "a number\n"
@@ -227,6 +273,14 @@ impl Calls {
         let (table, list) = (&mut self.table, &self.list);
         let answer = request(table, list, &mut reply, requester, scheme, &string);
         Some(said(answer) + &self.octets(&reply, count(answer)) + &self.table_after(&before))
+    }
+
+    fn framed(&mut self, requester: u64, message: &[u8]) -> Option<String> {
+        let mut frame = vec![self.filling; self.room];
+        let before = self.table.clone();
+        let (table, list) = (&mut self.table, &self.list);
+        let answer = framed_request(table, list, &mut frame, requester, message);
+        Some(said(answer) + &self.octets(&frame, count(answer)) + &self.table_after(&before))
     }
 
     fn sending(&mut self, number: u64, delay: u64, now: u64) -> Option<String> {
@@ -256,28 +310,6 @@ impl Calls {
             Err(refusal) => format!("refused {refusal}"),
         };
         Some(said + &self.octets(&out, written.unwrap_or(0)) + "\n")
-    }
-
-    fn write(
-        &self,
-        operation: u64,
-        number: u64,
-        forced: Option<u64>,
-        tail: Tail,
-    ) -> Option<String> {
-        let operation = match operation {
-            0 => Operation::Register,
-            1 => Operation::Erase,
-            2 => Operation::Interrogate,
-            _ => return None,
-        };
-        let fields = Fields {
-            operation,
-            number,
-            forced,
-            additional: tail.octets()?,
-        };
-        self.writing(|out| Some(write_request(&fields, out)))
     }
 
     /// The octets that were written, and what lies beyond.
@@ -325,6 +357,8 @@ fn said(answer: Answer) -> String {
             msisdn,
         } => format!("outcome 03, holder {msisdn}, {octets} octets"),
         Answer::Outcome { number, octets, .. } => format!("outcome {number:02}, {octets} octets"),
+        Answer::ReturnError { code, octets } => format!("return error {code}, {octets} octets"),
+        Answer::Reject { problem, octets } => format!("reject {problem}, {octets} octets"),
         Answer::Sent { addressee, octets } => format!("sent to {addressee}, {octets} octets"),
         Answer::Delivered => "delivered".into(),
         Answer::Dropped => "dropped".into(),
@@ -337,8 +371,45 @@ fn said(answer: Answer) -> String {
 /// How many octets an answer says to have written.
 fn count(answer: Answer) -> usize {
     match answer {
-        Answer::Outcome { octets, .. } | Answer::Sent { octets, .. } => octets,
+        Answer::Outcome { octets, .. }
+        | Answer::ReturnError { octets, .. }
+        | Answer::Reject { octets, .. }
+        | Answer::Sent { octets, .. } => octets,
         _ => 0,
+    }
+}
+
+/// What a Register reads as.
+fn registered(message: &[u8]) -> String {
+    match read_register(message) {
+        Err(refusal) => format!("refused {refusal}\n"),
+        Ok(read) => {
+            let content = match read.content {
+                Invoked::Problem(problem) => format!("problem {problem}"),
+                Invoked::Request { scheme, string } => format!(
+                    "scheme {scheme}, string from {}, {} octets",
+                    string.start, string.length
+                ),
+            };
+            format!("first {}, invoke {}, {content}\n", read.first, read.invoke)
+        }
+    }
+}
+
+/// What a Release Complete reads as.
+fn released(message: &[u8]) -> String {
+    match read_release(message) {
+        Err(refusal) => format!("refused {refusal}\n"),
+        Ok(read) => {
+            let content = match read.content {
+                Released::Result(string) => {
+                    format!("result from {}, {} octets", string.start, string.length)
+                }
+                Released::Error(code) => format!("error {code}"),
+                Released::Reject(problem) => format!("problem {problem}"),
+            };
+            format!("first {}, invoke {}, {content}\n", read.first, read.invoke)
+        }
     }
 }
 

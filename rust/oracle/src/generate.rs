@@ -12,7 +12,10 @@
 use std::collections::{BTreeMap, BTreeSet};
 
 use crate::crew::{crew_codes, member, LEAD};
-use crate::node::{finding, request, result, sending, Answer};
+use crate::frame::{
+    read_register, read_release, write_register, Invoked, Message, Place, Released,
+};
+use crate::node::{finding, framed_request, request, result, sending, Answer};
 use crate::number::{digit_count, is_number};
 use crate::packing::{pack, unpack};
 use crate::rows::{
@@ -21,8 +24,12 @@ use crate::rows::{
 use crate::string::{read_request, write_request, Additional, Fields, Operation};
 use crate::text::Text;
 
+mod frames;
+
+pub use frames::changed_frames;
+
 /// Lengths of buffers around the limits.
-pub const BUFFER_LENGTHS: [usize; 7] = [0, 79, 80, 81, 159, 160, 200];
+pub const BUFFER_LENGTHS: [usize; 10] = [0, 79, 80, 81, 119, 120, 121, 159, 160, 200];
 
 /// Codes of crews are often below this, so that crews of one root meet.
 const CLOSE_CODES: u64 = 14;
@@ -206,19 +213,41 @@ pub enum Call {
     IsNumber {
         word: u64,
     },
+    FramedRequest {
+        table: Vec<u64>,
+        list: Vec<u64>,
+        frame: Vec<u8>,
+        requester: u64,
+        message: Vec<u8>,
+    },
+    WriteRegister {
+        transaction: u8,
+        invoke: u8,
+        fields: Fields<Vec<u8>>,
+        frame: Vec<u8>,
+    },
+    ReadRegister {
+        message: Vec<u8>,
+    },
+    ReadRelease {
+        message: Vec<u8>,
+    },
 }
 
 /// What a call returns.
 #[derive(Clone, Copy, Debug, PartialEq, Eq)]
 pub enum Reply {
-    /// Of a request, sending, result or finding.
+    /// Of a request, framed or not, a sending, result or finding.
     Answer(Answer),
-    /// Of the packer, the unpacker or the request writer.
+    /// Of the packer, the unpacker, or the writer of a request or a Register.
     Count(Result<usize, u8>),
     /// Of the request reader.
     Fields(Option<Fields<Additional>>),
     /// Of the test for a number.
     IsNumber(bool),
+    /// Of the readers of frames.
+    Register(Result<Message<Invoked>, u8>),
+    Release(Result<Message<Released<Place>>, u8>),
 }
 
 impl Call {
@@ -252,6 +281,21 @@ impl Call {
             Self::WriteRequest { fields, out } => Reply::Count(write_request(fields, out)),
             Self::ReadRequest { octets } => Reply::Fields(read_request(octets)),
             Self::IsNumber { word } => Reply::IsNumber(is_number(*word)),
+            Self::FramedRequest {
+                table,
+                list,
+                frame,
+                requester,
+                message,
+            } => Reply::Answer(framed_request(table, list, frame, *requester, message)),
+            Self::WriteRegister {
+                transaction,
+                invoke,
+                fields,
+                frame,
+            } => Reply::Count(write_register(*transaction, *invoke, fields, frame)),
+            Self::ReadRegister { message } => Reply::Register(read_register(message)),
+            Self::ReadRelease { message } => Reply::Release(read_release(message)),
         }
     }
 }
@@ -890,7 +934,7 @@ fn crew_numbers(fields: &Fields<Vec<u8>>) -> Vec<u64> {
 impl Generator {
     /// Any call.
     pub fn call(&mut self) -> Call {
-        match self.random.below(20) {
+        match self.random.below(28) {
             0..=8 => self.request(),
             9..=11 => self.sending(),
             12 | 13 => self.result(),
@@ -899,7 +943,11 @@ impl Generator {
             16 => self.unpacking(),
             17 => self.writing(),
             18 => self.reading(),
-            _ => self.number_test(),
+            19 => self.number_test(),
+            20..=24 => self.framed(),
+            25 => self.writing_register(),
+            26 => self.reading_register(),
+            _ => self.reading_release(),
         }
     }
 
@@ -1450,21 +1498,51 @@ impl Generator {
             }
             Call::WriteRequest { fields, out } => {
                 self.put_buffer(input, &out);
-                let operation = match fields.operation {
-                    Operation::Register => 0,
-                    Operation::Erase => 1,
-                    Operation::Interrogate => 2,
-                };
-                let forced = fields
-                    .forced
-                    .map_or(String::new(), |word| format!(" {word}"));
-                let words = format!("write {operation} {}{forced}", fields.number);
-                [words.into_bytes(), self.tail(&fields.additional)].concat()
+                [b"write".to_vec(), self.field_words(&fields)].concat()
             }
             Call::ReadRequest { octets } => [b"read".to_vec(), self.string_tail(&octets)].concat(),
             Call::IsNumber { word } => format!("number {word}").into_bytes(),
+            Call::FramedRequest {
+                table,
+                list,
+                frame,
+                requester,
+                message,
+            } => {
+                self.put_words(input, "table", &table);
+                self.put_words(input, "list", &list);
+                self.put_buffer(input, &frame);
+                let words = format!("framed {requester}");
+                [words.into_bytes(), self.tail(&message)].concat()
+            }
+            Call::WriteRegister {
+                transaction,
+                invoke,
+                fields,
+                frame,
+            } => {
+                self.put_buffer(input, &frame);
+                let words = format!("register {transaction} {invoke}");
+                [words.into_bytes(), self.field_words(&fields)].concat()
+            }
+            Call::ReadRegister { message } => [b"registered", &*self.tail(&message)].concat(),
+            Call::ReadRelease { message } => [b"released", &*self.tail(&message)].concat(),
         };
         self.put_line(input, line, 48);
+    }
+
+    /// The fields of a request, as words and a tail.
+    fn field_words(&mut self, fields: &Fields<Vec<u8>>) -> Vec<u8> {
+        let operation = match fields.operation {
+            Operation::Register => 0,
+            Operation::Erase => 1,
+            Operation::Interrogate => 2,
+        };
+        let forced = fields
+            .forced
+            .map_or(String::new(), |word| format!(" {word}"));
+        let words = format!(" {operation} {}{forced}", fields.number);
+        [words.into_bytes(), self.tail(&fields.additional)].concat()
     }
 
     /// Appends the lines that set a table or a list.

@@ -13,6 +13,7 @@
 
 mod calls;
 mod crew;
+mod frame;
 pub mod generate;
 mod node;
 mod number;
@@ -24,7 +25,8 @@ mod text;
 
 pub use calls::{run_calls, CALLS_INPUT_LIMIT};
 pub use crew::{crew_codes, Code};
-pub use node::{finding, request, result, sending, Answer};
+pub use frame::{read_register, read_release, write_register, Invoked, Message, Place, Released};
+pub use node::{finding, framed_request, request, result, sending, Answer};
 pub use number::{is_number, number_from_digits};
 pub use packing::{pack, unpack};
 pub use program::{run, INPUT_LIMIT};

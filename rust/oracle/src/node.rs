@@ -1,6 +1,7 @@
 //! The calls on a lent table: requests and the three calls for notices.
 
 use crate::crew::{crew_codes, member, Code, Steps, LEAD};
+use crate::frame::{read_register, write_release, Invoked, Released, FRAME_ROOM, SCHEME};
 use crate::number::is_number;
 use crate::rows::{
     find_flags, find_record, list_is_sound, sound_records, sound_records_mut, Record, ADDRESSEE,
@@ -11,9 +12,6 @@ use crate::text::Text;
 
 /// The least room for a reply or a notice.
 const ROOM: usize = 80;
-
-/// The data coding scheme of a request.
-const SCHEME: u8 = 0x0F;
 
 /// The phase after the last of five sendings.
 const LAST_PHASE: u64 = 10;
@@ -32,8 +30,21 @@ pub enum Answer {
         octets: usize,
         msisdn: u64,
     },
+    /// A framed request is in error, or rejected. The Release Complete that says
+    /// so is in the first `octets` octets of the frame buffer.
+    ReturnError {
+        code: u8,
+        octets: usize,
+    },
+    Reject {
+        problem: u8,
+        octets: usize,
+    },
     /// A notice goes to `addressee`: the first `octets` octets of the buffer.
-    Sent { addressee: u64, octets: usize },
+    Sent {
+        addressee: u64,
+        octets: usize,
+    },
     /// The notice was delivered and is cleared.
     Delivered,
     /// The notice is cleared without having been delivered.
@@ -64,6 +75,67 @@ pub fn request(
     let Some(records) = sound_records_mut(table) else {
         return Answer::Refusal(2);
     };
+    behind_refusals(records, list, reply, requester, scheme, string)
+}
+
+/// Carries out a request that a Register holds, and answers it by a Release
+/// Complete: an outcome's `octets` are those of the frame.
+pub fn framed_request(
+    table: &mut [u64],
+    list: &[u64],
+    frame: &mut [u8],
+    requester: u64,
+    message: &[u8],
+) -> Answer {
+    if frame.len() < FRAME_ROOM {
+        return Answer::Refusal(1);
+    }
+    let register = match read_register(message) {
+        Ok(register) => register,
+        Err(refusal) => return Answer::Refusal(refusal),
+    };
+    if !list_is_sound(list) {
+        return Answer::Refusal(8);
+    }
+    let Some(records) = sound_records_mut(table) else {
+        return Answer::Refusal(2);
+    };
+    let mut release = |content| write_release(register.first, register.invoke, content, frame);
+    let (scheme, string) = match register.content {
+        Invoked::Request { scheme, string } => (scheme, string.of(message)),
+        Invoked::Problem(problem) => {
+            let octets = release(Released::Reject(problem));
+            return Answer::Reject { problem, octets };
+        }
+    };
+    let mut reply = [0; ROOM];
+    match behind_refusals(records, list, &mut reply, requester, scheme, string) {
+        Answer::Error(code) => {
+            let octets = release(Released::Error(code));
+            Answer::ReturnError { code, octets }
+        }
+        Answer::Outcome {
+            number,
+            octets,
+            msisdn,
+        } => Answer::Outcome {
+            number,
+            octets: release(Released::Result(&reply[..octets])),
+            msisdn,
+        },
+        other => other,
+    }
+}
+
+/// A request on sound table and list, from error 35 on.
+fn behind_refusals(
+    records: &mut [Record],
+    list: &[u64],
+    reply: &mut [u8],
+    requester: u64,
+    scheme: u8,
+    string: &[u8],
+) -> Answer {
     if !is_number(requester) {
         return Answer::Error(35);
     }

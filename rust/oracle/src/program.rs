@@ -131,6 +131,9 @@ impl Program {
             Answer::Dropped => out.extend_from_slice(b"dropped"),
             Answer::Again => out.extend_from_slice(b"again"),
             Answer::Found(_) | Answer::NoneDue => unreachable!("the program finds nothing"),
+            Answer::ReturnError { .. } | Answer::Reject { .. } => {
+                unreachable!("the program's requests are not framed")
+            }
         }
         out.push(b'\n');
     }

@@ -11,7 +11,7 @@ const MAX_OCTETS: usize = 160;
 pub(crate) const MAX_CHARACTERS: usize = MAX_OCTETS * 8 / 7;
 
 /// The least room that the writer takes.
-const WRITER_ROOM: usize = 160;
+pub(crate) const WRITER_ROOM: usize = 160;
 
 /// The most characters of the additional field.
 const MAX_ADDITIONAL: usize = 30;

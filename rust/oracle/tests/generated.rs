@@ -1,12 +1,15 @@
 //! Generated calls and program inputs: that they reach everything the papers
 //! name, and that what holds of every call holds of them.
 
+mod common;
+
 use std::collections::BTreeMap;
 
-use oracle::generate::{Call, Generator, Reply};
+use common::{register, release};
+use oracle::generate::{changed_frames, Call, Generator, Reply};
 use oracle::{
-    crew_codes, is_number, read_request, request, run, table_is_sound, unpack, write_request,
-    Answer, Fields,
+    crew_codes, is_number, read_register, read_release, read_request, request, run, run_calls,
+    table_is_sound, unpack, write_request, Answer, Fields, Invoked, Message, Released,
 };
 
 const CALLS: usize = 200_000;
@@ -81,12 +84,40 @@ fn label(before: &Call, after: &Call, reply: &Reply) -> String {
             None => "read: error 36".into(),
         },
         (Call::IsNumber { .. }, Reply::IsNumber(truth)) => format!("number: {truth}"),
+        (Call::FramedRequest { .. }, Reply::Answer(answer)) => match answer {
+            Answer::Outcome { number, .. } => format!("framed: {number:02}"),
+            Answer::ReturnError { code, octets: 12 } => format!("framed: error {code}"),
+            Answer::Reject {
+                problem,
+                octets: 12,
+            } => format!("framed: reject {problem}"),
+            other => format!("framed: {other:?}"),
+        },
+        (Call::WriteRegister { transaction, .. }, Reply::Count(count)) => match count {
+            Err(9) if *transaction > 15 => "write register: refusal 9, transaction".into(),
+            Err(number) => format!("write register: refusal {number}"),
+            Ok(_) => "write register: count".into(),
+        },
+        (Call::ReadRegister { .. }, Reply::Register(read)) => match read.map(|read| read.content) {
+            Err(number) => format!("read register: refusal {number}"),
+            Ok(Invoked::Problem(problem)) => format!("read register: problem {problem}"),
+            Ok(Invoked::Request { string, .. }) if string.length < 115 => {
+                "read register: request".into()
+            }
+            Ok(_) => "read register: request, long forms".into(),
+        },
+        (Call::ReadRelease { .. }, Reply::Release(read)) => match read.map(|read| read.content) {
+            Err(number) => format!("read release: refusal {number}"),
+            Ok(Released::Result(_)) => "read release: result".into(),
+            Ok(Released::Error(_)) => "read release: error".into(),
+            Ok(Released::Reject(_)) => "read release: reject".into(),
+        },
         _ => panic!("{reply:?} does not belong to {before:?}"),
     }
 }
 
 /// What each call must come to at least a hundred times.
-const REACHED: [&str; 76] = [
+const REACHED: [&str; 111] = [
     "request: Refusal(1)",
     "request: Refusal(8)",
     "request: Refusal(2)",
@@ -163,6 +194,41 @@ const REACHED: [&str; 76] = [
     "write: refusal 1, of a crew",
     "write: refusal 9",
     "write: refusal 9, of a crew",
+    "framed: Refusal(1)",
+    "framed: Refusal(11)",
+    "framed: Refusal(8)",
+    "framed: Refusal(2)",
+    "framed: reject 1",
+    "framed: reject 2",
+    "framed: error 35",
+    "framed: error 71",
+    "framed: error 36",
+    "framed: 01",
+    "framed: 02",
+    "framed: 03",
+    "framed: 11",
+    "framed: 12",
+    "framed: 22",
+    "framed: 41",
+    "framed: 42",
+    "framed: 61",
+    "framed: 62",
+    "framed: 63",
+    "framed: 67",
+    "framed: 68",
+    "write register: count",
+    "write register: refusal 1",
+    "write register: refusal 9",
+    "write register: refusal 9, transaction",
+    "read register: request",
+    "read register: request, long forms",
+    "read register: problem 1",
+    "read register: problem 2",
+    "read register: refusal 11",
+    "read release: result",
+    "read release: error",
+    "read release: reject",
+    "read release: refusal 11",
 ];
 
 #[test]
@@ -368,6 +434,44 @@ fn check(before: &Call, after: &Call, reply: &Reply) {
                 _ => assert_eq!(before, after),
             }
         }
+        (Call::FramedRequest { .. }, _) => match reply {
+            Reply::Answer(answer) => check_framed(before, after, answer),
+            other => panic!("{other:?}"),
+        },
+        (
+            Call::WriteRegister {
+                transaction,
+                invoke,
+                fields,
+                frame: old,
+            },
+            Call::WriteRegister { frame: new, .. },
+        ) => match reply {
+            Reply::Count(Ok(count)) => {
+                check_beyond(old, new, *count);
+                let mut string = [0; 160];
+                let length = write_request(fields, &mut string).unwrap();
+                let first = 16 * transaction + 0x0B;
+                let whole = register(first, *invoke, 0x0F, &string[..length]);
+                assert_eq!(new[..*count], whole);
+            }
+            _ => assert_eq!(before, after),
+        },
+        (Call::ReadRegister { message }, _) => {
+            if let Reply::Register(Ok(read)) = reply {
+                check_register(read, message);
+            }
+        }
+        (Call::ReadRelease { message }, _) => {
+            if let Reply::Release(Ok(read)) = reply {
+                let content = match read.content {
+                    Released::Result(string) => Released::Result(string.of(message)),
+                    Released::Error(code) => Released::Error(code),
+                    Released::Reject(problem) => Released::Reject(problem),
+                };
+                assert_eq!(release(read.first, read.invoke, content), *message);
+            }
+        }
         (Call::ReadRequest { octets }, _) => {
             if let Reply::Fields(Some(fields)) = reply {
                 let mut out = [0; 160];
@@ -376,6 +480,90 @@ fn check(before: &Call, after: &Call, reply: &Reply) {
             }
         }
         _ => assert_eq!(before, after),
+    }
+}
+
+/// A message that reads is the one frame of what it reads as.
+fn check_register(read: &Message<Invoked>, message: &[u8]) {
+    if let Invoked::Request { scheme, string } = read.content {
+        let string = string.of(message);
+        assert_eq!(register(read.first, read.invoke, scheme, string), message);
+    }
+}
+
+/// A framed request does what the bare one does with the string inside, and
+/// its frame says so with the flag inverted; refusals touch nothing.
+fn check_framed(before: &Call, after: &Call, answer: &Answer) {
+    let (
+        Call::FramedRequest {
+            table,
+            list,
+            frame: old,
+            requester,
+            message,
+        },
+        Call::FramedRequest {
+            table: new_table,
+            frame: new,
+            ..
+        },
+    ) = (before, after)
+    else {
+        unreachable!("a framed request");
+    };
+    let (Answer::Outcome { octets, .. }
+    | Answer::ReturnError { octets, .. }
+    | Answer::Reject { octets, .. }) = answer
+    else {
+        return assert_eq!(before, after);
+    };
+    let read = read_register(message).unwrap();
+    let (mut table, mut reply) = (table.clone(), [0; 80]);
+    let bare = match read.content {
+        Invoked::Problem(_) => None,
+        Invoked::Request { scheme, string } => {
+            let string = string.of(message);
+            Some(request(
+                &mut table, list, &mut reply, *requester, scheme, string,
+            ))
+        }
+    };
+    assert_eq!(table, *new_table);
+    let content = expected(read.content, bare, answer, &reply);
+    let whole = release(read.first ^ 0x80, read.invoke, content);
+    assert_eq!(new[..*octets], whole);
+    check_beyond(old, new, *octets);
+    assert!(read_release(&whole).is_ok());
+}
+
+/// What the Release Complete holds, by the Register and the bare request.
+fn expected<'a>(
+    invoked: Invoked,
+    bare: Option<Answer>,
+    answer: &Answer,
+    reply: &'a [u8],
+) -> Released<&'a [u8]> {
+    match (invoked, bare, answer) {
+        (Invoked::Problem(found), _, Answer::Reject { problem, .. }) if found == *problem => {
+            Released::Reject(found)
+        }
+        (_, Some(Answer::Error(error)), Answer::ReturnError { code, .. }) if error == *code => {
+            Released::Error(error)
+        }
+        (
+            _,
+            Some(Answer::Outcome {
+                number,
+                octets,
+                msisdn,
+            }),
+            Answer::Outcome {
+                number: framed,
+                msisdn: holder,
+                ..
+            },
+        ) if (number, msisdn) == (*framed, *holder) => Released::Result(&reply[..octets]),
+        _ => panic!("{answer:?} for {bare:?} and {invoked:?}"),
     }
 }
 
@@ -456,4 +644,45 @@ fn program_inputs_print_every_kind_of_line() {
         ]
     );
     assert!(counts.values().all(|&count| count >= 30));
+}
+
+/// The changed frames are whole lines, and each kind of line comes up.
+#[test]
+fn changed_frames_print_every_kind_of_line() {
+    let mut counts: BTreeMap<String, usize> = BTreeMap::new();
+    let mut made = 0;
+    for (lines, calls) in changed_frames() {
+        let output = String::from_utf8(run_calls(&lines)).unwrap();
+        assert_eq!(output.lines().count() as u64, calls);
+        made += calls;
+        for line in output.lines() {
+            let what = match line.strip_prefix("first ") {
+                Some(read) => read.split(", ").nth(2).unwrap(),
+                None => line.split([',', '[']).next().unwrap().trim_end(),
+            };
+            let what = match what.split_once(' ') {
+                Some((what @ ("scheme" | "result" | "error" | "problem"), _)) => what,
+                _ => what,
+            };
+            *counts.entry(what.into()).or_insert(0) += 1;
+        }
+    }
+    println!("{made} calls");
+    let printed: Vec<&str> = counts.keys().map(String::as_str).collect();
+    assert_eq!(
+        printed,
+        [
+            "error",
+            "outcome 01",
+            "outcome 41",
+            "problem",
+            "refused 11",
+            "reject 1",
+            "reject 2",
+            "result",
+            "return error 36",
+            "return error 71",
+            "scheme",
+        ]
+    );
 }

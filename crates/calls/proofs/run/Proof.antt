@@ -6,10 +6,10 @@ use Rattle.calls.proofs.run.Statement.{statement}
 use Rattle.calls.proofs.run.Tie as tie
 
 abbrev Inv-loop : tie.InvT-loop
-Inv-loop input table₀ list₀ out₀ state₀ start₀ at₀ table list out state start at = (length table ≡ length table₀) × (length list ≡ length list₀) × (length out ≡ length out₀)
+Inv-loop input table₀ list₀ state₀ start₀ table list state start = (length table ≡ length table₀) × (length list ≡ length list₀)
 
 abbrev μ-loop : tie.MeasureT-loop
-μ-loop input table₀ list₀ out₀ state₀ start₀ at₀ table list out state start at = length input - start
+μ-loop input table₀ list₀ state₀ start₀ table list state start = length input - start
 
 loop-holds : tie.Need-loop-holds Inv-loop μ-loop
 loop-holds c = search needs
@@ -29,9 +29,6 @@ part-do-line-end c = search needs
 do-line-requires : tie.Need-do-line-requires Inv-loop μ-loop
 do-line-requires c κs = search needs
 
-go-on-requires : tie.Need-go-on-requires Inv-loop μ-loop
-go-on-requires c κs = search needs
-
 add-start : tie.Need-add-start Inv-loop μ-loop
 add-start c = search needs
 
@@ -41,17 +38,11 @@ loop-less c = search needs
 loop-again : tie.Need-loop-again Inv-loop μ-loop
 loop-again c = search needs
 
-write-waiting-requires : tie.Need-write-waiting-requires Inv-loop μ-loop
-write-waiting-requires c κs = search needs
-
 same-length : tie.Need-same-length Inv-loop μ-loop
 same-length c = search needs
 
 same-length-2 : tie.Need-same-length-2 Inv-loop μ-loop
 same-length-2 c = search needs
-
-same-length-3 : tie.Need-same-length-3 Inv-loop μ-loop
-same-length-3 c = search needs
 
 returns : tie.Need-returns Inv-loop μ-loop
 returns c = search needs
@@ -68,12 +59,9 @@ run-spec =
     part-do-line-start
     part-do-line-end
     do-line-requires
-    go-on-requires
     add-start
     loop-less
     loop-again
-    write-waiting-requires
     same-length
     same-length-2
-    same-length-3
     returns)

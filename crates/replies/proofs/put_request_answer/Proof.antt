@@ -1,7 +1,8 @@
 -- `replies::put_request_answer` meets its contract. Assumes nothing.
 use native.Mathlib.Omega.{arith}
 use Rattle.packing.specs.Packing.{charsIn}
-use Rattle.replies.specs.Replies.{Text, mostReplyOctets}
+use Rattle.rules.specs.Answers.{mostReplyOctets}
+use Rattle.replies.specs.Replies.{Text}
 use Rattle.replies.proofs.Writing.{text-count, text-room}
 use borrow.Author.Needs.{needs}
 use Rattle.replies.proofs.put_request_answer.Statement.{statement}

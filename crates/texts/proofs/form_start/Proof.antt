@@ -1,11 +1,11 @@
-use Prim.Native.Nat.{_-_}
+use Prim.Native.Nat.{_-_, _≤_}
 use lib.ListN.{length}
 use borrow.Author.Needs.{needs}
 use Rattle.texts.proofs.form_start.Statement.{statement}
 use Rattle.texts.proofs.form_start.Tie as tie
 
 abbrev Inv-loop : tie.InvT-loop
-Inv-loop forms place left₀ i₀ left i = Unit {0}
+Inv-loop forms place left₀ i₀ left i = i ≤ length forms
 
 abbrev μ-loop : tie.MeasureT-loop
 μ-loop forms place left₀ i₀ left i = length forms - i

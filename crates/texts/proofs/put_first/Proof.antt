@@ -1,4 +1,3 @@
-use mathlib.Core.Path.{_≡_}
 use Prim.Native.Nat.{_-_}
 use lib.ListN.{length}
 use borrow.Author.Needs.{needs}
@@ -6,10 +5,10 @@ use Rattle.texts.proofs.put_first.Statement.{statement}
 use Rattle.texts.proofs.put_first.Tie as tie
 
 abbrev Inv-loop : tie.InvT-loop
-Inv-loop out₀ at octets count end to₀ i₀ t8 out to i = length out ≡ length out₀
+Inv-loop octets count end i₀ t5 i = Unit {0}
 
 abbrev μ-loop : tie.MeasureT-loop
-μ-loop out₀ at octets count end to₀ i₀ t8 out to i = length octets - i
+μ-loop octets count end i₀ t5 i = length octets - i
 
 least-requires : tie.Need-least-requires Inv-loop μ-loop
 least-requires c κs = search needs
@@ -38,9 +37,6 @@ loop-less c = search needs
 loop-again : tie.Need-loop-again Inv-loop μ-loop
 loop-again c = search needs
 
-same-length : tie.Need-same-length Inv-loop μ-loop
-same-length c = search needs
-
 returns : tie.Need-returns Inv-loop μ-loop
 returns c = search needs
 
@@ -59,5 +55,4 @@ put-first-spec =
     add-i
     loop-less
     loop-again
-    same-length
     returns)

@@ -1,6 +1,6 @@
-//! `compare_calls RUNNER PROGRAM SEED CALLS`: random lines through the proved
-//! program `calls`, which RUNNER runs, and through the independent
-//! implementation; what both print must be the same.
+//! `compare_calls RUNNER PROGRAM SEED CALLS`: changed frames and random lines
+//! through the proved program `calls`, which RUNNER runs, and through the
+//! independent implementation; what both print must be the same.
 
 #![forbid(unsafe_code)]
 
@@ -8,7 +8,7 @@ use std::collections::BTreeMap;
 use std::io::Write;
 use std::process::{Command, ExitCode, Stdio};
 
-use oracle::generate::Generator;
+use oracle::generate::{changed_frames, Generator};
 
 /// A batch ends before it has so many octets.
 const BATCH: usize = oracle::CALLS_INPUT_LIMIT;
@@ -60,7 +60,13 @@ fn count(output: &[u8], counts: &mut BTreeMap<String, u64>) {
         let end = line.find([',', '[', '\'']).unwrap_or(line.len());
         let kind: String = line[..end].trim_end().into();
         let kind = match kind.split_once(' ') {
-            Some(("due" | "sent", _)) => kind.split(' ').next().unwrap_or_default().into(),
+            Some((kind @ ("due" | "sent"), _)) => kind.into(),
+            // Of a reading, what it says last: a string, an error or a problem.
+            Some(("first", _)) => match line.rsplit_once(", ") {
+                Some((_, last)) if last.ends_with("octets") => "read".into(),
+                Some((_, last)) => format!("read, {}", last.split(' ').next().unwrap_or_default()),
+                None => kind,
+            },
             _ if kind.starts_with(|first: char| first.is_ascii_digit()) => "written".into(),
             _ => kind,
         };
@@ -68,35 +74,50 @@ fn count(output: &[u8], counts: &mut BTreeMap<String, u64>) {
     }
 }
 
+/// Runs a batch through both and counts what it prints.
+fn compare_batch(
+    runner: &str,
+    program: &str,
+    input: Vec<u8>,
+    counts: &mut BTreeMap<String, u64>,
+) -> Result<(), String> {
+    let expected = oracle::run_calls(&input);
+    let got = output(runner, program, input.clone()).map_err(|e| e.to_string())?;
+    if got != expected {
+        return Err(difference(&input, &expected, &got));
+    }
+    count(&got, counts);
+    Ok(())
+}
+
 fn compare(runner: &str, program: &str, seed: u64, calls: u64) -> Result<(), String> {
     let mut generator = Generator::new(seed);
+    let mut left = calls;
+    let random = std::iter::from_fn(|| {
+        let mut lines = Vec::new();
+        let made = (left > 0).then(|| generator.call_lines(&mut lines))?;
+        left = left.saturating_sub(made);
+        Some((lines, made))
+    });
     let mut counts = BTreeMap::new();
-    let (mut made, mut batches) = (0, 0);
-    let (mut next, mut in_next) = (Vec::new(), 0);
-    while made < calls {
-        let mut input = std::mem::take(&mut next);
-        made += std::mem::take(&mut in_next);
-        while made < calls {
-            in_next = generator.call_lines(&mut next);
-            if next.len() >= BATCH {
-                // More memory than an input can set.
-                next.clear();
-            } else if input.len() + next.len() >= BATCH {
-                break;
-            } else {
-                input.append(&mut next);
-                made += std::mem::take(&mut in_next);
-            }
-        }
-        let expected = oracle::run_calls(&input);
-        let got = output(runner, program, input.clone()).map_err(|e| e.to_string())?;
-        if got != expected {
-            let difference = difference(&input, &expected, &got);
-            return Err(format!("seed {seed}, batch {batches}: {difference}"));
-        }
-        count(&got, &mut counts);
+    let (mut input, mut made, mut batches) = (Vec::new(), 0, 0);
+    let mut run = |input| {
         batches += 1;
+        compare_batch(runner, program, input, &mut counts)
+            .map_err(|difference| format!("seed {seed}, batch {batches}: {difference}"))
+    };
+    for (mut lines, calls) in changed_frames().into_iter().chain(random) {
+        if lines.len() >= BATCH {
+            // More memory than an input can set.
+            continue;
+        }
+        if input.len() + lines.len() >= BATCH {
+            run(std::mem::take(&mut input))?;
+        }
+        input.append(&mut lines);
+        made += calls;
     }
+    run(input)?;
     for (kind, count) in counts {
         println!("{count:8}  {kind}");
     }

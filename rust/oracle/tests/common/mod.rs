@@ -4,7 +4,7 @@
 // Each test file is built by itself and uses a part of this.
 #![allow(dead_code)]
 
-use oracle::{number_from_digits, pack, request, unpack, Answer};
+use oracle::{number_from_digits, pack, request, unpack, Answer, Released};
 
 /// F, the functional number of the examples.
 pub const F: u64 = 10_492_123_401;
@@ -73,4 +73,40 @@ pub fn ask(table: &mut [u64], list: &[u64], requester: u64, string: &str) -> Str
             format!("{other:?}")
         }
     }
+}
+
+/// A part of a message: a tag, its length in the shortest form, its content.
+fn part(tag: u8, content: &[u8]) -> Vec<u8> {
+    let length = u8::try_from(content.len()).unwrap();
+    let long: &[u8] = if length < 128 { &[] } else { &[0x81] };
+    [&[tag], long, &[length], content].concat()
+}
+
+fn element(first: u8, message_type: u8, component: &[u8]) -> Vec<u8> {
+    let length = u8::try_from(component.len()).unwrap();
+    [&[first, message_type, 0x1C, length], component].concat()
+}
+
+/// The Register of these values; the lengths count what is there.
+pub fn register(first: u8, invoke: u8, scheme: u8, string: &[u8]) -> Vec<u8> {
+    let sequence = [vec![4, 1, scheme], part(4, string)].concat();
+    let component = [vec![2, 1, invoke, 2, 1, 0x3B], part(0x30, &sequence)].concat();
+    let mut message = element(first, 0x7B, &part(0xA1, &component));
+    message.extend([0x7F, 1, 0]);
+    message
+}
+
+/// The Release Complete of these values.
+pub fn release(first: u8, invoke: u8, content: Released<&[u8]>) -> Vec<u8> {
+    let (tag, content) = match content {
+        Released::Result(string) => {
+            let inner = [vec![4, 1, 0x0F], part(4, string)].concat();
+            let outer = [vec![2, 1, 0x3B], part(0x30, &inner)].concat();
+            (0xA2, part(0x30, &outer))
+        }
+        Released::Error(code) => (0xA3, vec![2, 1, code]),
+        Released::Reject(problem) => (0xA4, vec![0x81, 1, problem]),
+    };
+    let component = [vec![2, 1, invoke], content].concat();
+    element(first, 0x2A, &part(tag, &component))
 }

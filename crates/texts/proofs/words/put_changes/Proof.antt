@@ -1,4 +1,3 @@
-use mathlib.Core.Path.{_≡_}
 use Prim.Native.Nat.{_-_}
 use lib.ListN.{length}
 use borrow.Author.Needs.{needs}
@@ -6,10 +5,10 @@ use Rattle.texts.proofs.words.put_changes.Statement.{statement}
 use Rattle.texts.proofs.words.put_changes.Tie as tie
 
 abbrev Inv-loop : tie.InvT-loop
-Inv-loop out₀ at before after width to₀ start₀ row₀ out to start row = length out ≡ length out₀
+Inv-loop before after width stays₀ start₀ row₀ t8 stays start row = Unit {0}
 
 abbrev μ-loop : tie.MeasureT-loop
-μ-loop out₀ at before after width to₀ start₀ row₀ out to start row = length after - start
+μ-loop before after width stays₀ start₀ row₀ t8 stays start row = length after - start
 
 loop-holds : tie.Need-loop-holds Inv-loop μ-loop
 loop-holds c = search needs
@@ -29,11 +28,17 @@ loop-less c = search needs
 loop-again : tie.Need-loop-again Inv-loop μ-loop
 loop-again c = search needs
 
-same-length : tie.Need-same-length Inv-loop μ-loop
-same-length c = search needs
+slice-aggregate-put : tie.Need-slice-aggregate-put Inv-loop μ-loop
+slice-aggregate-put c = search needs
+
+put-requires : tie.Need-put-requires Inv-loop μ-loop
+put-requires c κs = search needs
 
 returns : tie.Need-returns Inv-loop μ-loop
 returns c = search needs
+
+returns-2 : tie.Need-returns-2 Inv-loop μ-loop
+returns-2 c = search needs
 
 pub put-changes-spec : {M : Type 1} → statement M
 put-changes-spec =
@@ -47,5 +52,7 @@ put-changes-spec =
     wrapping-add-u64-requires
     loop-less
     loop-again
-    same-length
-    returns)
+    slice-aggregate-put
+    put-requires
+    returns
+    returns-2)

@@ -2,17 +2,14 @@ use mathlib.Core.Path.{_≡_}
 use Prim.Native.Nat.{_-_}
 use lib.ListN.{length}
 use borrow.Author.Needs.{needs}
-use Rattle.texts.proofs.put_part.Statement.{statement}
-use Rattle.texts.proofs.put_part.Tie as tie
+use Rattle.texts.proofs.fields.read_characters.Statement.{statement}
+use Rattle.texts.proofs.fields.read_characters.Tie as tie
 
 abbrev Inv-loop : tie.InvT-loop
-Inv-loop out₀ at characters from end end' to₀ i₀ out to i = length out ≡ length out₀
+Inv-loop line from out₀ count₀ at₀ out count at = length out ≡ length out₀
 
 abbrev μ-loop : tie.MeasureT-loop
-μ-loop out₀ at characters from end end' to₀ i₀ out to i = length characters - i
-
-least-requires : tie.Need-least-requires Inv-loop μ-loop
-least-requires c κs = search needs
+μ-loop line from out₀ count₀ at₀ out count at = length line - at
 
 loop-holds : tie.Need-loop-holds Inv-loop μ-loop
 loop-holds c = search needs
@@ -29,11 +26,11 @@ shared-slice-read-out c = search needs
 slice-write-out : tie.Need-slice-write-out Inv-loop μ-loop
 slice-write-out c = search needs
 
-add-to : tie.Need-add-to Inv-loop μ-loop
-add-to c = search needs
+add-count : tie.Need-add-count Inv-loop μ-loop
+add-count c = search needs
 
-add-i : tie.Need-add-i Inv-loop μ-loop
-add-i c = search needs
+add-at : tie.Need-add-at Inv-loop μ-loop
+add-at c = search needs
 
 loop-less : tie.Need-loop-less Inv-loop μ-loop
 loop-less c = search needs
@@ -47,20 +44,19 @@ same-length-2 c = search needs
 returns-2 : tie.Need-returns-2 Inv-loop μ-loop
 returns-2 c = search needs
 
-pub put-part-spec : {M : Type 1} → statement M
-put-part-spec =
+pub read-characters-spec : {M : Type 1} → statement M
+read-characters-spec =
     tie.close
     (tie.spec
     Inv-loop
     μ-loop
-    least-requires
     loop-holds
     same-length
     returns
     shared-slice-read-out
     slice-write-out
-    add-to
-    add-i
+    add-count
+    add-at
     loop-less
     loop-again
     same-length-2
