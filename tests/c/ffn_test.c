@@ -196,9 +196,9 @@ static void notices(void)
     HOLDS(is(ffn_result(table, 6, F, 5, 60), FFN_RESULT, FFN_AGAIN, 0, 0) && record_is(F, 0, 5, A, B, 60));
     HOLDS(is(ffn_result(table, 6, F, 0, 60), FFN_REFUSAL, 4, 0, 0));
 
-    set_record(B, 8, A, B, 0); /* P14 */
-    HOLDS(is(ffn_result(table, 6, F, 5, 77), FFN_RESULT, FFN_AGAIN, 0, 0) && record_is(F, B, 9, A, B, 77));
-    set_record(B, 10, A, B, 0);
+    set_record(B, 10, A, B, 0); /* P14 */
+    HOLDS(is(ffn_result(table, 6, F, 5, 77), FFN_RESULT, FFN_AGAIN, 0, 0) && record_is(F, B, 11, A, B, 77));
+    set_record(B, 12, A, B, 0);
     HOLDS(is(ffn_result(table, 6, F, 5, 77), FFN_RESULT, FFN_DROPPED, 0, 0) && record_is(F, B, 0, 0, 0, 0));
     set_record(B, 2, A, B, 0);
     HOLDS(is(ffn_result(table, 6, F, 0, 77), FFN_RESULT, FFN_DELIVERED, 0, 0) && record_is(F, B, 0, 0, 0, 0));

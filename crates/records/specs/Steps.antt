@@ -37,9 +37,9 @@ heldBy m r = record { holder = m; notice = r .notice; addressee = r .addressee; 
 
 -- ---- notices
 
--- "A notice thus ends after at most five sendings"
+-- M-102: "one sending and five repeats"
 abbrev pub mostSendings : ℕ
-mostSendings = 5
+mostSendings = 6
 
 abbrev pub isAbsent : Notice → Bool
 isAbsent Absent = true
@@ -154,7 +154,7 @@ sent delay clock r =
 abbrev pub lastKind : ℕ
 lastKind = 5
 
--- "Kinds 0 to 4 clear the notice. Kind 5 clears it at phase 10; otherwise the phase grows by 1 and the last word is now.
+-- "Kinds 0 to 4 clear the notice", M-102: "kind 5 clears at 12"; "otherwise the phase grows by 1 and the last word is now.
 -- It returns delivered for kind 0, dropped where 1 to 5 clears, again otherwise"
 unfoldable pub resulted : ℕ → ℕ → Record → Resulted
 resulted kind clock r =

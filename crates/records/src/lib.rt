@@ -53,8 +53,8 @@ const LONGEST_DELAY: u32 = 600;
 
 const USUAL_DELAY: u32 = 60;
 
-// "A notice thus ends after at most five sendings".
-pub const MOST_SENDINGS: u8 = 5;
+// M-102: "one sending and five repeats".
+pub const MOST_SENDINGS: u8 = 6;
 
 // "5 any other error".
 const LAST_KIND: u32 = 5;

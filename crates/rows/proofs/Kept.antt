@@ -22,7 +22,7 @@ use Rattle.records.specs.declared.Sending.the-variants as sending
 use Rattle.records.specs.declared.Resulted.{Resulted}
 use Rattle.records.specs.declared.Resulted.the-variants.{Refused, Delivered, Dropped, Again}
 use Rattle.records.specs.Steps.{nobody, isNobody, same, heldBy, mostSendings, isAbsent, isWaiting, isInFlight, sendingsDone, withNotice, cleared, forcedOff, registered, erased, forced, delayAllowed, isDue, launched, sent, lastKind, resulted}
-use Rattle.rows.specs.Rows.{lastPhase, failedOnce, holderSound, noticeBy, phaseOf, secondOf, sentOnce, recordSound}
+use Rattle.rows.specs.Rows.{lastPhase, failedOnce, holderSound, noticeUpTo, phaseOf, secondOf, sentOnce, recordSound}
 use Rattle.rows.proofs.Notices.{Pending, pending, pending-sound}
 use Rattle.rows.proofs.Rows.{sound-record, record-is-sound}
 
@@ -93,7 +93,7 @@ module _ (r : Record) (s : recordSound r ≡ true) where
       (held-sound nobody refl)
 
   off-sound : (supervisor : Msisdn) → isNumber (r .holder .0) ≡ true → isNumber (supervisor .0) ≡ true → same (r .holder) supervisor ≡ false → recordSound (forcedOff supervisor r) ≡ true
-  unfolding recordSound noticeBy
+  unfolding recordSound noticeUpTo
   off-sound supervisor h n e = simp (e, h, n)
 
   pub forced-sound : (supervisor named : Msisdn) → isNumber (supervisor .0) ≡ true → SoundStep (forced supervisor named r)
@@ -140,7 +140,7 @@ module _ (r : Record) (s : recordSound r ≡ true) where
       (λ passed. launched-sound (r .notice) refl (not-false _ (passed .1 .0)))
 
   cleared-sound : recordSound (cleared r) ≡ true
-  unfolding recordSound noticeBy
+  unfolding recordSound noticeUpTo
   cleared-sound = rw (sound-record r s .holder)
 
   -- a notice that comes back from its k-th sending

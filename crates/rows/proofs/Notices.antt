@@ -10,7 +10,7 @@ use Rattle.answers.proofs.Tests.{and-left, and-right, and-three, or-cases, less
 use Rattle.numbers.specs.Numbers.{isNumber}
 use Rattle.records.specs.declared.Notice.{Notice}
 use Rattle.records.specs.declared.Notice.the-variants.{Absent, Waiting, InFlight}
-use Rattle.rows.specs.Rows.{lastPhase, failedOnce, noticeBy, noticeSound, noticeOf, phaseOf, secondOf, sentOnce}
+use Rattle.rows.specs.Rows.{lastPhase, failedOnce, noticeUpTo, noticeSound, noticeOf, phaseOf, secondOf, sentOnce}
 
 -- ---- what the words of a notice say
 
@@ -32,7 +32,7 @@ module _ (phase addressee supervisor second : ℕ) where
   seconds = ltb second (2 ^ 32) && (eqb second 0 || failedOnce phase)
 
   pub pending : noticeSound phase addressee supervisor second ≡ true → 1 ≤ phase → Pending phase addressee supervisor second
-  unfolding noticeBy numbers seconds
+  unfolding noticeUpTo numbers seconds
   pending e h =
       let w = and-three (leb phase lastPhase) numbers seconds (rw (ne-eqb phase 0 (λ z. omega arith)) at e) in
       let n = and-three (isNumber addressee) (isNumber supervisor) (not (eqb addressee supervisor)) (w .1) in
@@ -47,14 +47,14 @@ module _ (phase addressee supervisor second : ℕ) where
       }
 
   pub pending-sound : Pending phase addressee supervisor second → noticeSound phase addressee supervisor second ≡ true
-  unfolding noticeBy
+  unfolding noticeUpTo
   pending-sound p =
       let h = p .some in
       simp (ne-eqb phase 0 (λ z. omega arith), le-leb phase lastPhase (p .most), p .addressed, p .supervised, p .differ, lt-ltb second (2 ^ 32) (p .below), p .failed)
 
 -- "With phase 0 the last three words are 0"
 pub absent-words : (addressee supervisor second : ℕ) → noticeSound 0 addressee supervisor second ≡ true → (addressee ≡ 0) × (supervisor ≡ 0) × (second ≡ 0)
-unfolding noticeBy
+unfolding noticeUpTo
 absent-words addressee supervisor second e =
     let w = and-three (eqb addressee 0) (eqb supervisor 0) (eqb second 0) e in
     (eqb-true addressee 0 (w .0), eqb-true supervisor 0 (w .1), eqb-true second 0 (w .2))

@@ -10,7 +10,7 @@ use lib.Seq.{length-sets}
 use Rattle.answers.proofs.Tests.{and-three, less-or-not}
 use Rattle.numbers.specs.Numbers.{isNumber}
 use Rattle.records.specs.declared.Record.{Record}
-use Rattle.rows.specs.Rows.{rowWords, word, numberAt, holderAt, phaseAt, addresseeAt, supervisorAt, secondAt, holderSound, noticeSound, rowSound, phaseOf, secondOf, recordAt, wordsOf, stored, sentOnce, recordSound}
+use Rattle.rows.specs.Rows.{rowWords, word, numberAt, holderAt, phaseAt, addresseeAt, supervisorAt, secondAt, holderSound, noticeSound, rowUpTo, rowSound, phaseOf, secondOf, recordAt, wordsOf, stored, sentOnce, recordSound}
 use Rattle.rows.proofs.Notices.{phase-back, second-back, once-back, notice-back}
 use Rattle.rows.proofs.Stores.{sets-other, sets-at, sets-same}
 
@@ -22,7 +22,7 @@ pub record SoundRow (t : List ℕ) (i : ℕ) : Type 0 where
   pub notice : noticeSound (phaseAt t i) (addresseeAt t i) (supervisorAt t i) (secondAt t i) ≡ true
 
 pub sound-row : (t : List ℕ) (i : ℕ) → rowSound t i ≡ true → SoundRow t i
-unfolding rowSound
+unfolding rowUpTo
 sound-row t i e =
     let w = and-three (isNumber (numberAt t i)) (holderSound (holderAt t i)) (noticeSound (phaseAt t i) (addresseeAt t i) (supervisorAt t i) (secondAt t i)) e in
     record { number = w .0; holder = w .1; notice = w .2 }
@@ -62,7 +62,7 @@ module _ (t : List ℕ) (i : ℕ) (u : List ℕ) (j : ℕ) (same : SameWords t i
       simp (same 1 (omega arith) (omega arith), same 2 (omega arith) (omega arith), same 3 (omega arith) (omega arith), same 4 (omega arith) (omega arith), same 5 (omega arith) (omega arith))
 
   pub same-row : numberAt t i ≡ numberAt u j → rowSound t i ≡ rowSound u j
-  unfolding rowSound
+  unfolding rowUpTo
   same-row e =
       simp (e, same 1 (omega arith) (omega arith), same 2 (omega arith) (omega arith), same 3 (omega arith) (omega arith), same 4 (omega arith) (omega arith), same 5 (omega arith) (omega arith))
 
@@ -147,7 +147,7 @@ module _ (t : List ℕ) (i : ℕ) (r : Record) (within : i < length t / rowWords
 
   -- a sound record keeps its row sound
   pub row-stored : rowSound t i ≡ true → recordSound r ≡ true → rowSound (stored t i r) i ≡ true
-  unfolding rowSound
+  unfolding rowUpTo
   row-stored e s =
       let w = sound-record r s in
       simp (stored-number t i r i, sound-row t i e .number, stored-own 1 0 refl (omega arith), w .holder, stored-own 2 1 refl (omega arith), stored-own 3 2 refl (omega arith), stored-own 4 3 refl (omega arith), stored-own 5 4 refl (omega arith), w .notice)

@@ -1,15 +1,18 @@
--- A holder tested by the start of a length that was found before, and a whole row by it. Assumes nothing.
+-- A holder tested by the start of a length that was found before, and a whole row by it; and what is sound with fewer numbers or fewer sendings is sound with more. Assumes nothing.
 use mathlib.Core.Path.{_≡_, refl, sym, ap, _∙_}
 use mathlib.Core.Logic.{⊎-elim}
 use mathlib.Core.Bool.{Bool, true, false, cond, not, _&&_, _||_, and-assoc}
 use mathlib.Core.List.{List}
-use Prim.Native.Nat.{ℕ, _^_}
+use Prim.Native.Nat.{ℕ, _^_, _≤_}
+use native.Mathlib.Omega.{arith}
 use lib.Dec.{eqb, ltb, leb}
+use borrow.Author.Tests.{leb-true, le-leb}
 use Rattle.answers.proofs.Tests.{and-left, and-right, and-three, and-both, or-cases, or-right}
 use Rattle.numbers.specs.Numbers.{isNumber}
 use Rattle.numbers.specs.Least.{leastFor, isFrom}
 use Rattle.numbers.proofs.Least.{Starts, starts-for, least-tells}
-use Rattle.rows.specs.Rows.{numberAt, holderAt, phaseAt, addresseeAt, supervisorAt, secondAt, lastPhase, failedOnce, holderSound, noticeBy, noticeSound, rowSound}
+use Rattle.records.specs.Steps.{mostSendings}
+use Rattle.rows.specs.Rows.{numberAt, holderAt, phaseAt, addresseeAt, supervisorAt, secondAt, lastPhaseOf, failedOnce, holderSound, noticeUpTo, noticeSound, rowUpTo, rowSound}
 use Rattle.rows.specs.Starts.{nearFrom, holderStart, restFrom}
 
 -- the start that the next holder is tested by
@@ -33,32 +36,40 @@ holder-tells near h s = go (eqb h 0) (isFrom near h) refl
 
 -- a row is sound by its number and by what stands behind it
 pub row-tells : (near : ℕ) (t : List ℕ) (i : ℕ) → Starts near → rowSound t i ≡ (isNumber (numberAt t i) && restFrom (holderStart near (holderAt t i)) t i)
-unfolding rowSound restFrom
+unfolding rowUpTo restFrom
 row-tells near t i s =
     and-assoc (isNumber (numberAt t i)) (holderSound (holderAt t i)) (noticeSound (phaseAt t i) (addresseeAt t i) (supervisorAt t i) (secondAt t i))
     ∙ ap (λ (b : Bool). isNumber (numberAt t i) && (b && noticeSound (phaseAt t i) (addresseeAt t i) (supervisorAt t i) (secondAt t i))) (holder-tells near (holderAt t i) s)
 
--- what is told by fewer numbers is told by more
-notice-more : (a b : Bool) (phase addressee supervisor second : ℕ) → (a ≡ true → b ≡ true) → noticeBy a phase addressee supervisor second ≡ true → noticeBy b phase addressee supervisor second ≡ true
-unfolding noticeBy
-notice-more a b phase addressee supervisor second more = go (eqb phase 0)
+-- what is sound with fewer numbers and fewer sendings is sound with more
+notice-more : (few many : ℕ) (a b : Bool) (phase addressee supervisor second : ℕ) → few ≤ many → (a ≡ true → b ≡ true) → noticeUpTo few a phase addressee supervisor second ≡ true → noticeUpTo many b phase addressee supervisor second ≡ true
+unfolding noticeUpTo
+notice-more few many a b phase addressee supervisor second h more = go (eqb phase 0)
   where
     go :
-        (z : Bool) → cond z (eqb addressee 0 && eqb supervisor 0 && eqb second 0) (leb phase lastPhase && (a && not (eqb addressee supervisor)) && (ltb second (2 ^ 32) && (eqb second 0 || failedOnce phase))) ≡ true
-        → cond z (eqb addressee 0 && eqb supervisor 0 && eqb second 0) (leb phase lastPhase && (b && not (eqb addressee supervisor)) && (ltb second (2 ^ 32) && (eqb second 0 || failedOnce phase))) ≡ true
+        (z : Bool) → cond z (eqb addressee 0 && eqb supervisor 0 && eqb second 0) (leb phase (lastPhaseOf few) && (a && not (eqb addressee supervisor)) && (ltb second (2 ^ 32) && (eqb second 0 || failedOnce phase))) ≡ true
+        → cond z (eqb addressee 0 && eqb supervisor 0 && eqb second 0) (leb phase (lastPhaseOf many) && (b && not (eqb addressee supervisor)) && (ltb second (2 ^ 32) && (eqb second 0 || failedOnce phase))) ≡ true
     go true e = e
     go false e =
-        let t = and-three (leb phase lastPhase) (a && not (eqb addressee supervisor)) (ltb second (2 ^ 32) && (eqb second 0 || failedOnce phase)) e in
-        rw (t .0, more (and-left a _ (t .1)), and-right a (not (eqb addressee supervisor)) (t .1), t .2)
+        let t = and-three (leb phase (lastPhaseOf few)) (a && not (eqb addressee supervisor)) (ltb second (2 ^ 32) && (eqb second 0 || failedOnce phase)) e in
+        let l = leb-true phase (lastPhaseOf few) (t .0) in
+        rw (le-leb phase (lastPhaseOf many) (omega arith), more (and-left a _ (t .1)), and-right a (not (eqb addressee supervisor)) (t .1), t .2)
+
+-- a row that is sound with at most `few` sendings of a notice is sound with more
+pub row-more : (few many : ℕ) → few ≤ many → (t : List ℕ) (i : ℕ) → rowUpTo few t i ≡ true → rowUpTo many t i ≡ true
+unfolding rowUpTo
+row-more few many h t i e =
+    let w = and-three (isNumber (numberAt t i)) (holderSound (holderAt t i)) _ e in
+    simp (w .0, w .1) (notice-more few many _ _ (phaseAt t i) (addresseeAt t i) (supervisorAt t i) (secondAt t i) h (λ b. b) (w .2))
 
 -- a row with a number is sound if one start tells what stands behind it
 pub near-sound : (near : ℕ) (t : List ℕ) (i : ℕ) → Starts near → isNumber (numberAt t i) ≡ true → nearFrom near t i ≡ true → rowSound t i ≡ true
-unfolding rowSound nearFrom
+unfolding rowUpTo nearFrom
 near-sound near t i s n p =
     let a = isFrom near (addresseeAt t i) in
     let notice = and-right (eqb (holderAt t i) 0 || isFrom near (holderAt t i)) _ p in
     rw (n, holder (and-left _ _ p))
-    (notice-more (a && isFrom near (supervisorAt t i)) _ (phaseAt t i) (addresseeAt t i) (supervisorAt t i) (secondAt t i)
+    (notice-more mostSendings mostSendings (a && isFrom near (supervisorAt t i)) _ (phaseAt t i) (addresseeAt t i) (supervisorAt t i) (secondAt t i) (omega arith)
     (λ both. and-both _ _ (s .numbers (addresseeAt t i) (and-left a _ both)) (s .numbers (supervisorAt t i) (and-right a _ both))) notice)
   where
     holder : (eqb (holderAt t i) 0 || isFrom near (holderAt t i)) ≡ true → holderSound (holderAt t i) ≡ true

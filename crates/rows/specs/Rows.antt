@@ -50,22 +50,29 @@ wordsAt t i = record {
   second = secondAt t i;
 }
 
--- the largest phase: "Even 2k (2 to 10): in flight, k done"
-abbrev pub lastPhase : ℕ
-lastPhase = 2 * mostSendings
+-- the largest phase, after at most `limit` sendings: "Even 2k …: in flight, k done"
+abbrev pub lastPhaseOf : ℕ → ℕ
+lastPhaseOf limit = 2 * limit
 
--- a waiting phase after a failure: "3, 5, 7 or 9"
+-- M-102: "phases run to 12"
+abbrev pub lastPhase : ℕ
+lastPhase = lastPhaseOf mostSendings
+
+-- a waiting phase after a failure: odd, from 3 on; where the phases end is the limit's
 abbrev pub failedOnce : ℕ → Bool
 failedOnce phase = eqb (phase % 2) 1 && leb 3 phase
 
--- "With phase 0 the last three words are 0. Otherwise addressee and supervisor are numbers and differ. The last word is below 2^32, and 0 unless the phase is 3, 5, 7 or 9";
--- whether addressee and supervisor are numbers is said beside them
-unfoldable pub noticeBy : Bool → ℕ → ℕ → ℕ → ℕ → Bool
-noticeBy numbers phase addressee supervisor second =
+-- "With phase 0 the last three words are 0. Otherwise addressee and supervisor are numbers and differ. The last word is below 2^32",
+-- M-102: "may be non-zero in odd phases from 3 to 11"; whether addressee and supervisor are numbers is said beside them
+unfoldable pub noticeUpTo : ℕ → Bool → ℕ → ℕ → ℕ → ℕ → Bool
+noticeUpTo limit numbers phase addressee supervisor second =
     cond (eqb phase 0) (eqb addressee 0 && eqb supervisor 0 && eqb second 0)
-    (leb phase lastPhase
+    (leb phase (lastPhaseOf limit)
     && (numbers && not (eqb addressee supervisor))
     && (ltb second (2 ^ 32) && (eqb second 0 || failedOnce phase)))
+
+abbrev pub noticeBy : Bool → ℕ → ℕ → ℕ → ℕ → Bool
+noticeBy = noticeUpTo mostSendings
 
 abbrev pub noticeSound : ℕ → ℕ → ℕ → ℕ → Bool
 noticeSound phase addressee supervisor second = noticeBy (isNumber addressee && isNumber supervisor) phase addressee supervisor second
@@ -74,12 +81,17 @@ noticeSound phase addressee supervisor second = noticeBy (isNumber addressee && 
 abbrev pub holderSound : ℕ → Bool
 holderSound holder = eqb holder 0 || isNumber holder
 
--- row i, by itself, as document 01 says
-unfoldable pub rowSound : List ℕ → ℕ → Bool
-rowSound t i =
-    isNumber (numberAt t i) && holderSound (holderAt t i) && noticeSound (phaseAt t i) (addresseeAt t i) (supervisorAt t i) (secondAt t i)
+-- row i, by itself, as document 01 says, with at most `limit` sendings of a notice
+unfoldable pub rowUpTo : ℕ → List ℕ → ℕ → Bool
+rowUpTo limit t i =
+    isNumber (numberAt t i)
+    && holderSound (holderAt t i)
+    && noticeUpTo limit (isNumber (addresseeAt t i) && isNumber (supervisorAt t i)) (phaseAt t i) (addresseeAt t i) (supervisorAt t i) (secondAt t i)
 
--- "Phase 0: no notice. Odd 2k+1 (1 to 9): waiting, k sendings done. Even 2k (2 to 10): in flight, k done"
+abbrev pub rowSound : List ℕ → ℕ → Bool
+rowSound = rowUpTo mostSendings
+
+-- "Phase 0: no notice. Odd 2k+1 …: waiting, k sendings done. Even 2k …: in flight, k done"
 unfoldable pub noticeOf : ℕ → ℕ → Notice
 noticeOf phase second = cond (eqb phase 0) Absent (cond (eqb (phase % 2) 1) (Waiting (phase / 2) second) (InFlight (phase / 2)))
 

@@ -15,7 +15,7 @@ ghost use Rattle.numbers.specs.Numbers.{mostDigits};
 ghost use Rattle.rows.specs.Rows.{rowWords, holderAt, lastPhase, phaseOf, secondOf, noticeOf, wordsAt, noticeBy, rowSound, recordAt, stored};
 ghost use Rattle.rows.specs.Starts.{restBy, nearFrom, holderStart, restFrom};
 
-// "Even 2k (2 to 10): in flight, k done".
+// The phase of the last sending; M-102: "phases run to 12".
 const LAST_PHASE: u64 = 2 * (MOST_SENDINGS as u64);
 
 // "The last word is below 2^32".

@@ -1,4 +1,4 @@
--- Document 01, "Examples": P1 to P15, and document 02's M-100 and M-101, of the rules, computed from octets and words, as one list under one statement. Assumes nothing.
+-- Document 01, "Examples": P1 to P15, and document 02's M-100 and M-101 (M-102 is P14), of the rules, computed from octets and words, as one list under one statement. Assumes nothing.
 use mathlib.Core.Path.{_≡_, refl}
 use mathlib.Core.Bool.{Bool, true}
 use mathlib.Core.List.{List, [], _∷_, _++_, map}
@@ -20,7 +20,7 @@ use Rattle.frames.specs.Messages as messages
 use Rattle.records.specs.Steps.{elapsed, delayOf, delayAllowed}
 use Rattle.rows.specs.Rows as rows
 use Rattle.tables.specs.Keys.{placeOf}
-use Rattle.tables.specs.Tables.{tableSound, rowOf, recordOf, listSound, flagsOf}
+use Rattle.tables.specs.Tables.{tableUpTo, rowOf, recordOf, listSound, flagsOf}
 use Rattle.rules.specs.Answers.{Answer, refusal, error, outcome, returnError, reject, sentTo, dropped, again}
 use Rattle.rules.specs.Requests as requests
 use Rattle.rules.specs.Crews as crews
@@ -151,8 +151,10 @@ examples =
     ∷ answers 11 free (says (asks A registersWithoutZero) 41 (0xB4 ∷ 0x18 ∷ []) ∷ []) free
     ∷ answers 12 free (gets (asks A halfForced) (error 36) [] ∷ []) free
     ∷ answers 13 (noticed 0 3 4294967290) (gets (sends 53) (refusal 5) [] ∷ gets (sends 54) (sentTo A 28) noticeOctets ∷ []) (noticed 0 4 0)
-    ∷ answers 14 (noticed 0 8 0) (gets (fails 7) again [] ∷ []) (noticed 0 9 7)
-    ∷ answers 14 (noticed 0 10 0) (gets (fails 7) dropped [] ∷ []) free
+    ∷ answers 14 (noticed 0 10 0) (gets (fails 7) again [] ∷ []) (noticed 0 11 7)
+    ∷ answers 14 (noticed 0 11 7) (gets (sends 66) (refusal 5) [] ∷ gets (sends 67) (sentTo A 28) noticeOctets ∷ []) (noticed 0 12 0)
+    ∷ answers 14 (noticed 0 12 0) (gets (fails 7) dropped [] ∷ []) free
+    ∷ answers 14 (noticed 0 10 0) (gets (fails 7) again [] ∷ gets (sends 67) (sentTo A 28) noticeOctets ∷ gets (fails 70) dropped [] ∷ []) free
     ∷ answers 15 free
     (says (asks A registersF) 1 octets01
     ∷ says (asks B forcesA) 2 octets02
@@ -163,9 +165,9 @@ examples =
     ∷ []
 
 pub p1-to-p15 : All examples
-unfolding countOf crewOf valueOf digits octetsFor charsIn padded packed characters readable filled kept unpacked isDigit pushed storedForm isNumber digitsUpTo digitsOf leading leadingNumber isAdditional textOf noticeFields begins operationAt serviceAt numberFieldAt forcedAt erasingAt additionalAt fieldsOf requestOf elapsed delayOf delayAllowed rows.noticeBy rows.rowSound rows.noticeOf rows.recordAt rows.stored placeOf tableSound rowOf recordOf listSound flagsOf requests.step crews.requesting notices.sendingNotice notices.takingResult
+unfolding countOf crewOf valueOf digits octetsFor charsIn padded packed characters readable filled kept unpacked isDigit pushed storedForm isNumber digitsUpTo digitsOf leading leadingNumber isAdditional textOf noticeFields begins operationAt serviceAt numberFieldAt forcedAt erasingAt additionalAt fieldsOf requestOf elapsed delayOf delayAllowed rows.noticeUpTo rows.rowUpTo rows.noticeOf rows.recordAt rows.stored placeOf tableUpTo rowOf recordOf listSound flagsOf requests.step crews.requesting notices.sendingNotice notices.takingResult
 p1-to-p15 =
-    refl and refl and refl and refl and refl and refl and refl and refl and refl and refl and refl and refl and refl and refl and refl and refl and done
+    refl and refl and refl and refl and refl and refl and refl and refl and refl and refl and refl and refl and refl and refl and refl and refl and refl and refl and done
 
 -- ---- document 02, M-100
 
@@ -209,7 +211,7 @@ crewExamples =
     ∷ []
 
 pub m-100 : All crewExamples
-unfolding countOf crewOf countedCodesAt spacedCodesAt soundCodesAt codesAt codesIn codesSound isCode isIn distinct each crews.withCode crews.walked valueOf digits octetsFor charsIn padded packed characters readable filled kept unpacked isDigit pushed storedForm isNumber digitsUpTo digitsOf leading leadingNumber isAdditional textOf noticeFields begins operationAt serviceAt numberFieldAt forcedAt erasingAt additionalAt fieldsOf requestOf elapsed delayOf delayAllowed rows.noticeBy rows.rowSound rows.noticeOf rows.recordAt rows.stored placeOf tableSound rowOf recordOf listSound flagsOf requests.step crews.requesting notices.sendingNotice notices.takingResult
+unfolding countOf crewOf countedCodesAt spacedCodesAt soundCodesAt codesAt codesIn codesSound isCode isIn distinct each crews.withCode crews.walked valueOf digits octetsFor charsIn padded packed characters readable filled kept unpacked isDigit pushed storedForm isNumber digitsUpTo digitsOf leading leadingNumber isAdditional textOf noticeFields begins operationAt serviceAt numberFieldAt forcedAt erasingAt additionalAt fieldsOf requestOf elapsed delayOf delayAllowed rows.noticeUpTo rows.rowUpTo rows.noticeOf rows.recordAt rows.stored placeOf tableUpTo rowOf recordOf listSound flagsOf requests.step crews.requesting notices.sendingNotice notices.takingResult
 m-100 = refl and refl and refl and refl and refl and refl and done
 
 -- ---- document 02, M-101
@@ -246,5 +248,5 @@ framedExamples =
     ∷ []
 
 pub m-101 : All framedExamples
-unfolding countOf crewOf valueOf digits octetsFor charsIn padded packed characters readable filled kept unpacked isDigit pushed storedForm isNumber digitsUpTo digitsOf leading leadingNumber isAdditional textOf noticeFields begins operationAt serviceAt numberFieldAt forcedAt erasingAt additionalAt fieldsOf requestOf elapsed delayOf delayAllowed rows.noticeBy rows.rowSound rows.noticeOf rows.recordAt rows.stored placeOf tableSound rowOf recordOf listSound flagsOf requests.step crews.requesting notices.sendingNotice notices.takingResult part contentsOf octetAt component bodyOf invokeOf messages.messageOf messages.registerOf messages.release messages.inverted frame.framedRequest
+unfolding countOf crewOf valueOf digits octetsFor charsIn padded packed characters readable filled kept unpacked isDigit pushed storedForm isNumber digitsUpTo digitsOf leading leadingNumber isAdditional textOf noticeFields begins operationAt serviceAt numberFieldAt forcedAt erasingAt additionalAt fieldsOf requestOf elapsed delayOf delayAllowed rows.noticeUpTo rows.rowUpTo rows.noticeOf rows.recordAt rows.stored placeOf tableUpTo rowOf recordOf listSound flagsOf requests.step crews.requesting notices.sendingNotice notices.takingResult part contentsOf octetAt component bodyOf invokeOf messages.messageOf messages.registerOf messages.release messages.inverted frame.framedRequest
 m-101 = refl and refl and refl and refl and done

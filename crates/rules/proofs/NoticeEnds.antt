@@ -1,4 +1,4 @@
--- "A notice thus ends after at most five sendings, each followed by a result": for one number, over any list of calls. Assumes nothing.
+-- "A notice thus ends after at most" `mostSendings` "sendings, each followed by a result": for one number, over any list of calls. Assumes nothing.
 use mathlib.Core.Path.{_≡_, refl, sym, _∙_, ap}
 use mathlib.Core.Bool.{Bool, true, false, cond}
 use mathlib.Core.Option.{Option, some, none}
@@ -151,15 +151,15 @@ module _ (list : List ℕ) (k : ℕ) where
   still-pending n (clears drops) a u = no-path (sym (rw n at u))
   still-pending n (goes-on p) a u = record { pending = refl; addressee = refl; supervisor = refl; done = omega arith }
 
-  -- a result that is taken after the fifth sending clears the notice
-  fifth-clears : {r : Record} {c : Call} {v : Visited} → Does list r c v → sendingsDone (r .notice) ≡ mostSendings → resultTaken k (c, v .reply) ≡ true
+  -- a result that is taken after the last sending clears the notice
+  last-clears : {r : Record} {c : Call} {v : Visited} → Does list r c v → sendingsDone (r .notice) ≡ mostSendings → resultTaken k (c, v .reply) ≡ true
       → v .next .notice ≡ Absent
-  fifth-clears {c = c} {v = v} (asks i d) m u = no-path (sym (request-untaken k c (v .reply) i) ∙ u)
-  fifth-clears unsent m u = no-path u
-  fifth-clears (sends w) m u = no-path u
-  fifth-clears (untaken {number = number}) m u = no-path (and-right (eqb (number .0) k) false u)
-  fifth-clears (clears e) m u = refl
-  fifth-clears (goes-on p) m u = no-path (sym (rw m at p))
+  last-clears {c = c} {v = v} (asks i d) m u = no-path (sym (request-untaken k c (v .reply) i) ∙ u)
+  last-clears unsent m u = no-path u
+  last-clears (sends w) m u = no-path u
+  last-clears (untaken {number = number}) m u = no-path (and-right (eqb (number .0) k) false u)
+  last-clears (clears e) m u = refl
+  last-clears (goes-on p) m u = no-path (sym (rw m at p))
 
   -- ---- the walk along the calls
 
@@ -203,9 +203,9 @@ module _ (list : List ℕ) (k : ℕ) where
   last-ends : {o p : Option Record} {x : Call × Reply} → Along list k o (x ∷ []) p → sendingsDone (noticeIn o) ≡ mostSendings → resultTaken k x ≡ true
       → noticeIn p ≡ Absent
   last-ends (passes {c = c} n ends) m u = no-path (sym (passed-untaken c n) ∙ u)
-  last-ends (visits n d ends) m u = fifth-clears d m u
+  last-ends (visits n d ends) m u = last-clears d m u
 
--- of a sound table no more than five sendings are done
+-- of a sound table no more than the most sendings are done
 table-most : (table : List ℕ) (k : ℕ) → tableSound table ≡ true → sendingsDone (noticeFor table k) ≤ mostSendings
 table-most table k sound = go (rowOf table k) refl
   where

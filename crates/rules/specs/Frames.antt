@@ -82,7 +82,7 @@ bodied asked table frame first number (wrong problem) = releasing (reject proble
 bodied asked table frame first number (asks scheme string) = inFrame first number frame (asked scheme string)
 
 abbrev pub registered : (ℕ → List ℕ → Outcome) → List ℕ → List ℕ → Option Register → Outcome
-registered asked table frame none = made (refusal 11) table frame
+registered asked table frame none = made (refusal unreadMessage) table frame
 registered asked table frame (some r) = bodied asked table frame (r .first) (r .number) (r .body)
 
 abbrev pub framedBy : (ℕ → List ℕ → Outcome) → List ℕ → List ℕ → List ℕ → List ℕ → Outcome

@@ -61,7 +61,7 @@ resultChecks soundTable number r kind =
     ∷ (not (isInFlight (noticeIn r)), refusal 4)
     ∷ []
 
--- "Kinds 0 to 4 clear the notice. Kind 5 clears it at phase 10"
+-- "Kinds 0 to 4 clear the notice", M-102: "kind 5 clears at 12"
 abbrev pub clears : ℕ → Notice → Bool
 clears kind n = ltb kind lastKind || leb mostSendings (sendingsDone n)
 

@@ -15,6 +15,7 @@ use Rattle.strings.specs.declared.Erasing.{Erasing}
 use Rattle.strings.specs.declared.Erasing.the-variants.{Empty, Forced}
 use Rattle.strings.specs.Text.{Request, textOf, noticeFields}
 use Rattle.strings.specs.Outcomes.{requestOf}
+use Rattle.frames.specs.Messages.{unreadMessage}
 use Rattle.records.specs.declared.Record.{Record}
 use Rattle.records.specs.declared.Step.{Step}
 use Rattle.records.specs.declared.Step.the-variants as step
@@ -127,7 +128,7 @@ abbrev pub enveloped : Inside → List ℕ → Reply → Reply
 enveloped i frame r = replied (answeredIn (i .first) (i .number) frame [] (r .buffer) (r .answer)) .0
 
 abbrev pub visitInside : ℕ → Msisdn → List ℕ → Option Inside → Record → Visited
-visitInside flags requester frame none r = visited (refusal 11) frame r
+visitInside flags requester frame none r = visited (refusal unreadMessage) frame r
 visitInside flags requester frame (some i) r =
     let v = visitRequest flags requester ownReply (requestOf (i .string)) r in record { reply = enveloped i frame (v .reply); next = v .next }
 
@@ -149,7 +150,7 @@ missedRequest flags reply (some f) =
     decide ((not (hasFollowMe flags), replySaying 42 reply) ∷ (isForced (f .erasing) && not (isSupervisor flags), replySaying 22 reply) ∷ []) (replySaying 41 reply)
 
 abbrev pub missedInside : ℕ → List ℕ → Option Inside → Reply
-missedInside flags frame none = record { answer = refusal 11; buffer = frame }
+missedInside flags frame none = record { answer = refusal unreadMessage; buffer = frame }
 missedInside flags frame (some i) = enveloped i frame (missedRequest flags ownReply (requestOf (i .string)))
 
 abbrev pub missedSending : List ℕ → Reply

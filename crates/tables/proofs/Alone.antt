@@ -14,7 +14,7 @@ use Rattle.rows.specs.Rows.{rowWords, numberAt, recordAt}
 use Rattle.rows.proofs.Rows.{SameWords, same-record, same-row, sound-row}
 use Rattle.tables.specs.declared.Found.the-variants.{At}
 use Rattle.tables.specs.Keys.{placeOf}
-use Rattle.tables.specs.Tables.{rowsIn, tableSound, rowOf, recordOf}
+use Rattle.tables.specs.Tables.{rowsIn, tableUpTo, tableSound, rowOf, recordOf}
 use Rattle.tables.proofs.Sound.{table-row}
 use Rattle.tables.proofs.Stored.{row-found, record-found}
 
@@ -40,7 +40,7 @@ module _ (t : List ℕ) (i : ℕ) where
     alone-length = simp (length-take, length-drop) (omega arith)
 
     pub alone-sound : tableSound t ≡ true → tableSound (alone t i) ≡ true
-    unfolding tableSound
+    unfolding tableUpTo
     alone-sound sound =
         let row = table-row t sound i within in
         let positive : 0 < numberAt (alone t i) 0 = rw alone-number (above (numberAt t i) (number-some (numberAt t i) (sound-row t i row .number))) in

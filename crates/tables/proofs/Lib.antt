@@ -1,4 +1,4 @@
--- `Keys`: rows that ascend by a key. `Sound`: what a sound table and list say. `Stored`: what is found, and what storing a record leaves.
+-- `Keys`: rows that ascend by a key. `Sound`: what a sound table and list say, and tables from before M-102. `Stored`: what is found, and what storing a record leaves.
 -- `Alone`: one row by itself. `Ends`: how a scan of ascending words knows a number.
 pub mod Keys
 pub mod Sound

@@ -1,4 +1,4 @@
--- What it takes for rows to be sound, and what a sound table and a sound list say. Assumes nothing.
+-- What it takes for rows to be sound, what a sound table and a sound list say, and that what is sound for fewer sendings is sound for more. Assumes nothing.
 use mathlib.Core.Path.{_≡_, refl, sym}
 use mathlib.Core.Bool.{Bool, true, false, _&&_}
 use mathlib.Core.List.{List, []}
@@ -7,11 +7,13 @@ use lib.ListN.{length}
 use native.Mathlib.Omega.{arith}
 use lib.Dec.{eqb, ltb, leb}
 use borrow.Author.Tests.{eq-eqb, ne-eqb, le-leb, lt-leb, eqb-true, leb-true}
-use Rattle.answers.proofs.Tests.{and-left, and-right, and-three, and-no}
+use Rattle.answers.proofs.Tests.{and-left, and-right, and-both, and-three, and-no}
 use Rattle.numbers.specs.Numbers.{isNumber}
-use Rattle.rows.specs.Rows.{rowWords, numberAt, rowSound}
+use Rattle.records.specs.Steps.{mostSendings}
+use Rattle.rows.specs.Rows.{rowWords, numberAt, rowUpTo, rowSound}
+use Rattle.rows.proofs.Starts.{row-more}
 use Rattle.tables.specs.Keys.{every, ascends}
-use Rattle.tables.specs.Tables.{mostNumbers, rowsIn, numberKey, rowStands, tableSound, subscriberWords, mostSubscribers, mostFlags, subscribersIn, msisdnKey, flagsAt, subscriberStands, listSound}
+use Rattle.tables.specs.Tables.{mostNumbers, rowsIn, numberKey, standsUpTo, rowStands, tableUpTo, tableSound, subscriberWords, mostSubscribers, mostFlags, subscribersIn, msisdnKey, flagsAt, subscriberStands, listSound}
 use Rattle.tables.proofs.Keys.{keyBefore, before-next, ascends-before, every-more, every-not, every-at, every-from, ascending}
 
 -- ---- rows of any width
@@ -84,7 +86,7 @@ module _ (k : ℕ → ℕ) (test : ℕ → Bool) (n : ℕ) where
 
 module _ (t : List ℕ) (sound : tableSound t ≡ true) where
   table-standing : Standing rowWords mostNumbers (rowStands t) t
-  unfolding tableSound
+  unfolding tableUpTo
   table-standing = standing rowWords mostNumbers (rowStands t) t sound
 
   pub table-whole : length t % rowWords ≡ 0
@@ -102,9 +104,25 @@ module _ (t : List ℕ) (sound : tableSound t ≡ true) where
   pub table-row : (i : ℕ) → i < rowsIn t → rowSound t i ≡ true
   table-row = tests-hold (numberKey t) (rowSound t) (rowsIn t) (table-standing .all)
 
+-- M-102, "Old tables stay sound": a table that is sound with at most `few` sendings of a notice is sound with more
+pub table-more : (few many : ℕ) → few ≤ many → (t : List ℕ) → tableUpTo few t ≡ true → tableUpTo many t ≡ true
+unfolding tableUpTo
+table-more few many h t e =
+    let s = standing rowWords mostNumbers (standsUpTo few t) t e in
+    sym (all-stand rowWords mostNumbers (standsUpTo many t) t (s .whole) (s .few)
+    (every-from (standsUpTo many t) (rowsIn t) (λ i l. stands i (every-at (standsUpTo few t) (rowsIn t) (s .all) i l))))
+  where
+    stands : (i : ℕ) → standsUpTo few t i ≡ true → standsUpTo many t i ≡ true
+    stands i q =
+        and-both (ascends (numberKey t) i) (rowUpTo many t i) (and-left _ (rowUpTo few t i) q) (row-more few many h t i (and-right (ascends (numberKey t) i) _ q))
+
+-- before M-102 a notice had at most five sendings
+pub old-tables : (t : List ℕ) → tableUpTo 5 t ≡ true → tableSound t ≡ true
+old-tables = table-more 5 mostSendings (omega arith)
+
 -- "Empty ones are sound"
 pub empty-table : tableSound [] ≡ true
-unfolding tableSound
+unfolding tableUpTo
 empty-table = refl
 
 -- ---- the list

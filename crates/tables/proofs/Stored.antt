@@ -17,7 +17,7 @@ use Rattle.rows.proofs.Rows.{stored-length, stored-number, record-other, row-ot
 use Rattle.tables.specs.declared.Found.{Found}
 use Rattle.tables.specs.declared.Found.the-variants.{At, Nothing}
 use Rattle.tables.specs.Keys.{ascends, placeOf}
-use Rattle.tables.specs.Tables.{mostNumbers, rowsIn, numberKey, rowStands, tableSound, rowOf, recordFound, recordOf, mostFlags, subscribersIn, msisdnKey, listSound, flagsFound, flagsOf}
+use Rattle.tables.specs.Tables.{mostNumbers, rowsIn, numberKey, rowStands, tableUpTo, tableSound, rowOf, recordFound, recordOf, mostFlags, subscribersIn, msisdnKey, listSound, flagsFound, flagsOf}
 use Rattle.tables.proofs.Keys.{every-at, every-from, ascends-same, place-same, place-found, place-at}
 use Rattle.tables.proofs.Sound.{all-stand, table-whole, table-few, table-ascends, table-row, subscriber-flags}
 
@@ -72,7 +72,7 @@ module _ (t : List ℕ) (i : ℕ) (r : Record) where
 
   -- a sound record keeps the table sound
   pub table-stored : tableSound t ≡ true → i < rowsIn t → recordSound r ≡ true → tableSound (stored t i r) ≡ true
-  unfolding tableSound
+  unfolding tableUpTo
   table-stored sound l s =
       sym (all-stand rowWords mostNumbers (rowStands (stored t i r)) (stored t i r) (rw stored-length (table-whole t sound)) (rw stored-length (table-few t sound))
       (every-from (rowStands (stored t i r)) (rowsIn (stored t i r)) (λ j b. stands j (rw rows-stored at b))))

@@ -6,7 +6,8 @@ use mathlib.Core.List.{List}
 use lib.ListN.{length, getD}
 use lib.Dec.{eqb, leb}
 use Rattle.numbers.specs.Numbers.{isNumber}
-use Rattle.rows.specs.Rows.{rowWords, rowSound, recordAt}
+use Rattle.records.specs.Steps.{mostSendings}
+use Rattle.rows.specs.Rows.{rowWords, rowUpTo, recordAt}
 use Rattle.records.specs.declared.Record.{Record}
 use Rattle.tables.specs.declared.Found.{Found}
 use Rattle.tables.specs.declared.Found.the-variants.{At, Nothing}
@@ -26,13 +27,21 @@ rowsIn t = length t / rowWords
 abbrev pub numberKey : List ℕ → ℕ → ℕ
 numberKey t = key rowWords t
 
--- row i is sound and stands in its place
-abbrev pub rowStands : List ℕ → ℕ → Bool
-rowStands t i = ascends (numberKey t) i && rowSound t i
+-- row i is sound and stands in its place, with at most `limit` sendings of a notice
+abbrev pub standsUpTo : ℕ → List ℕ → ℕ → Bool
+standsUpTo limit t i = ascends (numberKey t) i && rowUpTo limit t i
 
 -- "A table … that breaks this, or whose length isn't whole rows, is unsound. Empty ones are sound"
-unfoldable pub tableSound : List ℕ → Bool
-tableSound t = eqb (length t % rowWords) 0 && leb (rowsIn t) mostNumbers && every (rowStands t) (rowsIn t)
+unfoldable pub tableUpTo : ℕ → List ℕ → Bool
+tableUpTo limit t = eqb (length t % rowWords) 0 && leb (rowsIn t) mostNumbers && every (standsUpTo limit t) (rowsIn t)
+
+-- at the limit
+abbrev pub rowStands : List ℕ → ℕ → Bool
+rowStands = standsUpTo mostSendings
+
+-- a table that is sound for fewer sendings is sound too (proofs/Sound, `table-more`)
+abbrev pub tableSound : List ℕ → Bool
+tableSound = tableUpTo mostSendings
 
 -- the row of a functional number
 unfoldable pub rowOf : List ℕ → ℕ → Found

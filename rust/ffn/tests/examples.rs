@@ -155,16 +155,23 @@ fn p13_a_clock_that_wraps() {
 }
 
 #[test]
-fn p14_five_sendings_at_most() {
-    let mut table = notice(8, 0);
+fn p14_six_sendings_at_most() {
+    let mut table = notice(10, 0);
     assert_eq!(
         result(&mut table, f(), Kind::OtherError, 77),
         Ok(Resulted::Again)
     );
-    assert_eq!(table, notice(9, 77));
-    let mut table = notice(10, 0);
+    assert_eq!(table, notice(11, 77));
+    let mut buffer = [UNTOUCHED; 80];
+    let sent = Sent {
+        addressee: a(),
+        octets: 28,
+    };
+    assert_eq!(sending(&mut table, &mut buffer, f(), 60, 137), Ok(sent));
+    assert_eq!(table, notice(12, 0));
+    assert!(holds(&buffer, "##214*0492123401*88*4915100002*#"));
     assert_eq!(
-        result(&mut table, f(), Kind::OtherError, 77),
+        result(&mut table, f(), Kind::OtherError, 140),
         Ok(Resulted::Dropped)
     );
     assert_eq!(table, held_by(None));

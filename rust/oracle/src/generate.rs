@@ -19,7 +19,8 @@ use crate::node::{finding, framed_request, request, result, sending, Answer};
 use crate::number::{digit_count, is_number};
 use crate::packing::{pack, unpack};
 use crate::rows::{
-    Record, ADDRESSEE, FAILURE, HOLDER, MAX_RECORDS, MAX_SUBSCRIBERS, NUMBER, PHASE, SUPERVISOR,
+    Record, ADDRESSEE, FAILURE, HOLDER, LAST_PHASE, MAX_RECORDS, MAX_SUBSCRIBERS, NUMBER, PHASE,
+    SUPERVISOR,
 };
 use crate::string::{read_request, write_request, Additional, Fields, Operation};
 use crate::text::Text;
@@ -100,7 +101,7 @@ pub enum TableDamage {
     Number,
     /// A malformed holder.
     Holder,
-    /// A phase above 10.
+    /// A phase above the last.
     Phase,
     /// Phase 0 with an addressee, a supervisor or a last failure.
     IdleAddressee,
@@ -431,7 +432,7 @@ impl Generator {
             };
             let mut record = [number, holder, 0, 0, 0, 0];
             if self.random.below(3) > 0 {
-                let phase = 1 + self.random.below(10);
+                let phase = 1 + self.random.below(LAST_PHASE);
                 self.set_notice(&mut record, phase, &known);
             }
             table.extend(record);
@@ -448,7 +449,7 @@ impl Generator {
         }
     }
 
-    /// Gives a record a sound notice at `phase`, 1 to 10.
+    /// Gives a record a sound notice at `phase`, 1 to the last.
     fn set_notice(&mut self, record: &mut [u64], phase: u64, known: &[u64]) {
         record[PHASE] = phase;
         record[ADDRESSEE] = match record[HOLDER] {
@@ -461,7 +462,7 @@ impl Generator {
             record[SUPERVISOR] = self.number();
         }
         record[FAILURE] = match phase {
-            3 | 5 | 7 | 9 => u64::from(self.second()),
+            3.. if phase % 2 == 1 => u64::from(self.second()),
             _ => 0,
         };
     }
@@ -490,14 +491,21 @@ impl Generator {
         let place = 6 * self.random.index(table.len() / 6);
         let record = &mut table[place..place + 6];
         let idle = |record: &mut [u64]| record[PHASE..].fill(0);
-        let phase = 1 + self.random.below(10);
+        let phase = 1 + self.random.below(LAST_PHASE);
         match damage {
             TableDamage::Holder => record[HOLDER] = self.malformed(),
             TableDamage::Phase => {
                 self.set_notice(record, 1, &[]);
-                record[PHASE] =
-                    self.random
-                        .pick(&[11, 12, 13, 255, 257, (1 << 32) + 1, 1 << 63, u64::MAX]);
+                record[PHASE] = self.random.pick(&[
+                    LAST_PHASE + 1,
+                    LAST_PHASE + 2,
+                    LAST_PHASE + 3,
+                    255,
+                    257,
+                    (1 << 32) + 1,
+                    1 << 63,
+                    u64::MAX,
+                ]);
                 if self.random.once_in(4) {
                     record[ADDRESSEE..].fill(0);
                 }
@@ -527,12 +535,15 @@ impl Generator {
                 record[ADDRESSEE] = record[SUPERVISOR];
             }
             TableDamage::FailureTooLarge => {
-                let phase = self.random.pick(&[3, 5, 7, 9]);
+                let phase = 3 + 2 * self.random.below(LAST_PHASE / 2 - 1);
                 self.set_notice(record, phase, &[]);
                 record[FAILURE] = self.random.pick(&[1 << 32, (1 << 32) + 60, u64::MAX]);
             }
             TableDamage::FailureTooEarly => {
-                let phase = self.random.pick(&[1, 2, 4, 6, 8, 10]);
+                let phase = match self.random.below(1 + LAST_PHASE / 2) {
+                    0 => 1,
+                    sendings => 2 * sendings,
+                };
                 self.set_notice(record, phase, &[]);
                 record[FAILURE] = match self.random.below(4) {
                     0 => 1 << 32,
@@ -1051,7 +1062,7 @@ impl Generator {
         };
         let mut record = [number, holder, 0, 0, 0, 0];
         if self.random.once_in(4) {
-            let phase = 1 + self.random.below(10);
+            let phase = 1 + self.random.below(LAST_PHASE);
             self.set_notice(&mut record, phase, known);
         }
         record

@@ -5,16 +5,13 @@ use crate::frame::{read_register, write_release, Invoked, Released, FRAME_ROOM, 
 use crate::number::is_number;
 use crate::rows::{
     find_flags, find_record, list_is_sound, sound_records, sound_records_mut, Record, ADDRESSEE,
-    FAILURE, HAS_FOLLOW_ME, HOLDER, IS_SUPERVISOR, NUMBER, PHASE, SUPERVISOR,
+    FAILURE, HAS_FOLLOW_ME, HOLDER, IS_SUPERVISOR, LAST_PHASE, NUMBER, PHASE, SUPERVISOR,
 };
 use crate::string::{read_fields, Fields, Operation, MAX_CHARACTERS};
 use crate::text::Text;
 
 /// The least room for a reply or a notice.
 const ROOM: usize = 80;
-
-/// The phase after the last of five sendings.
-const LAST_PHASE: u64 = 10;
 
 /// What a call answers. Refusals, errors and outcomes are numbered apart.
 #[derive(Clone, Copy, Debug, PartialEq, Eq)]

@@ -21,12 +21,18 @@ pub(crate) const MAX_SUBSCRIBERS: usize = 4096;
 pub(crate) const HAS_FOLLOW_ME: u64 = 1;
 pub(crate) const IS_SUPERVISOR: u64 = 2;
 
+/// A notice's sendings: one, and five repeats.
+const MAX_SENDINGS: usize = 6;
+
+/// The phase after the last sending.
+pub(crate) const LAST_PHASE: u64 = 2 * MAX_SENDINGS as u64;
+
 /// The largest last word by phase: any second where a failure is kept,
 /// otherwise 0.
-const LARGEST_FAILURE: [u64; 11] = {
-    let mut largest = [0; 11];
+const LARGEST_FAILURE: [u64; 2 * MAX_SENDINGS + 1] = {
+    let mut largest = [0; 2 * MAX_SENDINGS + 1];
     let mut phase = 3;
-    while phase <= 9 {
+    while phase < 2 * MAX_SENDINGS {
         largest[phase] = u32::MAX as u64;
         phase += 2;
     }
@@ -58,7 +64,7 @@ fn record_is_sound(&[_, holder, phase, addressee, supervisor, failure]: &Record)
     if phase == 0 {
         return addressee | supervisor | failure == 0;
     }
-    phase <= 10
+    phase <= LAST_PHASE
         && failure <= LARGEST_FAILURE[phase as usize]
         && is_number(addressee)
         && is_number(supervisor)
@@ -138,12 +144,12 @@ mod tests {
         assert!(sound([F, A, 0, 0, 0, 0]));
         // A holder may have the number's own digits or be in the notice.
         assert!(sound([F, F, 1, F, A, 0]));
-        for phase in 1..=10 {
+        for phase in 1..=12 {
             assert!(sound([F, 0, phase, A, B, 0]));
             assert!(sound([F, A, phase, A, B, 0]));
             assert!(sound([F, B, phase, A, B, 0]));
         }
-        for phase in [3, 5, 7, 9] {
+        for phase in [3, 5, 7, 9, 11] {
             assert!(sound([F, 0, phase, A, B, 1]));
             assert!(sound([F, 0, phase, A, B, u64::from(u32::MAX)]));
         }
@@ -159,7 +165,7 @@ mod tests {
             assert!(!sound([F, 0, 1, A, word, 0]));
         }
         assert!(!table_is_sound(&[0; 6]));
-        for phase in 1..=10 {
+        for phase in 1..=12 {
             assert!(!sound([F, 0, phase, 0, B, 0]));
             assert!(!sound([F, 0, phase, A, 0, 0]));
             assert!(!sound([F, 0, phase, 0, 0, 0]));
@@ -167,11 +173,11 @@ mod tests {
             assert!(!sound([F, 0, phase, A, B, 1 << 32]));
             assert!(!sound([F, 0, phase, A, B, u64::MAX]));
         }
-        for phase in [11, 12, 13, 255, 256, 1 << 32, (1 << 32) + 3, u64::MAX] {
+        for phase in [13, 14, 15, 255, 256, 1 << 32, (1 << 32) + 3, u64::MAX] {
             assert!(!sound([F, 0, phase, A, B, 0]));
             assert!(!sound([F, 0, phase, 0, 0, 0]));
         }
-        for phase in [1, 2, 4, 6, 8, 10] {
+        for phase in [1, 2, 4, 6, 8, 10, 12] {
             assert!(!sound([F, 0, phase, A, B, 1]));
         }
         assert!(!sound([F, 0, 0, A, 0, 0]));

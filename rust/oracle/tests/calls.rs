@@ -205,7 +205,7 @@ fn outcomes_61_62_63() {
 
 #[test]
 fn outcome_68() {
-    for phase in 1..=10 {
+    for phase in 1..=12 {
         let mut table = [F, A, phase, C, B, 0];
         assert_eq!(ask(&mut table, &LIST, B, FORCE_A), "68");
         let mut table = [F, B, phase, C, A, 0];
@@ -307,14 +307,14 @@ fn refusals_of_a_sending_in_order() {
         assert_eq!(refused(&waiting, 80, F, delay, 1000), 6);
         assert_eq!(refused(&waiting, 80, F, delay, 2000), 6);
     }
-    for phase in [0, 2, 4, 6, 8, 10] {
+    for phase in [0, 2, 4, 6, 8, 10, 12] {
         let notice = if phase == 0 { [0, 0] } else { [A, B] };
         let table = [F, A, phase, notice[0], notice[1], 0];
         for delay in [0, 60, 600] {
             assert_eq!(refused(&table, 80, F, delay, 5000), 4);
         }
     }
-    for phase in [3, 5, 7, 9] {
+    for phase in [3, 5, 7, 9, 11] {
         let table = [F, A, phase, A, B, 1000];
         assert_eq!(refused(&table, 80, F, 0, 1000), 5);
         assert_eq!(refused(&table, 80, F, 0, 1059), 5);
@@ -333,6 +333,7 @@ fn sendings() {
         (5, 1000, 60, 1060),
         (7, 1000, 600, 1600),
         (9, 1000, 61, 1061),
+        (11, 1000, 60, 1060),
         // A clock set back counts as long elapsed.
         (3, 1000, 600, 999),
         (3, u64::from(u32::MAX), 60, 59),
@@ -404,7 +405,7 @@ fn refusals_of_a_result_in_order() {
     }
     for kind in 0..=5 {
         assert_eq!(refused(&idle, F, kind), 4);
-        for phase in [1, 3, 5, 7, 9] {
+        for phase in [1, 3, 5, 7, 9, 11] {
             assert_eq!(refused(&[F, A, phase, A, B, 0], F, kind), 4);
         }
     }
@@ -413,13 +414,13 @@ fn refusals_of_a_result_in_order() {
 #[test]
 fn results() {
     let other = [F + 1, 0, 2, A, B, 0];
-    for phase in [2, 4, 6, 8, 10] {
+    for phase in [2, 4, 6, 8, 10, 12] {
         for kind in 0..=5 {
             for now in [0, 5000, u32::MAX] {
                 let mut table = [[F, C, phase, A, B, 0], other];
                 let (answer, record) = match (kind, phase) {
                     (0, _) => (Answer::Delivered, [F, C, 0, 0, 0, 0]),
-                    (5, 2..=8) => (Answer::Again, [F, C, phase + 1, A, B, u64::from(now)]),
+                    (5, 2..=10) => (Answer::Again, [F, C, phase + 1, A, B, u64::from(now)]),
                     _ => (Answer::Dropped, [F, C, 0, 0, 0, 0]),
                 };
                 assert_eq!(result(table.as_flattened_mut(), F, kind, now), answer);
@@ -430,16 +431,16 @@ fn results() {
 }
 
 #[test]
-fn a_notice_ends_after_five_sendings() {
+fn a_notice_ends_after_six_sendings() {
     let mut table = [F, 0, 1, A, B, 0];
     let mut buffer = [FILL; 80];
     let mut now = u32::MAX - 100;
-    for count in 1..=5 {
+    for count in 1..=6 {
         let sent = sending(&mut table, &mut buffer, F, 0, now);
         assert!(matches!(sent, Answer::Sent { .. }));
         assert_eq!(table[2], 2 * count);
         let answer = result(&mut table, F, 5, now);
-        let last = count == 5;
+        let last = count == 6;
         assert_eq!(answer, if last { Answer::Dropped } else { Answer::Again });
         now = now.wrapping_add(60);
     }
@@ -497,7 +498,7 @@ fn unsound_tables_and_lists_of_each_kind() {
         &[10_000_000_000_000_000, 0, 0, 0, 0, 0],
         &[F, 7, 0, 0, 0, 0],
         &[F, 4_915_100_001, 0, 0, 0, 0],
-        &[F, 0, 11, A, B, 0],
+        &[F, 0, 13, A, B, 0],
         &[F, 0, 0, A, 0, 0],
         &[F, 0, 0, 0, B, 0],
         &[F, 0, 0, 0, 0, 1],
@@ -509,7 +510,7 @@ fn unsound_tables_and_lists_of_each_kind() {
         &[F, 0, 3, A, B, 1 << 32],
         &[F, 0, 1, A, B, 1],
         &[F, 0, 2, A, B, 1],
-        &[F, 0, 10, A, B, 1],
+        &[F, 0, 12, A, B, 1],
     ];
     let string = packed(INTERROGATE);
     for table in tables {

@@ -78,17 +78,17 @@ fn p13_a_notice_due_across_the_wrap() {
 
 #[test]
 fn p14_the_last_two_failures() {
-    let mut table = [F, 0, 8, A, B, 0];
-    assert_eq!(result(&mut table, F, 5, 777), Answer::Again);
-    assert_eq!(table, [F, 0, 9, A, B, 777]);
     let mut table = [F, 0, 10, A, B, 0];
+    assert_eq!(result(&mut table, F, 5, 777), Answer::Again);
+    assert_eq!(table, [F, 0, 11, A, B, 777]);
+    let mut table = [F, 0, 12, A, B, 0];
     assert_eq!(result(&mut table, F, 5, 777), Answer::Dropped);
     assert_eq!(table, [F, 0, 0, 0, 0, 0]);
 }
 
 #[test]
 fn p15_forced_again_before_the_notice_ends() {
-    for phase in 1..=10 {
+    for phase in 1..=12 {
         let mut table = [F, 0, phase, A, B, 0];
         assert_eq!(ask(&mut table, &LIST, A, REGISTER), "01");
         assert_eq!(table, [F, A, phase, A, B, 0]);

@@ -56,7 +56,7 @@ fn label(before: &Call, after: &Call, reply: &Reply) -> String {
         },
         (Call::Result { kind, number, .. }, Reply::Answer(answer)) => match answer {
             Answer::Refusal(7) if is_number(*number) => "result: Refusal(7), unknown".into(),
-            Answer::Dropped if *kind == 5 => "result: dropped, five sendings".into(),
+            Answer::Dropped if *kind == 5 => "result: dropped, last sending".into(),
             other => format!("result: {other:?}"),
         },
         (Call::Finding { .. }, Reply::Answer(answer)) => match answer {
@@ -175,7 +175,7 @@ const REACHED: [&str; 111] = [
     "result: Refusal(4)",
     "result: Delivered",
     "result: Dropped",
-    "result: dropped, five sendings",
+    "result: dropped, last sending",
     "result: Again",
     "finding: Refusal(2)",
     "finding: Refusal(6)",

@@ -295,16 +295,16 @@ fn sendings_and_results() {
 }
 
 #[test]
-fn a_notice_dropped_after_five_failures() {
+fn a_notice_dropped_after_six_failures() {
     let mut input = FILLING.to_string();
     input += "R 4915100001 **214*0492123401***#\n";
     input += "R 4915100002 ##214*0492123401*88*4915100001*#\n";
     let mut printed = "R 01\nR 02\n".to_string();
-    for count in 1..=5 {
+    for count in 1..=6 {
         let now = 60 * count;
         input += &format!("T {now} 0492123401\nD {now} 0492123401 5\n");
         printed += "T 4915100001 ##214*0492123401*88*4915100002*#\n";
-        printed += if count < 5 {
+        printed += if count < 6 {
             "D again\n"
         } else {
             "D dropped\n"

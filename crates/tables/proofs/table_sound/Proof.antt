@@ -14,7 +14,7 @@ use Rattle.numbers.proofs.Least.{Starts, starts-none}
 use Rattle.rows.specs.Rows.{rowWords, holderAt, rowSound}
 use Rattle.rows.specs.Starts.{nearFrom, holderStart, restFrom}
 use Rattle.rows.proofs.Starts.{starts-holder, row-tells, near-sound}
-use Rattle.tables.specs.Tables.{mostNumbers, rowsIn, numberKey, rowStands, tableSound}
+use Rattle.tables.specs.Tables.{mostNumbers, rowsIn, numberKey, rowStands, tableUpTo, tableSound}
 use Rattle.tables.specs.Ends.{within}
 use Rattle.tables.proofs.Ends.{Reaches, reaches-none, within-tells, within-reached, reaches-on}
 use Rattle.tables.proofs.Sound.{ragged, too-many, not-every, all-stand, Scanned, scan-start, scan-test, scan-next, scan-end}
@@ -29,13 +29,13 @@ abbrev μ-loop : tie.MeasureT-loop
 μ-loop table rows least before₀ end₀ near₀ row₀ before end near row = rows - row
 
 returns : tie.Need-returns Inv-loop μ-loop
-unfolding tableSound
+unfolding tableUpTo
 returns c =
     let t = c .before .before .args .table .now in
     ragged rowWords mostNumbers (rowStands t) t (c .if1 .taken)
 
 returns-2 : tie.Need-returns-2 Inv-loop μ-loop
-unfolding tableSound
+unfolding tableUpTo
 returns-2 c =
     let t = c .before .before .before .args .table .now in
     too-many rowWords mostNumbers (rowStands t) t (omega arith)
@@ -95,7 +95,7 @@ stands c =
     ∙ rw (c .rest-sound .ensures, c .before .before .holder-start .ensures, c .before .before .before .before .end-for .ensures)
 
 returns-3 : tie.Need-returns-3 Inv-loop μ-loop
-unfolding tableSound
+unfolding tableUpTo
 returns-3 c =
     let l = c .before .before .before .before .before .before .before .before .before .before in
     let t = l .before .before .before .before .before .args .table .now in
@@ -129,7 +129,7 @@ loop-again c =
     (c .if3 .came)
 
 returns-4 : tie.Need-returns-4 Inv-loop μ-loop
-unfolding tableSound
+unfolding tableUpTo
 returns-4 c =
     let l = c .before in
     let t = l .before .before .before .before .before .args .table .now in
