@@ -20,6 +20,12 @@
  * Table. Six words a number, at most 1,024 numbers, strictly ascending by the
  * first word: functional number; holder, or 0; phase; the notice's addressee;
  * supervisor; second of the last failure.
+ * Figures. Three words beside the table: numbers held (with a holder), notices
+ * waiting (in an odd phase), notices in flight (in an even phase above 0). A
+ * caller recounts them once at the start, by ffn_recount; after that she only
+ * lends the words with the table. Each request, sending and result that is not
+ * refused leaves them equal to a recount of the table. Words that differ from
+ * it, or of another length than three, are refused 10.
  * List. Two words a subscriber, at most 4,096, strictly ascending: MSISDN;
  * flags 0 to 3 (1 has Follow Me, 2 supervisor).
  *
@@ -49,7 +55,7 @@ extern "C" {
 /* The classes of an answer. Refusals, errors and outcomes are numbered apart. */
 enum {
     FFN_WRITTEN = 0,  /* count: the octets or characters that were written */
-    FFN_REFUSAL = 1,  /* number: 1 to 9 or 11, see below */
+    FFN_REFUSAL = 1,  /* number: 1 to 11, see below */
     FFN_ERROR = 2,    /* number: 35, 36 or 71, the codes of TS 29.002 */
     FFN_OUTCOME = 3,  /* number: the outcome; count: the reply's or the frame's octets; value: of 03 the holder's MSISDN, otherwise 0 */
     FFN_SENT = 4,     /* count: the notice's octets; value: the addressee's MSISDN */
@@ -59,7 +65,9 @@ enum {
     FFN_READ = 8,     /* of the readers: the string or the message reads */
     /* Of frames. */
     FFN_RETURN_ERROR = 9, /* number: the error's code; count: the frame's octets */
-    FFN_REJECT = 10       /* number: the problem; count: the frame's octets */
+    FFN_REJECT = 10,      /* number: the problem; count: the frame's octets */
+    /* Of a recount. */
+    FFN_COUNTED = 11 /* held, waiting, in_flight: the figures */
 };
 
 /* The problems with which a framed request is rejected. */
@@ -89,9 +97,9 @@ enum {
  * 6 the delay is neither 0 nor 60 to 600 seconds; 7 the functional number is
  * malformed or not in the table; 8 the list is unsound; 9 the fields break the
  * string's rules, a character is not one that the packer takes, unused bits are
- * not 0, or the transaction identifier is above 15; 11 the message is wrong
- * anywhere up to and with its invoke number, or is no Release Complete that the
- * node could have written.
+ * not 0, or the transaction identifier is above 15; 10 the figures differ from a
+ * recount of the table; 11 the message is wrong anywhere up to and with its
+ * invoke number, or is no Release Complete that the node could have written.
  * Errors: 35 the requester is no MSISDN, or the string has 0 octets; 36 the
  * string does not read; 71 the data coding scheme is not 0x0F.
  * Outcomes: 01 registered, 02 erased, 03 interrogated; 11 a crew's request to
@@ -101,7 +109,7 @@ enum {
 
 /* An answer. A field that its class does not name is 0. */
 struct ffn_answer {
-    uint32_t class_; /* any but FFN_READ (without its underscore a word of C++) */
+    uint32_t class_; /* any but FFN_READ and FFN_COUNTED (without its underscore a word of C++) */
     uint32_t number;
     size_t count;
     uint64_t value;
@@ -129,6 +137,15 @@ struct ffn_frame_read {
     uint32_t scheme; /* of FFN_READ the data coding scheme */
     size_t start;    /* of FFN_READ where the string starts in the message */
     size_t length;   /* and how many octets it has: 0 to 237 in a Register, 0 to 80 in a Release Complete */
+};
+
+/* The three figures of a table by a recount. With FFN_REFUSAL all but number is 0. */
+struct ffn_figures {
+    uint32_t class_;    /* FFN_COUNTED, or FFN_REFUSAL */
+    uint32_t number;    /* 2 with FFN_REFUSAL, otherwise 0 */
+    uint64_t held;      /* numbers held */
+    uint64_t waiting;   /* notices waiting */
+    uint64_t in_flight; /* notices in flight */
 };
 
 /*
@@ -174,10 +191,10 @@ struct ffn_request_read ffn_read_request(const uint8_t *octets, size_t octets_le
  * A request: the requester's MSISDN, the data coding scheme and the packed
  * string. FFN_OUTCOME with the packed text of the outcome in reply: its two
  * digits, and of 03 a space and the holder's digits. A changing 01 or 02
- * changes the number's record. Refused 1 (reply under 80 octets), 8, 2; errors
- * 35, 71, 36; in document 01's order.
+ * changes the number's record, and the figures with it. Refused 1 (reply under 80
+ * octets), 8, 2, 10; errors 35, 71, 36; in the papers' order.
  * A crew's request treats the lead number, then the number of each code, as
- * single requests; it leaves the table that they leave. Its outcome is 11 or 12,
+ * single requests; it leaves table and figures as they do. Its outcome is 11 or 12,
  * also where every number failed, or 42 before any of them. Behind the two
  * digits the reply of 11 and 12 says which succeeded (01 or 02) and which failed
  * (41, 61, 62, 63, 67): a space, the count of successes, a space, their codes
@@ -185,46 +202,54 @@ struct ffn_request_read ffn_read_request(const uint8_t *octets, size_t octets_le
  * codes if there are any. The lead's code is 01: "11 2 0102 0". It has at most
  * 28 characters, 25 octets.
  */
-struct ffn_answer ffn_request(uint64_t *table, size_t table_words, const uint64_t *list, size_t list_words,
-                              uint8_t *reply, size_t reply_length,
+struct ffn_answer ffn_request(uint64_t *table, size_t table_words, uint64_t *figures, size_t figure_words,
+                              const uint64_t *list, size_t list_words, uint8_t *reply, size_t reply_length,
                               uint64_t requester, uint8_t scheme, const uint8_t *string, size_t string_length);
 
 /*
  * Sends the notice of a number. FFN_SENT with the addressee, and the packed
  * notice in buffer; the record's phase grows by 1. delay is 0 (60 seconds) or
  * 60 to 600; now is the second counter, which wraps. Refused 1 (buffer under 80
- * octets), 2, 7, 6, 4 (the phase is not odd), 5.
+ * octets), 2, 10, 7, 6, 4 (the phase is not odd), 5.
  */
-struct ffn_answer ffn_sending(uint64_t *table, size_t table_words, uint8_t *buffer, size_t buffer_length,
+struct ffn_answer ffn_sending(uint64_t *table, size_t table_words, uint64_t *figures, size_t figure_words,
+                              uint8_t *buffer, size_t buffer_length,
                               uint64_t functional_number, uint32_t delay, uint32_t now);
 
 /*
  * The result of a sending: kind 0 delivered, 1 unknown subscriber, 2 illegal
  * subscriber, 3 illegal equipment, 4 service not supported, 5 any other error,
- * a lost dialogue too. FFN_RESULT. Refused 2, 7, 3, 4 (the phase is 0 or odd).
+ * a lost dialogue too. FFN_RESULT. Refused 2, 10, 7, 3, 4 (the phase is 0 or odd).
  */
-struct ffn_answer ffn_result(uint64_t *table, size_t table_words, uint64_t functional_number, uint32_t kind, uint32_t now);
+struct ffn_answer ffn_result(uint64_t *table, size_t table_words, uint64_t *figures, size_t figure_words,
+                             uint64_t functional_number, uint32_t kind, uint32_t now);
 
 /*
  * The lowest number whose notice is due: FFN_FOUND, or FFN_NONE_DUE exactly if
- * none is due. Refused 2, 6.
+ * none is due. It takes no figures. Refused 2, 6.
  */
 struct ffn_answer ffn_finding(const uint64_t *table, size_t table_words, uint32_t delay, uint32_t now);
+
+/*
+ * The figures of a table, counted: FFN_COUNTED. Called once at the start, for the
+ * words that the calls are lent. Refused 2.
+ */
+struct ffn_figures ffn_recount(const uint64_t *table, size_t table_words);
 
 /*
  * A framed request: the requester's MSISDN and a Register. The Release Complete
  * that answers it stands in frame, with the message's invoke number and its
  * transaction identifier, the flag inverted. Refused 1 (frame under 120 octets),
- * 11, 8, 2. Then FFN_REJECT with problem 1 where not exactly 02 01 3B stands
+ * 11, 8, 2, 10. Then FFN_REJECT with problem 1 where not exactly 02 01 3B stands
  * behind the invoke number, with problem 2 where anything behind that is wrong;
  * otherwise the request as ffn_request treats it from error 35 on, with the
  * scheme and the string of the message. An error is FFN_RETURN_ERROR, an outcome
  * FFN_OUTCOME with the reply's text as the string of a Return Result; neither an
- * error nor a Reject changes the table. count is that of the frame: at most 46
- * for an outcome, 12 for the others.
+ * error nor a Reject changes table or figures. count is that of the frame: at
+ * most 46 for an outcome, 12 for the others.
  */
-struct ffn_answer ffn_framed_request(uint64_t *table, size_t table_words, const uint64_t *list, size_t list_words,
-                                     uint8_t *frame, size_t frame_length,
+struct ffn_answer ffn_framed_request(uint64_t *table, size_t table_words, uint64_t *figures, size_t figure_words,
+                                     const uint64_t *list, size_t list_words, uint8_t *frame, size_t frame_length,
                                      uint64_t requester, const uint8_t *message, size_t message_length);
 
 /*

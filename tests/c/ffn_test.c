@@ -1,4 +1,4 @@
-/* Document 01's examples and the limits of each function, through the C library. Ends at the first fact that does not hold, with its line. */
+/* The papers' examples and the limits of each function, through the C library. Ends at the first fact that does not hold, with its line. */
 #include <stdio.h>
 #include <stdlib.h>
 #include <string.h>
@@ -35,6 +35,11 @@ _Static_assert(offsetof(struct ffn_frame_read, invoke) == 12, "invoke");
 _Static_assert(offsetof(struct ffn_frame_read, scheme) == 16, "scheme");
 _Static_assert(offsetof(struct ffn_frame_read, start) == 24, "start");
 _Static_assert(offsetof(struct ffn_frame_read, length) == 32, "length");
+_Static_assert(sizeof(struct ffn_figures) == 32, "figures");
+_Static_assert(offsetof(struct ffn_figures, number) == 4, "number");
+_Static_assert(offsetof(struct ffn_figures, held) == 8, "held");
+_Static_assert(offsetof(struct ffn_figures, waiting) == 16, "waiting");
+_Static_assert(offsetof(struct ffn_figures, in_flight) == 24, "in flight");
 
 /* Document 01's numbers: A has flags 1, B flags 3, C flags 0; F is free. */
 static const uint64_t A = 14915100001, B = 14915100002, C = 14915100003, F = 10492123401;
@@ -44,7 +49,7 @@ static const uint64_t LIST[6] = {14915100001, 1, 14915100002, 3, 14915100003, 0}
 enum { UNTOUCHED = 0xEE, ROOM = 200 };
 
 static uint8_t reply[ROOM];
-static uint64_t table[6];
+static uint64_t table[6], figures[3];
 
 static int is(struct ffn_answer a, uint32_t class_, uint32_t number, size_t count, uint64_t value)
 {
@@ -59,16 +64,37 @@ static int untouched(const uint8_t *octets, size_t from, size_t to)
     return 1;
 }
 
+static int figures_are(uint64_t held, uint64_t waiting, uint64_t in_flight)
+{
+    return figures[0] == held && figures[1] == waiting && figures[2] == in_flight;
+}
+
+/* The figures are those of the table. */
+static int counted(void)
+{
+    struct ffn_figures n = ffn_recount(table, 6);
+    return n.class_ == FFN_COUNTED && n.number == 0 && figures_are(n.held, n.waiting, n.in_flight);
+}
+
+/* The record, and its figures. */
 static int record_is(uint64_t number, uint64_t holder, uint64_t phase, uint64_t addressee, uint64_t supervisor, uint64_t failure)
 {
     const uint64_t record[6] = {number, holder, phase, addressee, supervisor, failure};
-    return memcmp(table, record, sizeof record) == 0;
+    return memcmp(table, record, sizeof record) == 0 && counted();
+}
+
+static void set_figures(uint64_t held, uint64_t waiting, uint64_t in_flight)
+{
+    figures[0] = held;
+    figures[1] = waiting;
+    figures[2] = in_flight;
 }
 
 static void set_record(uint64_t holder, uint64_t phase, uint64_t addressee, uint64_t supervisor, uint64_t failure)
 {
     const uint64_t record[6] = {F, holder, phase, addressee, supervisor, failure};
     memcpy(table, record, sizeof record);
+    set_figures(holder != 0, phase % 2 == 1, phase != 0 && phase % 2 == 0);
 }
 
 static struct ffn_answer pack(const char *text, uint8_t *out, size_t out_length)
@@ -91,7 +117,7 @@ static struct ffn_answer ask(uint64_t requester, const char *text)
     uint8_t string[ROOM];
     struct ffn_answer packed = pack(text, string, sizeof string);
     memset(reply, UNTOUCHED, sizeof reply);
-    return ffn_request(table, 6, LIST, 6, reply, sizeof reply, requester, 0x0F, string, packed.count);
+    return ffn_request(table, 6, figures, 3, LIST, 6, reply, sizeof reply, requester, 0x0F, string, packed.count);
 }
 
 static int outcome(struct ffn_answer a, uint32_t number, const char *text)
@@ -161,21 +187,27 @@ static void request_checks(void)
     size_t count = pack("**214*0492123401***#", string, sizeof string).count;
     memcpy(broken, unsound, sizeof broken);
     memset(reply, UNTOUCHED, sizeof reply);
-    HOLDS(is(ffn_request(broken, 6, LIST, 5, reply, 79, 1, 0, string, 0), FFN_REFUSAL, 1, 0, 0));
-    HOLDS(is(ffn_request(broken, 6, LIST, 5, reply, 80, 1, 0, string, 0), FFN_REFUSAL, 8, 0, 0));
-    HOLDS(is(ffn_request(broken, 6, LIST, 6, reply, 80, 1, 0, string, 0), FFN_REFUSAL, 2, 0, 0));
+    HOLDS(is(ffn_request(broken, 6, figures, 2, LIST, 5, reply, 79, 1, 0, string, 0), FFN_REFUSAL, 1, 0, 0));
+    HOLDS(is(ffn_request(broken, 6, figures, 2, LIST, 5, reply, 80, 1, 0, string, 0), FFN_REFUSAL, 8, 0, 0));
+    HOLDS(is(ffn_request(broken, 6, figures, 2, LIST, 6, reply, 80, 1, 0, string, 0), FFN_REFUSAL, 2, 0, 0));
     set_record(0, 0, 0, 0, 0);
-    HOLDS(is(ffn_request(table, 6, LIST, 6, reply, 80, 1, 0, string, 0), FFN_ERROR, 35, 0, 0));
-    HOLDS(is(ffn_request(table, 6, LIST, 6, reply, 80, A, 0, string, 0), FFN_ERROR, 71, 0, 0));
-    HOLDS(is(ffn_request(table, 6, LIST, 6, reply, 80, A, 0x0F, string, 0), FFN_ERROR, 35, 0, 0));
-    HOLDS(is(ffn_request(table, 6, LIST, 6, reply, 80, A, 0x0F, string, count - 1), FFN_ERROR, 36, 0, 0));
+    HOLDS(is(ffn_request(table, 6, figures, 2, LIST, 6, reply, 80, 1, 0, string, 0), FFN_REFUSAL, 10, 0, 0));
+    HOLDS(is(ffn_request(table, 6, figures, 3, LIST, 6, reply, 80, 1, 0, string, 0), FFN_ERROR, 35, 0, 0));
+    HOLDS(is(ffn_request(table, 6, figures, 3, LIST, 6, reply, 80, A, 0, string, 0), FFN_ERROR, 71, 0, 0));
+    HOLDS(is(ffn_request(table, 6, figures, 3, LIST, 6, reply, 80, A, 0x0F, string, 0), FFN_ERROR, 35, 0, 0));
+    HOLDS(is(ffn_request(table, 6, figures, 3, LIST, 6, reply, 80, A, 0x0F, string, count - 1), FFN_ERROR, 36, 0, 0));
     HOLDS(untouched(reply, 0, ROOM) && record_is(F, 0, 0, 0, 0, 0) && memcmp(broken, unsound, sizeof broken) == 0);
 }
 
 static struct ffn_answer send(uint64_t number, uint32_t delay, uint32_t now)
 {
     memset(reply, UNTOUCHED, sizeof reply);
-    return ffn_sending(table, 6, reply, sizeof reply, number, delay, now);
+    return ffn_sending(table, 6, figures, 3, reply, sizeof reply, number, delay, now);
+}
+
+static struct ffn_answer take(uint64_t number, uint32_t kind, uint32_t now)
+{
+    return ffn_result(table, 6, figures, 3, number, kind, now);
 }
 
 static void notices(void)
@@ -190,18 +222,22 @@ static void notices(void)
     HOLDS(is(send(F, 60, 54), FFN_REFUSAL, 4, 0, 0));
     HOLDS(is(send(F, 59, 54), FFN_REFUSAL, 6, 0, 0));
     HOLDS(is(send(F + 1, 59, 54), FFN_REFUSAL, 7, 0, 0));
-    HOLDS(is(ffn_sending(table, 5, reply, 79, F, 60, 54), FFN_REFUSAL, 1, 0, 0));
-    HOLDS(is(ffn_sending(table, 5, reply, 80, F, 60, 54), FFN_REFUSAL, 2, 0, 0));
-    HOLDS(is(ffn_result(table, 6, F, 6, 60), FFN_REFUSAL, 3, 0, 0));
-    HOLDS(is(ffn_result(table, 6, F, 5, 60), FFN_RESULT, FFN_AGAIN, 0, 0) && record_is(F, 0, 5, A, B, 60));
-    HOLDS(is(ffn_result(table, 6, F, 0, 60), FFN_REFUSAL, 4, 0, 0));
+    HOLDS(is(ffn_sending(table, 5, figures, 2, reply, 79, F, 60, 54), FFN_REFUSAL, 1, 0, 0));
+    HOLDS(is(ffn_sending(table, 5, figures, 2, reply, 80, F, 60, 54), FFN_REFUSAL, 2, 0, 0));
+    HOLDS(is(ffn_sending(table, 6, figures, 2, reply, 80, F + 1, 59, 54), FFN_REFUSAL, 10, 0, 0));
+    HOLDS(is(ffn_result(table, 5, figures, 2, F + 1, 6, 60), FFN_REFUSAL, 2, 0, 0));
+    HOLDS(is(ffn_result(table, 6, figures, 2, F + 1, 6, 60), FFN_REFUSAL, 10, 0, 0));
+    HOLDS(is(take(F + 1, 6, 60), FFN_REFUSAL, 7, 0, 0));
+    HOLDS(is(take(F, 6, 60), FFN_REFUSAL, 3, 0, 0));
+    HOLDS(is(take(F, 5, 60), FFN_RESULT, FFN_AGAIN, 0, 0) && record_is(F, 0, 5, A, B, 60));
+    HOLDS(is(take(F, 0, 60), FFN_REFUSAL, 4, 0, 0));
 
     set_record(B, 10, A, B, 0); /* P14 */
-    HOLDS(is(ffn_result(table, 6, F, 5, 77), FFN_RESULT, FFN_AGAIN, 0, 0) && record_is(F, B, 11, A, B, 77));
+    HOLDS(is(take(F, 5, 77), FFN_RESULT, FFN_AGAIN, 0, 0) && record_is(F, B, 11, A, B, 77));
     set_record(B, 12, A, B, 0);
-    HOLDS(is(ffn_result(table, 6, F, 5, 77), FFN_RESULT, FFN_DROPPED, 0, 0) && record_is(F, B, 0, 0, 0, 0));
+    HOLDS(is(take(F, 5, 77), FFN_RESULT, FFN_DROPPED, 0, 0) && record_is(F, B, 0, 0, 0, 0));
     set_record(B, 2, A, B, 0);
-    HOLDS(is(ffn_result(table, 6, F, 0, 77), FFN_RESULT, FFN_DELIVERED, 0, 0) && record_is(F, B, 0, 0, 0, 0));
+    HOLDS(is(take(F, 0, 77), FFN_RESULT, FFN_DELIVERED, 0, 0) && record_is(F, B, 0, 0, 0, 0));
     HOLDS(is(ffn_finding(table, 6, 601, 0), FFN_REFUSAL, 6, 0, 0));
     HOLDS(is(ffn_finding(table, 5, 601, 0), FFN_REFUSAL, 2, 0, 0));
 }
@@ -235,6 +271,70 @@ static void strings(void)
     HOLDS(is(ffn_write_request(FFN_ERASE, F, 1, field, 10, out, 160), FFN_REFUSAL, 9, 0, 0));
     HOLDS(is(ffn_write_request(FFN_ERASE, 0, A, field, 10, out, 160), FFN_REFUSAL, 9, 0, 0));
     HOLDS(untouched(out, 0, sizeof out));
+}
+
+static int recounts(const uint64_t *rows, size_t words, uint64_t held, uint64_t waiting, uint64_t in_flight)
+{
+    struct ffn_figures n = ffn_recount(rows, words);
+    return n.class_ == FFN_COUNTED && n.number == 0 && n.held == held && n.waiting == waiting && n.in_flight == in_flight;
+}
+
+/* Every call with these figures beside F, held by A with a notice that waits, is refused 10 and leaves them. */
+static int other_figures(uint64_t held, uint64_t waiting, uint64_t in_flight)
+{
+    set_record(A, 1, A, B, 0);
+    set_figures(held, waiting, in_flight);
+    int refused = is(ask(A, "**214*0492123401***#"), FFN_REFUSAL, 10, 0, 0) && is(send(F, 60, 54), FFN_REFUSAL, 10, 0, 0)
+        && is(take(F, 0, 54), FFN_REFUSAL, 10, 0, 0) && is(ask(1, ""), FFN_REFUSAL, 10, 0, 0);
+    int stays = figures_are(held, waiting, in_flight) && untouched(reply, 0, ROOM);
+    set_figures(1, 1, 0);
+    return refused && stays && record_is(F, A, 1, A, B, 0);
+}
+
+static void the_figures(void)
+{
+    uint64_t rows[13 * 6]; /* one of each phase, the first three held */
+    for (uint64_t i = 0; i < 13; i++) {
+        const uint64_t row[6] = {F + i, i < 3 ? C : 0, i, i == 0 ? 0 : A, i == 0 ? 0 : B, 0};
+        memcpy(rows + 6 * i, row, sizeof row);
+    }
+    HOLDS(recounts(rows, 0, 0, 0, 0) && recounts(rows, 6, 1, 0, 0) && recounts(rows, 12, 2, 1, 0));
+    HOLDS(recounts(rows, 18, 3, 1, 1) && recounts(rows, 72, 3, 6, 5) && recounts(rows, 78, 3, 6, 6));
+    struct ffn_figures unsound = ffn_recount(rows, 77);
+    HOLDS(unsound.class_ == FFN_REFUSAL && unsound.number == 2);
+    HOLDS(unsound.held == 0 && unsound.waiting == 0 && unsound.in_flight == 0);
+
+    set_record(0, 0, 0, 0, 0);
+    HOLDS(outcome(ask(A, "**214*0492123401***#"), 1, "01") && figures_are(1, 0, 0));
+    HOLDS(outcome(ask(A, "**214*0492123401***#"), 1, "01") && figures_are(1, 0, 0)); /* again: no change */
+    HOLDS(outcome(ask(B, "##214*0492123401*88*4915100001*#"), 2, "02") && figures_are(0, 1, 0));
+    HOLDS(is(send(F, 0, 100), FFN_SENT, 0, 28, A) && figures_are(0, 0, 1));
+    HOLDS(is(take(F, 5, 101), FFN_RESULT, FFN_AGAIN, 0, 0) && figures_are(0, 1, 0));
+    HOLDS(is(send(F, 0, 161), FFN_SENT, 0, 28, A) && figures_are(0, 0, 1));
+    HOLDS(is(take(F, 1, 162), FFN_RESULT, FFN_DROPPED, 0, 0) && figures_are(0, 0, 0));
+    HOLDS(outcome(ask(B, "**214*0492123401***#"), 1, "01") && figures_are(1, 0, 0));
+    HOLDS(outcome(ask(B, "##214*0492123401*88*4915100002*#"), 2, "02") && figures_are(0, 0, 0)); /* forced by the holder herself */
+
+    HOLDS(other_figures(0, 1, 0) && other_figures(2, 1, 0) && other_figures(1, 0, 0));
+    HOLDS(other_figures(1, 2, 0) && other_figures(1, 1, 1) && other_figures(1, 0, 1) && other_figures(4294967297, 1, 0));
+    const uint64_t four[4] = {1, 1, 0, 0};
+    uint64_t lent[4];
+    memcpy(lent, four, sizeof lent);
+    for (size_t words = 0; words <= 4; words++) {
+        struct ffn_answer a = ffn_result(table, 6, lent, words, F, 0, 54);
+        HOLDS(is(a, FFN_REFUSAL, words == 3 ? 4 : 10, 0, 0) && memcmp(lent, four, sizeof lent) == 0);
+    }
+
+    uint64_t ten[60]; /* a crew of ten */
+    for (uint64_t i = 0; i < 10; i++) {
+        const uint64_t row[6] = {F + i, 0, 0, 0, 0, 0};
+        memcpy(ten + 6 * i, row, sizeof row);
+    }
+    uint8_t string[ROOM];
+    size_t count = pack("**214*0492123401***BULK9 020304050607080910#", string, sizeof string).count;
+    set_figures(0, 0, 0);
+    HOLDS(ffn_request(ten, 60, figures, 3, LIST, 6, reply, 80, A, 0x0F, string, count).number == 11);
+    HOLDS(figures_are(10, 0, 0) && recounts(ten, 60, 10, 0, 0));
 }
 
 /* The request of one additional field, written and read back. */
@@ -293,9 +393,11 @@ static struct ffn_answer ask_crew(uint64_t requester, uint64_t other, const char
     struct ffn_answer packed = pack(text, string, sizeof string);
     memcpy(rows, before, sizeof rows);
     memset(reply, UNTOUCHED, sizeof reply);
-    struct ffn_answer answer = ffn_request(rows, 12, LIST, 6, reply, sizeof reply, requester, 0x0F, string, packed.count);
+    set_figures(other != 0, 1, 0);
+    struct ffn_answer answer = ffn_request(rows, 12, figures, 3, LIST, 6, reply, sizeof reply, requester, 0x0F, string, packed.count);
     holders[0] = rows[1];
     holders[1] = rows[7];
+    HOLDS(figures_are((uint64_t)(holders[0] != 0) + (holders[1] != 0), 1, 0));
     rows[1] = before[1];
     rows[7] = before[7];
     HOLDS(memcmp(rows, before, sizeof rows) == 0);
@@ -361,7 +463,7 @@ static struct ffn_answer ask_framed(uint64_t requester, size_t place, uint8_t oc
     uint8_t message[40];
     change(message, place, octet);
     memset(reply, UNTOUCHED, sizeof reply);
-    return ffn_framed_request(table, 6, LIST, 6, reply, 120, requester, message, sizeof message);
+    return ffn_framed_request(table, 6, figures, 3, LIST, 6, reply, 120, requester, message, sizeof message);
 }
 
 /* The frame is this one, but for its first octet and its invoke number, and the rest of the buffer stayed. */
@@ -388,7 +490,7 @@ static void framed_requests(void)
     uint8_t message[120], none[1] = {0};
     struct ffn_answer made = ffn_write_register(0, 1, FFN_INTERROGATE, F, 0, none, 0, message, sizeof message);
     memset(reply, UNTOUCHED, sizeof reply);
-    struct ffn_answer held = ffn_framed_request(table, 6, LIST, 6, reply, sizeof reply, B, message, made.count);
+    struct ffn_answer held = ffn_framed_request(table, 6, figures, 3, LIST, 6, reply, sizeof reply, B, message, made.count);
     HOLDS(is(held, FFN_OUTCOME, 3, 33, A) && untouched(reply, 33, ROOM));
     uint8_t text[ROOM];
     HOLDS(is(ffn_unpack(reply + 21, 12, text, sizeof text), FFN_WRITTEN, 0, 13, 0) && memcmp(text, "03 4915100001", 13) == 0);
@@ -402,12 +504,16 @@ static void framed_checks(void)
     change(wrong, 1, 0x3B);
     change(rejected, 11, 0x3C);
     memset(reply, UNTOUCHED, sizeof reply);
-    HOLDS(is(ffn_framed_request(broken, 6, LIST, 5, reply, 119, 1, wrong, 40), FFN_REFUSAL, 1, 0, 0));
-    HOLDS(is(ffn_framed_request(broken, 6, LIST, 5, reply, 120, 1, wrong, 40), FFN_REFUSAL, 11, 0, 0));
-    HOLDS(is(ffn_framed_request(broken, 6, LIST, 5, reply, 120, 1, rejected, 40), FFN_REFUSAL, 8, 0, 0));
-    HOLDS(is(ffn_framed_request(broken, 6, LIST, 6, reply, 120, 1, rejected, 40), FFN_REFUSAL, 2, 0, 0));
-    HOLDS(is(ffn_framed_request(broken, 6, LIST, 6, reply, 120, 1, REGISTER, 0), FFN_REFUSAL, 11, 0, 0));
-    HOLDS(untouched(reply, 0, ROOM) && broken[0] == 4915100001);
+    HOLDS(is(ffn_framed_request(broken, 6, figures, 2, LIST, 5, reply, 119, 1, wrong, 40), FFN_REFUSAL, 1, 0, 0));
+    HOLDS(is(ffn_framed_request(broken, 6, figures, 2, LIST, 5, reply, 120, 1, wrong, 40), FFN_REFUSAL, 11, 0, 0));
+    HOLDS(is(ffn_framed_request(broken, 6, figures, 2, LIST, 5, reply, 120, 1, rejected, 40), FFN_REFUSAL, 8, 0, 0));
+    HOLDS(is(ffn_framed_request(broken, 6, figures, 2, LIST, 6, reply, 120, 1, rejected, 40), FFN_REFUSAL, 2, 0, 0));
+    HOLDS(is(ffn_framed_request(broken, 6, figures, 2, LIST, 6, reply, 120, 1, REGISTER, 0), FFN_REFUSAL, 11, 0, 0));
+    set_record(A, 0, 0, 0, 0);
+    HOLDS(is(ffn_framed_request(table, 6, figures, 2, LIST, 6, reply, 120, 1, rejected, 40), FFN_REFUSAL, 10, 0, 0));
+    change(rejected, 12, 0x31);
+    HOLDS(is(ffn_framed_request(table, 6, figures, 2, LIST, 6, reply, 120, 1, rejected, 40), FFN_REFUSAL, 10, 0, 0));
+    HOLDS(untouched(reply, 0, ROOM) && broken[0] == 4915100001 && record_is(F, A, 0, 0, 0, 0));
 }
 
 static void registers(void)
@@ -460,6 +566,7 @@ int main(void)
     requests();
     request_checks();
     notices();
+    the_figures();
     strings();
     crews();
     crew_requests();

@@ -1,6 +1,7 @@
 // The calls of the node by lines of text: a line sets memory or makes one call, and what is printed of a call is its answer, the octets that it
-// wrote, what lies beyond them, and what became of the table. Document 01's examples and those of crews and frames stand in the file stdin. What they
-// print, in the file stdout, was worked out by hand from the papers; the independent implementation answers the same lines, and random ones beside them.
+// wrote, what lies beyond them, and what became of table and figures. Document 01's examples and those of crews, frames and figures stand in the file
+// stdin. What they print, in the file stdout, was worked out by hand from the papers; the independent implementation answers the same lines, and random
+// ones beside them.
 //
 // A line is a name and its fields, one space apart: words in decimal (numbers in stored form), and last perhaps a tail, which reaches to the end of
 // the line: 'CHARACTERS or xOCTETS in hexadecimal. Any other line prints `?` and changes nothing.
@@ -10,11 +11,14 @@
 //   table WORD..    list WORD..           the table, the list
 //   table+ WORD..   list+ WORD..          these words behind it
 //   table* N WORD.. list* N WORD..        N rows of these words behind it, the first word counted up
+//                                         a table gets the figures of a recount, zeros where it is unsound
 //   buffer OCTETS FILLING                 the buffer that the calls below are lent
+//   figures WORD..                        other figures, up to 8 words: calls that are lent them show them, until the table is set
 //   request REQUESTER SCHEME TAIL         characters are packed first
 //   sending NUMBER DELAY CLOCK
 //   result NUMBER KIND CLOCK
 //   finding DELAY CLOCK
+//   recount                               the figures of the table, refused 2 where it is unsound
 //   pack TAIL       unpack TAIL
 //   write OPERATION NUMBER [MSISDN] TAIL  0 registers, 1 erases, 2 interrogates
 //   read TAIL                             characters are packed first
@@ -32,6 +36,7 @@ use shown::FRAMED;
 use shown::NUMBER;
 use shown::PACK;
 use shown::READ;
+use shown::RECOUNT;
 use shown::REGISTER;
 use shown::REGISTERED;
 use shown::RELEASED;
@@ -45,6 +50,7 @@ use shown::WRITE;
 use shown::low_8;
 use shown::show_call;
 use shown::shows_table;
+use tables::Recounted;
 use texts::Fields;
 use texts::OctetsRead;
 ghost use mathlib.Core.Path.{_≡_};
@@ -54,6 +60,9 @@ ghost use lib.ListN.{length};
 const TABLE: usize = 6_600;
 
 const LIST: usize = 8_400;
+
+// Room for figures, more than a call takes.
+const FIGURES: usize = 8;
 
 // Room for the octets of a tail.
 const TAIL: usize = 1_024;
@@ -67,11 +76,13 @@ const LIST_ROWS: usize = 5;
 
 const BUFFER_LINE: usize = 6;
 
-const COMMENT: usize = 20;
+const FIGURES_LINE: usize = 7;
 
-const TITLE: usize = 21;
+const COMMENT: usize = 22;
 
-const UNKNOWN: usize = 22;
+const TITLE: usize = 23;
+
+const UNKNOWN: usize = 24;
 
 // A line's form and its fields.
 struct Line {
@@ -79,9 +90,17 @@ struct Line {
     fields: Fields,
 }
 
-// How many words of table and list are used, and the buffer that is lent.
+// The figures beside the table, how many words of them are used, and whether calls show them.
+struct Figures {
+    words: [u64; FIGURES],
+    count: usize,
+    shown: bool,
+}
+
+// How many words of table and list are used, the figures, and the buffer that is lent.
 struct State {
     table: usize,
+    figures: Figures,
     list: usize,
     room: usize,
     filling: u8,
@@ -103,6 +122,36 @@ fn tail_octets() -> [u8; TAIL]
     ensures { λ r. ⌜ 1024 ≡ length r ⌝ }
 {
     [0; TAIL]
+}
+
+// ---- figures
+
+// The figures of a table; zeros where it is unsound.
+fn recounted(table: &[u64]) -> Figures {
+    let words = match tables::recount(table) {
+        Recounted::Unsound => [0; FIGURES],
+        Recounted::Counted(n) => [n.held, n.waiting, n.flying, 0, 0, 0, 0, 0],
+    };
+    Figures {
+        words,
+        count: 3,
+        shown: false,
+    }
+}
+
+fn with_figures(state: State, figures: Figures) -> State {
+    let mut next = state;
+    next.figures = figures;
+    next
+}
+
+fn put_figures(figures: Figures) {
+    if !figures.shown {
+        return;
+    }
+    let words = figures.words;
+    texts::put(b", figures");
+    texts::put_words(&words, 0, figures.count);
 }
 
 // ---- calls
@@ -133,33 +182,49 @@ fn question() {
     texts::put(b"?\n");
 }
 
-// Ends the line of a call, with what became of the table where it shows that.
-fn put_end(call: usize, before: &[u64], after: &[u64]) {
+// Ends the line of a call, with what became of table and figures where it shows that.
+fn put_end(call: usize, before: &[u64], after: &[u64], figures: Figures) {
     if shows_table(call) {
         texts::put_changes(before, after, ROW_WORDS);
+        put_figures(figures);
     }
     texts::put(b"\n");
 }
 
-// A call on the words that are used.
-fn call_on(line: Line, octets: &[u8], state: State, table: &mut [u64], list: &[u64]) {
+// A call that is lent the figures; what it leaves of them.
+fn call_with(line: Line, octets: &[u8], state: State, table: &mut [u64], list: &[u64]) -> Figures {
     let fields = line.fields;
-    let mut before = table_words();
-    texts::copy(table, &mut before);
+    let figures = state.figures;
+    let mut words = figures.words;
+    let count = texts::used(figures.count, &words);
     show_call(
         line.form,
         fields,
         octets,
         table,
+        &mut words[..count],
         list,
         state.room,
         state.filling,
     );
-    put_end(line.form, &before, table);
+    Figures {
+        words,
+        count,
+        shown: figures.shown,
+    }
+}
+
+// A call on the words that are used.
+fn call_on(line: Line, octets: &[u8], state: State, table: &mut [u64], list: &[u64]) -> Figures {
+    let mut before = table_words();
+    texts::copy(table, &mut before);
+    let figures = call_with(line, octets, state, table, list);
+    put_end(line.form, &before, table, figures);
+    figures
 }
 
 // A call with the octets of its tail.
-fn lend(line: Line, octets: &[u8], state: State, table: &mut [u64], list: &[u64]) {
+fn lend(line: Line, octets: &[u8], state: State, table: &mut [u64], list: &[u64]) -> Figures {
     let numbers = texts::used(state.table, table);
     let subscribers = texts::used(state.list, list);
     call_on(
@@ -168,20 +233,20 @@ fn lend(line: Line, octets: &[u8], state: State, table: &mut [u64], list: &[u64]
         state,
         &mut table[..numbers],
         &list[..subscribers],
-    );
+    )
 }
 
 // A line that is a call.
-fn call_line(line: Line, text: &[u8], state: State, table: &mut [u64], list: &[u64]) {
+fn call_line(line: Line, text: &[u8], state: State, table: &mut [u64], list: &[u64]) -> State {
     let fields = line.fields;
     let mut octets = tail_octets();
     let read = read_octets(line.form, text, fields.tail, &mut octets);
     if !read.good {
         question();
-        return;
+        return state;
     }
     let count = streams::within(read.count, &octets);
-    lend(line, &octets[..count], state, table, list);
+    with_figures(state, lend(line, &octets[..count], state, table, list))
 }
 
 // ---- memory
@@ -225,20 +290,48 @@ fn append(memory: &mut [u64], used: usize, line: Line) -> usize {
     )
 }
 
+// A line that sets the table; its figures follow.
+fn set_table(line: Line, state: State, table: &mut [u64]) -> State {
+    let mut next = state;
+    next.table = append(table, state.table, line);
+    let used = texts::used(next.table, table);
+    with_figures(next, recounted(&table[..used]))
+}
+
+// The words of a line as figures.
+fn given(line: Line) -> Figures {
+    let mut words = [0; FIGURES];
+    let count = append(&mut words, 0, line);
+    Figures {
+        words,
+        count,
+        shown: true,
+    }
+}
+
+fn set_buffer(line: Line, state: State) -> State {
+    let fields = line.fields;
+    let words = fields.words;
+    let mut next = state;
+    next.room = words[0] as usize;
+    next.filling = low_8(words[1]);
+    next
+}
+
 // A line that sets memory.
 fn set_line(line: Line, state: State, table: &mut [u64], list: &mut [u64]) -> State {
-    let mut next = state;
     if line.form < LIST_LINE {
-        next.table = append(table, state.table, line);
-    } else if line.form < BUFFER_LINE {
-        next.list = append(list, state.list, line);
-    } else {
-        let fields = line.fields;
-        let words = fields.words;
-        next.room = words[0] as usize;
-        next.filling = low_8(words[1]);
+        return set_table(line, state, table);
     }
-    next
+    if line.form < BUFFER_LINE {
+        let mut next = state;
+        next.list = append(list, state.list, line);
+        return next;
+    }
+    if line.form < FIGURES_LINE {
+        return set_buffer(line, state);
+    }
+    with_figures(state, given(line))
 }
 
 // What is set, if there was room for it.
@@ -266,6 +359,7 @@ fn has_words(form: usize, count: usize, first: u64, second: u64, third: u64) -> 
         TABLE_ROWS | LIST_ROWS => 2 <= count,
         0..=4 => true,
         BUFFER_LINE => (count == 2) & (first <= BUFFER as u64) & (second < TWO_TO_THE_8),
+        FIGURES_LINE => count <= FIGURES,
         REQUEST => (count == 2) & (second < TWO_TO_THE_8),
         SENDING | RESULT => (count == 3) & (second < TWO_TO_THE_32) & (third < TWO_TO_THE_32),
         FINDING => (count == 2) & (first < TWO_TO_THE_32) & (second < TWO_TO_THE_32),
@@ -276,7 +370,7 @@ fn has_words(form: usize, count: usize, first: u64, second: u64, third: u64) -> 
             & (4 <= count)
             & (count <= 5),
         FRAMED | NUMBER => count == 1,
-        PACK | UNPACK | READ | REGISTERED | RELEASED => count == 0,
+        PACK | UNPACK | READ | REGISTERED | RELEASED | RECOUNT => count == 0,
         _ => false,
     }
 }
@@ -286,7 +380,7 @@ fn form_named(text: &[u8], end: usize) -> usize {
     texts::name_of(
         text,
         end,
-        b"table table+ table* list list+ list* buffer request sending result finding framed pack unpack write read number register registered released ",
+        b"table table+ table* list list+ list* buffer figures request sending result finding framed pack unpack write read number register registered released recount ",
     )
 }
 
@@ -360,22 +454,28 @@ fn do_line(text: &[u8], state: State, table: &mut [u64], list: &mut [u64]) -> St
     if line.form < REQUEST {
         return keep(state, set_line(line, state, table, list));
     }
-    if line.form <= RELEASED {
-        call_line(line, text, state, table, list);
-    } else {
-        text_line(line.form, text);
+    if line.form < COMMENT {
+        return call_line(line, text, state, table, list);
     }
+    text_line(line.form, text);
     state
+}
+
+// Nothing is set: an empty table, with its figures.
+fn first_state() -> State {
+    let figures = recounted(&[]);
+    State {
+        table: 0,
+        figures,
+        list: 0,
+        room: 0,
+        filling: 0,
+    }
 }
 
 // Every line of the input, one after the other.
 fn run(input: &[u8], table: &mut [u64], list: &mut [u64]) {
-    let mut state = State {
-        table: 0,
-        list: 0,
-        room: 0,
-        filling: 0,
-    };
+    let mut state = first_state();
     let mut start = 0;
     while start < input.len() {
         let end = bytes::scan::find(input, start, input.len(), b'\n');

@@ -1,7 +1,8 @@
--- Two outcomes of the framed request that its contract allows are equal: answer, table and every octet. Assumes nothing.
+-- Two outcomes of the framed request that its contract allows are equal: answer, table, figures and every octet. Assumes nothing.
 use mathlib.Core.Path.{_≡_, refl}
 use mathlib.Core.List.{List}
 use Prim.Native.Nat.{ℕ}
+use Rattle.states.specs.States.{State}
 use Rattle.rules.specs.Answers.{Answer, Outcome, made}
 use Rattle.visits.proofs.Choice.{byCase, no-choice}
 use Rattle.exchange.specs.Said.{saidFramed}
@@ -22,5 +23,5 @@ framed-back (framed.Error n octets) = refl
 framed-back (framed.Reject n octets) = refl
 
 pub framed-choice :
-    (v w : FramedAnswer) (t u b d : List ℕ) (o : Outcome) → made (saidFramed v) t b ≡ o → made (saidFramed w) u d ≡ o → (v ≡ w) × (t ≡ u) × (b ≡ d)
+    (v w : FramedAnswer) (t u : State) (b d : List ℕ) (o : Outcome) → made (saidFramed v) t b ≡ o → made (saidFramed w) u d ≡ o → (v ≡ w) × (t ≡ u) × (b ≡ d)
 framed-choice = no-choice saidFramed unsaidFramed framed-back

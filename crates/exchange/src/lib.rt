@@ -12,7 +12,8 @@ ghost use mathlib.Core.List.{[]};
 ghost use Prim.Native.Nat.{_≤_};
 ghost use lib.ListN.{length};
 ghost use Rattle.frames.specs.Messages.{frameRoom};
-ghost use Rattle.tables.specs.Tables.{tableSound, listSound};
+ghost use Rattle.tables.specs.Tables.{listSound};
+ghost use Rattle.states.specs.States.{beside, stateSound};
 ghost use Rattle.rules.specs.Answers.{made};
 ghost use Rattle.rules.specs.Crews.{requesting};
 ghost use Rattle.rules.specs.Frames.{answeredIn, inFrame, ownReply, framedRequest};
@@ -37,7 +38,7 @@ fn put_answer(
     frame: &mut [u8],
 ) -> FramedAnswer
     requires { ⌜ (stringFits (saidRequest answer) (length (now reply)) ≡ true) × (frameRoom ≤ length (now frame)) ⌝ }
-    ensures { λ r. ⌜ made (saidFramed r) [] (now (frame .exit)) ≡ answeredIn first number (now (frame .entry)) [] (now (reply .entry)) (saidRequest answer) ⌝ }
+    ensures { λ r. ⌜ made (saidFramed r) (beside [] []) (now (frame .exit)) ≡ answeredIn first number (now (frame .entry)) (beside [] []) (now (reply .entry)) (saidRequest answer) ⌝ }
 {
     match answer {
         RequestAnswer::Refused(n) => FramedAnswer::Refused(n),
@@ -58,6 +59,7 @@ fn put_answer(
 // Carries out the request inside, and writes its answer.
 fn ask_inside(
     table: &mut [u64],
+    figures: &mut [u64],
     list: &[u64],
     frame: &mut [u8],
     requester: Msisdn,
@@ -66,23 +68,24 @@ fn ask_inside(
     scheme: u8,
     string: &[u8],
 ) -> FramedAnswer
-    requires { ⌜ (tableSound (now table) ≡ true) × (listSound (now list) ≡ true) × (frameRoom ≤ length (now frame)) ⌝ }
-    ensures { λ r. ⌜ made (saidFramed r) (now (table .exit)) (now (frame .exit)) ≡ inFrame first number (now (frame .entry)) (requesting (now (table .entry)) (now (list .entry)) ownReply requester scheme (now (string .entry))) ⌝ }
+    requires { ⌜ (stateSound (beside (now table) (now figures)) ≡ true) × (listSound (now list) ≡ true) × (frameRoom ≤ length (now frame)) ⌝ }
+    ensures { λ r. ⌜ made (saidFramed r) (beside (now (table .exit)) (now (figures .exit))) (now (frame .exit)) ≡ inFrame first number (now (frame .entry)) (requesting (beside (now (table .entry)) (now (figures .entry))) (now (list .entry)) ownReply requester scheme (now (string .entry))) ⌝ }
 {
     let mut reply = [0u8; BUFFER_ROOM];
-    let answer = node::ask_string(table, list, &mut reply, requester, scheme, string);
+    let answer = node::ask_string(table, figures, list, &mut reply, requester, scheme, string);
     put_answer(answer, &reply, first, number, frame)
 }
 
-// A framed request: refusals 1, 11, 8 and 2, a Reject, and then the request inside; list and table are tested once.
+// A framed request: refusals 1, 11, 8, 2 and 10, a Reject, and then the request inside; list, table and figures are tested once.
 pub fn framed_request(
     table: &mut [u64],
+    figures: &mut [u64],
     list: &[u64],
     frame: &mut [u8],
     requester: Msisdn,
     message: &[u8],
 ) -> FramedAnswer
-    ensures { λ r. ⌜ made (saidFramed r) (now (table .exit)) (now (frame .exit)) ≡ framedRequest (now (table .entry)) (now (list .entry)) (now (frame .entry)) requester (now (message .entry)) ⌝ }
+    ensures { λ r. ⌜ made (saidFramed r) (beside (now (table .exit)) (now (figures .exit))) (now (frame .exit)) ≡ framedRequest (beside (now (table .entry)) (now (figures .entry))) (now (list .entry)) (now (frame .entry)) requester (now (message .entry)) ⌝ }
 {
     if frame.len() < FRAME_ROOM {
         return FramedAnswer::Refused(1);
@@ -93,8 +96,9 @@ pub fn framed_request(
     if !tables::list_sound(list) {
         return FramedAnswer::Refused(8);
     }
-    if !tables::table_sound(table) {
-        return FramedAnswer::Refused(2);
+    let refused = states::refusal(table, figures);
+    if refused != 0 {
+        return FramedAnswer::Refused(refused);
     }
     match body {
         Body::Wrong(problem) => {
@@ -104,7 +108,17 @@ pub fn framed_request(
         Body::Asks(scheme, count) => {
             let end = message.len() - VERSION.len();
             let string = &message[end - count..end];
-            ask_inside(table, list, frame, requester, first, number, scheme, string)
+            ask_inside(
+                table,
+                figures,
+                list,
+                frame,
+                requester,
+                first,
+                number,
+                scheme,
+                string,
+            )
         }
     }
 }

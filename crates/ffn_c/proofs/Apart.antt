@@ -18,7 +18,8 @@ use Rattle.records.specs.Steps.{isDue, delayAllowed}
 use Rattle.rows.specs.Rows.{numberAt, recordAt}
 use Rattle.tables.specs.declared.Found.{Found}
 use Rattle.tables.specs.declared.Found.the-variants.{At, Nothing}
-use Rattle.tables.specs.Tables.{tableSound, rowsIn, rowOf, recordOf}
+use Rattle.tables.specs.Tables.{tableSound, rowsIn}
+use Rattle.states.specs.States.{State, figuresRight, rowFor, recordFor, recordIn}
 use Rattle.rules.specs.Answers.{Answer, refusal, error, outcome, holderIs, returnError, reject, sentTo, delivered, dropped, again, found, noneDue, Outcome, isNegativeNumber, refusing}
 use Rattle.rules.specs.Answers as class
 use Rattle.rules.specs.Requests.{saying}
@@ -84,13 +85,13 @@ back noneDue t = refl
 -- ---- a request
 
 request-tells :
-    (table list reply : List ℕ) (requester : Msisdn) (scheme : ℕ) (string : List ℕ) → Tells (requesting table list reply requester scheme string)
+    (state : State) (list reply : List ℕ) (requester : Msisdn) (scheme : ℕ) (string : List ℕ) → Tells (requesting state list reply requester scheme string)
 unfolding tells IsTold Tells
-request-tells table list reply requester scheme string =
-    request-each table reply Tells (λ n. refl) (λ n. refl) denied (λ new. refl) (λ new. refl) (λ msisdn. refl) (λ o w tallied. crew o w) list requester scheme string
+request-tells state list reply requester scheme string =
+    request-each state reply Tells (λ n. refl) (λ n. refl) denied (λ new. refl) (λ new. refl) (λ msisdn. refl) (λ o w tallied. crew o w) list requester scheme string
   where
     -- a negative outcome is not 03
-    denied : (n : ℕ) → n < 100 → isNegativeNumber n ≡ true → Tells (saying n table reply)
+    denied : (n : ℕ) → n < 100 → isNegativeNumber n ≡ true → Tells (saying n state reply)
     denied n l e =
         let other = or-neither (eqb n 1 || eqb n 2 || eqb n class.interrogationNumber || eqb n class.crewRegistered) (eqb n class.crewErased) (not-true _ e) in
         let third = or-neither (eqb n 1 || eqb n 2 || eqb n class.interrogationNumber) (eqb n class.crewRegistered) (other .0) in
@@ -102,10 +103,10 @@ request-tells table list reply requester scheme string =
     crew operation.Interrogate w = refl
 
 pub request-back :
-    (table list reply : List ℕ) (requester : Msisdn) (scheme : ℕ) (string : List ℕ)
-    → let a = requesting table list reply requester scheme string .answer in readBack (ofAnswer a) ≡ a
+    (state : State) (list reply : List ℕ) (requester : Msisdn) (scheme : ℕ) (string : List ℕ)
+    → let a = requesting state list reply requester scheme string .answer in readBack (ofAnswer a) ≡ a
 unfolding Tells
-request-back table list reply requester scheme string = back _ (request-tells table list reply requester scheme string)
+request-back state list reply requester scheme string = back _ (request-tells state list reply requester scheme string)
 
 -- ---- a framed request
 
@@ -114,7 +115,7 @@ framed-tells : (first number : ℕ) (frame : List ℕ) (o : Outcome) → Tells o
 unfolding tells IsTold Tells
 framed-tells first number frame o t = go (o .answer) t
   where
-    go : (a : Answer) → IsTold a → Tells (answeredIn first number frame (o .table) (o .buffer) a)
+    go : (a : Answer) → IsTold a → Tells (answeredIn first number frame (o .state) (o .buffer) a)
     go (refusal n) t = refl
     go (error n) t = refl
     go (outcome n octets) t = t
@@ -128,63 +129,63 @@ framed-tells first number frame o t = go (o .answer) t
     go (found number) t = refl
     go noneDue t = refl
 
-module _ (table list frame : List ℕ) (requester : Msisdn) where
+module _ (state : State) (list frame : List ℕ) (requester : Msisdn) where
   abbrev asked : ℕ → List ℕ → Outcome
-  asked scheme string = requesting table list ownReply requester scheme string
+  asked scheme string = requesting state list ownReply requester scheme string
 
-  body-tells : (first number : ℕ) (body : Body) → Tells (bodied asked table frame first number body)
+  body-tells : (first number : ℕ) (body : Body) → Tells (bodied asked state frame first number body)
   unfolding tells IsTold Tells
   body-tells first number (wrong problem) = refl
-  body-tells first number (asks scheme string) = framed-tells first number frame (asked scheme string) (request-tells table list ownReply requester scheme string)
+  body-tells first number (asks scheme string) = framed-tells first number frame (asked scheme string) (request-tells state list ownReply requester scheme string)
 
-  read-tells : (o : Option Register) → Tells (registered asked table frame o)
+  read-tells : (o : Option Register) → Tells (registered asked state frame o)
   unfolding tells IsTold Tells
   read-tells none = refl
   read-tells (some r) = body-tells (r .first) (r .number) (r .body)
 
-  pub framed-back : (message : List ℕ) → let a = framedRequest table list frame requester message .answer in readBack (ofAnswer a) ≡ a
+  pub framed-back : (message : List ℕ) → let a = framedRequest state list frame requester message .answer in readBack (ofAnswer a) ≡ a
   unfolding tells IsTold Tells framedRequest
   framed-back message =
       back _
-      (decide-each Tells (refusing table frame (framedChecks (tableSound table) list frame message)) (registered asked table frame (registerOf message))
-      (refl, (refl, (refl, (refl, tt)))) (read-tells (registerOf message)))
+      (decide-each Tells (refusing state frame (framedChecks (tableSound (state .table)) (figuresRight state) list frame message)) (registered asked state frame (registerOf message))
+      (refl, (refl, (refl, (refl, (refl, tt))))) (read-tells (registerOf message)))
 
 -- ---- a sending
 
-sent-tells : (number : FunctionalNumber) (place : Found) (table buffer : List ℕ) → Tells (notices.sentAt number place table buffer)
+sent-tells : (number : FunctionalNumber) (place : Found) (state : State) (buffer : List ℕ) → Tells (notices.sentAt number place state buffer)
 unfolding tells IsTold Tells
-sent-tells number Nothing table buffer = refl
-sent-tells number (At i) table buffer = refl
+sent-tells number Nothing state buffer = refl
+sent-tells number (At i) state buffer = refl
 
 pub sending-back :
-    (table buffer : List ℕ) (number : FunctionalNumber) (delay clock : ℕ)
-    → let a = notices.sendingNotice table buffer number delay clock .answer in readBack (ofAnswer a) ≡ a
+    (state : State) (buffer : List ℕ) (number : FunctionalNumber) (delay clock : ℕ)
+    → let a = notices.sendingNotice state buffer number delay clock .answer in readBack (ofAnswer a) ≡ a
 unfolding tells IsTold Tells notices.sendingNotice
-sending-back table buffer number delay clock =
+sending-back state buffer number delay clock =
     back _
-    (decide-each Tells (refusing table buffer (notices.sendingChecks (tableSound table) buffer (number .0) (recordOf table (number .0)) delay clock))
-    (notices.sentAt number (rowOf table (number .0)) table buffer)
-    (refl, (refl, (refl, (refl, (refl, (refl, tt))))))
-    (sent-tells number (rowOf table (number .0)) table buffer))
+    (decide-each Tells (refusing state buffer (notices.sendingChecks (tableSound (state .table)) (figuresRight state) buffer (number .0) (recordFor state (number .0)) delay clock))
+    (notices.sentAt number (rowFor state (number .0)) state buffer)
+    (refl, (refl, (refl, (refl, (refl, (refl, (refl, tt)))))))
+    (sent-tells number (rowFor state (number .0)) state buffer))
 
 -- ---- a result
 
-resulted-tells : (kind clock : ℕ) (place : Found) (table : List ℕ) → Tells (notices.resultAt kind clock place table)
+resulted-tells : (kind clock : ℕ) (place : Found) (state : State) → Tells (notices.resultAt kind clock place state)
 unfolding tells IsTold Tells
-resulted-tells kind clock Nothing table = refl
-resulted-tells kind clock (At i) table =
-    decide-each IsTold ((eqb kind 0, delivered) ∷ (notices.clears kind (recordAt table i .notice), dropped) ∷ []) again (refl, (refl, tt)) refl
+resulted-tells kind clock Nothing state = refl
+resulted-tells kind clock (At i) state =
+    decide-each IsTold ((eqb kind 0, delivered) ∷ (notices.clears kind (recordIn state i .notice), dropped) ∷ []) again (refl, (refl, tt)) refl
 
 pub result-back :
-    (table : List ℕ) (number : FunctionalNumber) (kind clock : ℕ)
-    → let a = notices.takingResult table number kind clock .answer in readBack (ofAnswer a) ≡ a
+    (state : State) (number : FunctionalNumber) (kind clock : ℕ)
+    → let a = notices.takingResult state number kind clock .answer in readBack (ofAnswer a) ≡ a
 unfolding tells IsTold Tells notices.takingResult
-result-back table number kind clock =
+result-back state number kind clock =
     back _
-    (decide-each Tells (refusing table [] (notices.resultChecks (tableSound table) (number .0) (recordOf table (number .0)) kind))
-    (notices.resultAt kind clock (rowOf table (number .0)) table)
-    (refl, (refl, (refl, (refl, tt))))
-    (resulted-tells kind clock (rowOf table (number .0)) table))
+    (decide-each Tells (refusing state [] (notices.resultChecks (tableSound (state .table)) (figuresRight state) (number .0) (recordFor state (number .0)) kind))
+    (notices.resultAt kind clock (rowFor state (number .0)) state)
+    (refl, (refl, (refl, (refl, (refl, tt)))))
+    (resulted-tells kind clock (rowFor state (number .0)) state))
 
 -- ---- a finding
 

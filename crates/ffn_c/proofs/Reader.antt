@@ -37,23 +37,23 @@ module _ (os text : List ℕ) (r : ReadRequest) (done : madeRead r ≡ reading o
   unfolding reading
   beside = ap (λ (x : ReadOutcome). x .text) done
 
-  pub reads-error : r .reading ≡ Unreadable → returning (ofTold (told Unreadable [])) [] text ≡ readingInto os text
+  pub reads-error : r .reading ≡ Unreadable → returning (ofTold (told Unreadable [])) [] [] text ≡ readingInto os text
   unfolding readingInto
   reads-error e = go (requestOf os) answered
     where
-      go : (o : Option Request) → told (r .reading) (r .text) ≡ tell (unpacked os) o → returning (ofTold (told Unreadable [])) [] text ≡ readingAs os text o
+      go : (o : Option Request) → told (r .reading) (r .text) ≡ tell (unpacked os) o → returning (ofTold (told Unreadable [])) [] [] text ≡ readingAs os text o
       go none t = refl
       go (some g) t = not-error _ _ _ _ (rw e at (sym t))
 
   pub reads-fields :
       (f : Fields) → r .reading ≡ Read f
-      → returning (ofFields (f .operation) (f .number) (f .erasing) (f .start) (f .count) (f .crew)) [] (unpacking os text .buffer) ≡ readingInto os text
+      → returning (ofFields (f .operation) (f .number) (f .erasing) (f .start) (f .count) (f .crew)) [] [] (unpacking os text .buffer) ≡ readingInto os text
   unfolding readingInto
   reads-fields f e = go (requestOf os) refl (rw e at answered)
     where
       go :
           (o : Option Request) → requestOf os ≡ o → told (Read f) (r .text) ≡ tell (unpacked os) o
-          → returning (ofFields (f .operation) (f .number) (f .erasing) (f .start) (f .count) (f .crew)) [] (unpacking os text .buffer) ≡ readingAs os text o
+          → returning (ofFields (f .operation) (f .number) (f .erasing) (f .start) (f .count) (f .crew)) [] [] (unpacking os text .buffer) ≡ readingAs os text o
       go none q t = not-error _ _ _ _ t
       go (some g) q t =
           rw (told-numbers (r .text) (unpacked os) f g (read-only (unpacked os) (request-reads os q .1) .1) (rw beside (beside-whole os q)) t)

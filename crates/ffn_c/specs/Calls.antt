@@ -21,22 +21,23 @@ use Rattle.structs.specs.declared.Operating.the-variants.{Known, Unknown}
 use Rattle.structs.specs.declared.RequestRead.{RequestRead}
 use Rattle.structs.specs.Numbers.{ofSaid, ofAnswer, ofTold}
 
--- the struct, the table and the buffer afterwards; [] for what is not lent
+-- the struct, the table, the figures and the buffer afterwards; [] for what is not lent
 pub record Returned (S : Type 0) : Type 0 where
   pub answer : S
   pub table : List ℕ
+  pub figures : List ℕ
   pub buffer : List ℕ
 
-abbrev pub returning : {S : Type 0} → S → List ℕ → List ℕ → Returned S
-returning answer table buffer = record { answer = answer; table = table; buffer = buffer }
+abbrev pub returning : {S : Type 0} → S → List ℕ → List ℕ → List ℕ → Returned S
+returning answer table figures buffer = record { answer = answer; table = table; figures = figures; buffer = buffer }
 
 -- what a call of the node comes to
 abbrev pub ofCall : rules.Outcome → Returned Answer
-ofCall o = returning (ofAnswer (o .answer)) (o .table) (o .buffer)
+ofCall o = returning (ofAnswer (o .answer)) (o .state .table) (o .state .figures) (o .buffer)
 
 -- what a writer comes to
 abbrev pub ofWriter : writing.WriteOutcome → Returned Answer
-ofWriter o = returning (ofSaid (o .answer)) [] (o .buffer)
+ofWriter o = returning (ofSaid (o .answer)) [] [] (o .buffer)
 
 -- ---- the writers of a request
 
@@ -56,8 +57,8 @@ framingFields transaction invoke (Known operation) number erasing additional fra
 
 -- by what the octets read as. "Errors and refusals … touch no memory"; the characters of a string that reads go into the text, if it has room for them
 abbrev pub readingAs : List ℕ → List ℕ → Option Request → Returned RequestRead
-readingAs octets text none = returning (ofTold (tell (unpacked octets) none)) [] text
-readingAs octets text (some f) = returning (ofTold (tell (unpacked octets) (some f))) [] (unpacking octets text .buffer)
+readingAs octets text none = returning (ofTold (tell (unpacked octets) none)) [] [] text
+readingAs octets text (some f) = returning (ofTold (tell (unpacked octets) (some f))) [] [] (unpacking octets text .buffer)
 
 unfoldable pub readingInto : List ℕ → List ℕ → Returned RequestRead
 readingInto octets text = readingAs octets text (requestOf octets)

@@ -5,6 +5,7 @@ use strings::Operation;
 use strings::Reading;
 use structs::Answer;
 use structs::ERROR;
+use structs::FiguresRead;
 use structs::FrameRead;
 use structs::Operating;
 use structs::RequestRead;
@@ -12,17 +13,20 @@ ghost use mathlib.Core.Path.{_≡_};
 ghost use mathlib.Core.List.{[]};
 ghost use Rattle.packing.specs.Outcomes.{packing, unpacking};
 ghost use Rattle.frames.specs.Messages.{registerOf, releaseOf};
+ghost use Rattle.tables.specs.Figures.{recounted};
+ghost use Rattle.states.specs.States.{beside};
 ghost use Rattle.rules.specs.Crews.{requesting};
 ghost use Rattle.rules.specs.Frames.{framedRequest};
 ghost use Rattle.rules.specs.Notices as notices;
 ghost use Rattle.structs.specs.Numbers.{ofAnswer, operationOf, erasingOf};
+ghost use Rattle.structs.specs.Figures.{ofFigures};
 ghost use Rattle.structs.specs.Frames.{ofRegister, ofRelease};
 ghost use Rattle.ffn_c.specs.Calls.{returning, ofCall, ofWriter, writingFields, framingFields, readingInto};
 
 // Packs the characters into out.
 #[no_mangle]
 pub extern "C" fn ffn_pack(chars: &[u8], out: &mut [u8]) -> Answer
-    ensures { λ r. ⌜ returning r [] (now (out .exit)) ≡ ofWriter (packing (now (chars .entry)) (now (out .entry))) ⌝ }
+    ensures { λ r. ⌜ returning r [] [] (now (out .exit)) ≡ ofWriter (packing (now (chars .entry)) (now (out .entry))) ⌝ }
 {
     structs::of_written(packing::pack(chars, out))
 }
@@ -30,7 +34,7 @@ pub extern "C" fn ffn_pack(chars: &[u8], out: &mut [u8]) -> Answer
 // Unpacks the octets into out.
 #[no_mangle]
 pub extern "C" fn ffn_unpack(octets: &[u8], out: &mut [u8]) -> Answer
-    ensures { λ r. ⌜ returning r [] (now (out .exit)) ≡ ofWriter (unpacking (now (octets .entry)) (now (out .entry))) ⌝ }
+    ensures { λ r. ⌜ returning r [] [] (now (out .exit)) ≡ ofWriter (unpacking (now (octets .entry)) (now (out .entry))) ⌝ }
 {
     structs::of_written(packing::unpack(octets, out))
 }
@@ -44,7 +48,7 @@ pub extern "C" fn ffn_write_request(
     additional: &[u8],
     out: &mut [u8],
 ) -> Answer
-    ensures { λ r. ⌜ returning r [] (now (out .exit)) ≡ ofWriter (writingFields (operationOf operation) (record { 0 = number }) (erasingOf msisdn) (now (additional .entry)) (now (out .entry))) ⌝ }
+    ensures { λ r. ⌜ returning r [] [] (now (out .exit)) ≡ ofWriter (writingFields (operationOf operation) (record { 0 = number }) (erasingOf msisdn) (now (additional .entry)) (now (out .entry))) ⌝ }
 {
     let erasing = structs::erasing_of(msisdn);
     let Operating::Known(operation) = structs::operation_of(operation) else {
@@ -69,7 +73,7 @@ pub extern "C" fn ffn_write_request(
 // Reads a packed request string; its characters go into the text, if it has room for them.
 #[no_mangle]
 pub extern "C" fn ffn_read_request(octets: &[u8], text: &mut [u8]) -> RequestRead
-    ensures { λ r. ⌜ returning r [] (now (text .exit)) ≡ readingInto (now (octets .entry)) (now (text .entry)) ⌝ }
+    ensures { λ r. ⌜ returning r [] [] (now (text .exit)) ≡ readingInto (now (octets .entry)) (now (text .entry)) ⌝ }
 {
     let read = strings::read_request(octets);
     let reading = read.reading;
@@ -90,41 +94,60 @@ pub extern "C" fn ffn_read_request(octets: &[u8], text: &mut [u8]) -> RequestRea
     structs::of_fields(fields)
 }
 
-// A request: the requester's string over the lent table and list, with the reply.
+// A request: the requester's string over the lent table, figures and list, with the reply.
 #[no_mangle]
 pub extern "C" fn ffn_request(
     table: &mut [u64],
+    figures: &mut [u64],
     list: &[u64],
     reply: &mut [u8],
     requester: u64,
     scheme: u8,
     string: &[u8],
 ) -> Answer
-    ensures { λ r. ⌜ returning r (now (table .exit)) (now (reply .exit)) ≡ ofCall (requesting (now (table .entry)) (now (list .entry)) (now (reply .entry)) (record { 0 = requester }) scheme (now (string .entry))) ⌝ }
+    ensures { λ r. ⌜ returning r (now (table .exit)) (now (figures .exit)) (now (reply .exit)) ≡ ofCall (requesting (beside (now (table .entry)) (now (figures .entry))) (now (list .entry)) (now (reply .entry)) (record { 0 = requester }) scheme (now (string .entry))) ⌝ }
 {
-    structs::of_request(node::request(table, list, reply, Msisdn(requester), scheme, string))
+    let requester = Msisdn(requester);
+    let answer = node::request(table, figures, list, reply, requester, scheme, string);
+    structs::of_request(answer)
 }
 
 // A sending of a number's notice, with the notice in the buffer.
 #[no_mangle]
 pub extern "C" fn ffn_sending(
     table: &mut [u64],
+    figures: &mut [u64],
     buffer: &mut [u8],
     number: u64,
     delay: u32,
     clock: u32,
 ) -> Answer
-    ensures { λ r. ⌜ returning r (now (table .exit)) (now (buffer .exit)) ≡ ofCall (notices.sendingNotice (now (table .entry)) (now (buffer .entry)) (record { 0 = number }) delay clock) ⌝ }
+    ensures { λ r. ⌜ returning r (now (table .exit)) (now (figures .exit)) (now (buffer .exit)) ≡ ofCall (notices.sendingNotice (beside (now (table .entry)) (now (figures .entry))) (now (buffer .entry)) (record { 0 = number }) delay clock) ⌝ }
 {
-    structs::of_sending(node::sending(table, buffer, FunctionalNumber(number), delay, clock))
+    let number = FunctionalNumber(number);
+    structs::of_sending(node::sending(table, figures, buffer, number, delay, clock))
 }
 
 // The result of a sending.
 #[no_mangle]
-pub extern "C" fn ffn_result(table: &mut [u64], number: u64, kind: u32, clock: u32) -> Answer
-    ensures { λ r. ⌜ returning r (now (table .exit)) [] ≡ ofCall (notices.takingResult (now (table .entry)) (record { 0 = number }) kind clock) ⌝ }
+pub extern "C" fn ffn_result(
+    table: &mut [u64],
+    figures: &mut [u64],
+    number: u64,
+    kind: u32,
+    clock: u32,
+) -> Answer
+    ensures { λ r. ⌜ returning r (now (table .exit)) (now (figures .exit)) [] ≡ ofCall (notices.takingResult (beside (now (table .entry)) (now (figures .entry))) (record { 0 = number }) kind clock) ⌝ }
 {
-    structs::of_result(node::result(table, FunctionalNumber(number), kind, clock))
+    structs::of_result(node::result(table, figures, FunctionalNumber(number), kind, clock))
+}
+
+// The figures of a table, by a recount.
+#[no_mangle]
+pub extern "C" fn ffn_recount(table: &[u64]) -> FiguresRead
+    ensures { λ r. ⌜ r ≡ ofFigures (recounted (now (table .entry))) ⌝ }
+{
+    structs::of_recount(tables::recount(table))
 }
 
 // The lowest due number, if one is due.
@@ -135,18 +158,20 @@ pub extern "C" fn ffn_finding(table: &[u64], delay: u32, clock: u32) -> Answer
     structs::of_finding(node::finding(table, delay, clock))
 }
 
-// A framed request: the requester's Register over the lent table and list, with the Release Complete that answers it.
+// A framed request: the requester's Register over the lent table, figures and list, with the Release Complete that answers it.
 #[no_mangle]
 pub extern "C" fn ffn_framed_request(
     table: &mut [u64],
+    figures: &mut [u64],
     list: &[u64],
     frame: &mut [u8],
     requester: u64,
     message: &[u8],
 ) -> Answer
-    ensures { λ r. ⌜ returning r (now (table .exit)) (now (frame .exit)) ≡ ofCall (framedRequest (now (table .entry)) (now (list .entry)) (now (frame .entry)) (record { 0 = requester }) (now (message .entry))) ⌝ }
+    ensures { λ r. ⌜ returning r (now (table .exit)) (now (figures .exit)) (now (frame .exit)) ≡ ofCall (framedRequest (beside (now (table .entry)) (now (figures .entry))) (now (list .entry)) (now (frame .entry)) (record { 0 = requester }) (now (message .entry))) ⌝ }
 {
-    structs::of_framed(exchange::framed_request(table, list, frame, Msisdn(requester), message))
+    let requester = Msisdn(requester);
+    structs::of_framed(exchange::framed_request(table, figures, list, frame, requester, message))
 }
 
 // Writes a Register with a request.
@@ -160,7 +185,7 @@ pub extern "C" fn ffn_write_register(
     additional: &[u8],
     frame: &mut [u8],
 ) -> Answer
-    ensures { λ r. ⌜ returning r [] (now (frame .exit)) ≡ ofWriter (framingFields transaction invoke (operationOf operation) (record { 0 = number }) (erasingOf msisdn) (now (additional .entry)) (now (frame .entry))) ⌝ }
+    ensures { λ r. ⌜ returning r [] [] (now (frame .exit)) ≡ ofWriter (framingFields transaction invoke (operationOf operation) (record { 0 = number }) (erasingOf msisdn) (now (additional .entry)) (now (frame .entry))) ⌝ }
 {
     let nobody = FunctionalNumber(0);
     let named = FunctionalNumber(number);

@@ -23,6 +23,7 @@ use Rattle.forms.specs.Lines as form
 use Rattle.forms.specs.Lines.{lineFeed, space, firstField, behindField, isDigits, isNumberLong, askedOf, valueBelow, Form, sendingForm, lettered, formOf}
 use Rattle.rows.specs.Rows.{rowWords}
 use Rattle.tables.specs.Tables.{mostNumbers, subscriberWords, mostSubscribers}
+use Rattle.states.specs.States.{counted}
 use Rattle.lines.specs.Program.{Program, Effect, mayFollow, mayFill, withNumber, withSubscriber, answeredLine, lentBuffer, numbered, subscribed, asked, requested, dispatched, reported, effectOf, lineEffect}
 use Rattle.replies.specs.Replies.{textIn, behindLetter, Printable, answerRoom}
 use Rattle.writers.proofs.Numerals.{numeral-short}
@@ -209,16 +210,16 @@ module _ (line : List ℕ) (p : Program) where
   effect-bounded (some (form.requestLine m string)) e =
       let l = form-long line (form.requestLine m string) e in
       let long = l .2 in
-      replied-bounded (code "R") (asked m string (p .table) (p .list)) (omega arith) (asked-replies m string (p .table) (p .list))
+      replied-bounded (code "R") (asked m string (counted (p .table)) (p .list)) (omega arith) (asked-replies m string (counted (p .table)) (p .list))
   effect-bounded (some (form.sendingLine clock n)) e =
       let l = form-long line (form.sendingLine clock n) e in
       let longer : isNumber (n .0) ≡ true → 8 ≤ length line = λ h. let k = l .2 .1 h in omega arith in
       let long = l .2 .0 in
-      sent-bounded (code "T") (notices.sendingNotice (p .table) lentBuffer n 0 clock) n (omega arith) longer (sending-sends (p .table) lentBuffer n 0 clock)
+      sent-bounded (code "T") (notices.sendingNotice (counted (p .table)) lentBuffer n 0 clock) n (omega arith) longer (sending-sends (counted (p .table)) lentBuffer n 0 clock)
   effect-bounded (some (form.resultLine clock n kind)) e =
       let l = form-long line (form.resultLine clock n kind) e in
       let long = l .2 in
-      replied-bounded (code "D") (notices.takingResult (p .table) n kind clock) (omega arith) (result-replies (p .table) n kind clock)
+      replied-bounded (code "D") (notices.takingResult (counted (p .table)) n kind clock) (omega arith) (result-replies (counted (p .table)) n kind clock)
 
   pub line-bounded : Bounded line (lineEffect line p)
   unfolding lineEffect

@@ -17,6 +17,7 @@ use Rattle.packing.specs.Outcomes.{packing}
 use Rattle.packing.proofs.Outcomes.{pack-short, pack-unfit}
 use Rattle.numbers.specs.declared.Msisdn.{Msisdn}
 use Rattle.strings.specs.Text.{codingScheme}
+use Rattle.states.specs.States.{State}
 use Rattle.rules.specs.Answers.{Answer, refusal, Outcome, made}
 use Rattle.rules.specs.Crews as crews
 use Rattle.visits.proofs.Texts.{counts-only}
@@ -26,14 +27,14 @@ use Rattle.answers.specs.Writing.{Stands}
 use Rattle.lines.specs.Memory.{Answered}
 use Rattle.lines.proofs.Bounds.{said-room}
 
-module _ (a : Answer) (table b : List ℕ) (o : Outcome) (e : made a table b ≡ o) where
+module _ (a : Answer) (state : State) (b : List ℕ) (o : Outcome) (e : made a state b ≡ o) where
   -- an outcome that can be printed, as the code has it
   pub printable-by : Printable (o .answer) (o .buffer) → Printable a b
   printable-by = subst⁻¹ (λ (x : Outcome). Printable (x .answer) (x .buffer)) e
 
-  pub answered-by : {old new : List ℕ} {n : ℕ} → Printable (o .answer) (o .buffer) → Stands (behindLetter a b) old n new → Answered o table old new n
+  pub answered-by : {old new : List ℕ} {n : ℕ} → Printable (o .answer) (o .buffer) → Stands (behindLetter a b) old n new → Answered o state old new n
   answered-by {old} {new} {n} h p =
-      subst (λ (x : Outcome). Answered x table old new n) e (record { leaves = refl; says = p; short = rw (p .count) (said-room (made a table b) (printable-by h)) })
+      subst (λ (x : Outcome). Answered x state old new n) e (record { leaves = refl; says = p; short = rw (p .count) (said-room (made a state b) (printable-by h)) })
 
 -- where the packer has room and does not count, it does not take the string
 pub pack-fails :
@@ -43,15 +44,15 @@ pack-fails cs out new (Count n) e h o = counts-only (Count n) n refl o
 pack-fails cs out new TooShort e h o = absurd (not-le-of-lt (pack-short cs out TooShort new e refl .0) h)
 pack-fails cs out new Unfit e h o = pack-unfit cs out Unfit new e refl .1
 
-pub asked-unfit : (m : Msisdn) (string table list : List ℕ) → takes string ≡ false → made (refusal 9) table lentBuffer ≡ asked m string table list
+pub asked-unfit : (m : Msisdn) (string : List ℕ) (state : State) (list : List ℕ) → takes string ≡ false → made (refusal 9) state lentBuffer ≡ asked m string state list
 unfolding asked
-asked-unfit m string table list t = rw t
+asked-unfit m string state list t = rw t
 
 pub asked-fit :
-    (m : Msisdn) (string table list : List ℕ) → takes string ≡ true
-    → crews.requesting table list lentBuffer m codingScheme (packed string) ≡ asked m string table list
+    (m : Msisdn) (string : List ℕ) (state : State) (list : List ℕ) → takes string ≡ true
+    → crews.requesting state list lentBuffer m codingScheme (packed string) ≡ asked m string state list
 unfolding asked
-asked-fit m string table list t = rw t
+asked-fit m string state list t = rw t
 
 -- the string of a line has no more octets than what stands behind the letter
 pub octets-behind : (n room : ℕ) (rest : List ℕ) → octetsFor (length rest) ≤ room → octetsFor (length (drop n rest)) ≤ room

@@ -14,6 +14,8 @@ use Rattle.records.specs.Steps.{elapsed, delayOf, delayAllowed}
 use Rattle.rows.specs.Rows as rows
 use Rattle.tables.specs.Keys.{placeOf}
 use Rattle.tables.specs.Tables.{tableUpTo, rowOf, recordOf, listSound, flagsOf}
+use Rattle.tables.specs.Figures.{recount}
+use Rattle.states.specs.States.{figuresRight, moved}
 use Rattle.rules.specs.Requests as requests
 use Rattle.rules.specs.Crews as crews
 use Rattle.rules.specs.Notices as notices
@@ -30,5 +32,5 @@ wholeOutput =
     "R 01\nR 02\nT 4915100001 ##214*0492123401*88*4915100002*#\nD again\nT refused 5\nT 4915100001 ##214*0492123401*88*4915100002*#\nD delivered\n"
 
 pub listing : outputOf (ascii wholeInput) ≡ ascii wholeOutput
-unfolding countOf crewOf valueOf digits octetsFor charsIn taken each padded packed characters readable filled kept unpacked isDigit pushed storedForm isNumber digitsUpTo digitsOf leading leadingNumber isAdditional textOf noticeFields begins operationAt serviceAt numberFieldAt forcedAt erasingAt additionalAt fieldsOf requestOf elapsed delayOf delayAllowed rows.noticeUpTo rows.rowUpTo rows.noticeOf rows.recordAt rows.stored placeOf tableUpTo rowOf recordOf listSound flagsOf requests.step crews.requesting notices.sendingNotice notices.takingResult lines.linesOf lines.firstField lines.behindField lines.isDigits lines.numberOf lines.askedOf lines.valueBelow lines.numberForm lines.subscriberForm lines.requestForm lines.sendingForm lines.resultFields lines.resultForm lines.lettered lines.formOf program.mayFollow program.numbered program.subscribed program.asked program.requested program.dispatched program.reported program.lineEffect program.linesEffect program.programEffect program.outputOf
+unfolding countOf crewOf valueOf digits octetsFor charsIn taken each padded packed characters readable filled kept unpacked isDigit pushed storedForm isNumber digitsUpTo digitsOf leading leadingNumber isAdditional textOf noticeFields begins operationAt serviceAt numberFieldAt forcedAt erasingAt additionalAt fieldsOf requestOf elapsed delayOf delayAllowed rows.noticeUpTo rows.rowUpTo rows.noticeOf rows.recordAt rows.stored placeOf tableUpTo rowOf recordOf listSound flagsOf recount figuresRight moved requests.step crews.requesting notices.sendingNotice notices.takingResult lines.linesOf lines.firstField lines.behindField lines.isDigits lines.numberOf lines.askedOf lines.valueBelow lines.numberForm lines.subscriberForm lines.requestForm lines.sendingForm lines.resultFields lines.resultForm lines.lettered lines.formOf program.mayFollow program.numbered program.subscribed program.asked program.requested program.dispatched program.reported program.lineEffect program.linesEffect program.programEffect program.outputOf
 listing = refl

@@ -15,8 +15,10 @@ use Rattle.numbers.specs.declared.FunctionalNumber.{FunctionalNumber}
 use Rattle.numbers.specs.declared.Msisdn.{Msisdn}
 use Rattle.rows.specs.Rows.{rowWords}
 use Rattle.tables.specs.Tables.{mostNumbers, subscriberWords, mostSubscribers}
+use Rattle.states.specs.States.{State, beside, counted}
 use Rattle.rules.specs.Answers.{Outcome}
-use Rattle.lines.specs.declared.State.{State}
+use Rattle.rules.specs.Figures.{Right}
+use Rattle.lines.specs.declared.Progress.{Progress}
 use Rattle.lines.specs.declared.Done.{Done}
 use Rattle.forms.specs.Lines.{lineFeed, space}
 use Rattle.lines.specs.Program.{Program, Effect, questioned, lastKey, mayFollow, mayFill, withNumber, numbered, withSubscriber, subscribed, answeredLine}
@@ -67,7 +69,7 @@ put-nothing old = record { count = refl; buffer = refl }
 -- ---- filling
 
 pub did-as :
-    {e f : Effect} {s : State} {table list out : List ℕ} {d : Done} {newTable newList newOut : List ℕ} → Did f s table list out d newTable newList newOut
+    {e f : Effect} {s : Progress} {table list out : List ℕ} {d : Done} {newTable newList newOut : List ℕ} → Did f s table list out d newTable newList newOut
     → e ≡ f → Did e s table list out d newTable newList newOut
 did-as did same = rw same did
 
@@ -112,26 +114,30 @@ put-end {text} {old} {new} {n} p h =
 
 -- behind the letter, the space and what the call said there is room for the line feed
 pub line-room :
-    {letter h n : ℕ} {o : Outcome} {out t mid part : List ℕ} → Stands (letter ∷ space ∷ []) out h mid → Answered o t (take (length mid - h) (drop h mid)) part n
+    {letter h n : ℕ} {o : Outcome} {t : State} {out mid part : List ℕ} → Stands (letter ∷ space ∷ []) out h mid → Answered o t (take (length mid - h) (drop h mid)) part n
     → length part ≡ length (take (length mid - h) (drop h mid)) → lineRoom ≤ length mid → h + n < length (putMid h (length mid - h) mid part)
 line-room {h = h} {mid = mid} {part} head body same room =
     let l = rw rest-of at same in
     rw (rest-back h mid part) (omega (arith, head .count, body .short, length-append (take h mid) part, length-take-le h mid (omega (arith, head .count)), length-drop h mid))
 
--- the letter, what the call said and the line feed were printed, over the rows in use and the table that the call left
+-- the letter, what the call said and the line feed were printed, over the rows in use and the table and figures that the call left
 pub line-did :
-    {letter h n : ℕ} {o : Outcome} {s : State} {table list out t mid part new : List ℕ} {d : Done}
-    → Fits s table list → Stands (letter ∷ space ∷ []) out h mid → Answered o t (take (length mid - h) (drop h mid)) part n
+    (call : State → Outcome) {letter h n : ℕ} {s : Progress} {table list out t figures mid part new : List ℕ} {d : Done}
+    → Fits s table list → ((u : List ℕ) → Right (call (counted u) .state)) → Stands (letter ∷ space ∷ []) out h mid
+    → Answered (call (beside (take (rowWords * s .numbers) table) (s .figures))) (beside t figures) (take (length mid - h) (drop h mid)) part n
     → length t ≡ rowWords * s .numbers → h + n < length (putMid h (length mid - h) mid part)
-    → d ≡ ending s (h + n) → new ≡ set (putMid h (length mid - h) mid part) (h + n) lineFeed
-    → Did (answeredLine letter o (programIn s table list)) s table list out d (t ++ drop (rowWords * s .numbers) table) list new
-line-did {s = s} {table} {list} stands head body rows room ended written =
+    → d ≡ ending s figures (h + n) → new ≡ set (putMid h (length mid - h) mid part) (h + n) lineFeed
+    → Did (answeredLine letter (call (counted (programIn s table list .table))) (programIn s table list)) s table list out d (t ++ drop (rowWords * s .numbers) table) list new
+line-did call {s = s} {table} {list} stands right head body rows room ended written =
+    let answered = rw (stands .figures) at body in
+    let left = ap (λ (x : State). x .table) (answered .leaves) in
     rw (ended, written)
     (record {
-      numbers = record { count = sym rows ∙ ap length (body .leaves); buffer = rw (← (body .leaves)) refl };
+      numbers = record { count = sym rows ∙ ap length left; buffer = rw (← left) refl };
       subscribers = put-kept (subscriberWords * s .subscribers) list (stands .subscribers);
       filling = refl;
-      printed = put-end (stands-behind head (body .says)) room;
+      figures = ap (λ (x : State). x .figures) (answered .leaves) ∙ right _;
+      printed = put-end (stands-behind head (answered .says)) room;
       moreNumbers = omega arith;
       moreSubscribers = omega arith;
     })

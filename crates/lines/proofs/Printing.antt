@@ -11,7 +11,7 @@ use borrow.Author.Tests.{not-false}
 use Rattle.answers.specs.Leading.{each}
 use Rattle.answers.specs.Ascii.{ascii}
 use Rattle.answers.specs.Checks.{decide, anyHolds}
-use Rattle.answers.proofs.Tests.{no-path}
+use Rattle.answers.proofs.Tests.{no-path, and-both}
 use Rattle.answers.proofs.Decide.{decide-each, AllPass, all-pass, none-holds, one-holds}
 use Rattle.packing.specs.Packing.{octetsFor, taken, takes, packed}
 use Rattle.answers.proofs.Leading.{each-append}
@@ -26,12 +26,12 @@ use Rattle.tables.specs.declared.Found.the-variants.{At, Nothing}
 use Rattle.records.specs.declared.Notice.{Notice}
 use Rattle.records.specs.declared.Notice.the-variants.{Absent, Waiting, InFlight}
 use Rattle.records.specs.Steps.{isAbsent, isWaiting}
-use Rattle.rows.specs.Rows.{recordAt}
 use Rattle.rows.proofs.Rows.{record-sound}
 use Rattle.rows.proofs.Kept.{pending-words}
-use Rattle.tables.specs.Tables.{tableSound, rowOf, recordOf}
+use Rattle.tables.specs.Tables.{tableSound}
 use Rattle.tables.proofs.Stored.{record-found}
-use Rattle.rules.specs.Answers.{refusal, outcome, delivered, dropped, again, isSent, Outcome, made, mostReplyOctets, holderText, packedOver, octetCount, refusing}
+use Rattle.states.specs.States.{State, figuresRight, stateSound, rowFor, recordFor, recordIn}
+use Rattle.rules.specs.Answers.{refusal, delivered, dropped, again, isSent, Outcome, made, mostReplyOctets, holderText, packedOver, octetCount, refusing}
 use Rattle.rules.specs.Requests as requests
 use Rattle.rules.specs.Crews as crews
 use Rattle.rules.specs.Crews.{crewNumber, Walk, crewReply}
@@ -87,40 +87,41 @@ crew-stands o w reply tallied =
 abbrev pub Replies : Outcome → Type 0
 Replies o = Printable (o .answer) (o .buffer) × (isSent (o .answer) ≡ false)
 
-says : (n : ℕ) (table reply : List ℕ) → n < 256 → Replies (requests.saying n table reply)
-says n table reply h = (said-stands n reply h, refl)
+says : (n : ℕ) (state : State) (reply : List ℕ) → n < 256 → Replies (requests.saying n state reply)
+says n state reply h = (said-stands n reply h, refl)
 
-request-replies : (table list reply : List ℕ) (requester : Msisdn) (scheme : ℕ) (string : List ℕ) → Replies (crews.requesting table list reply requester scheme string)
-request-replies table list reply =
-    request-each table reply Replies (λ n. (tt, refl)) (λ n. (tt, refl)) (λ n l e. says n table reply (omega arith)) (λ new. says 1 new reply (omega arith))
+request-replies :
+    (state : State) (list reply : List ℕ) (requester : Msisdn) (scheme : ℕ) (string : List ℕ) → Replies (crews.requesting state list reply requester scheme string)
+request-replies state list reply =
+    request-each state reply Replies (λ n. (tt, refl)) (λ n. (tt, refl)) (λ n l e. says n state reply (omega arith)) (λ new. says 1 new reply (omega arith))
     (λ new. says 2 new reply (omega arith)) (λ msisdn. (held-stands msisdn reply, refl)) (λ o w tallied. (crew-stands o w reply tallied, refl)) list
 
-pub asked-replies : (m : Msisdn) (string table list : List ℕ) → Replies (asked m string table list)
+pub asked-replies : (m : Msisdn) (string : List ℕ) (state : State) (list : List ℕ) → Replies (asked m string state list)
 unfolding asked
-asked-replies m string table list = go (takes string)
+asked-replies m string state list = go (takes string)
   where
-    go : (b : Bool) → Replies (cond b (crews.requesting table list lentBuffer m codingScheme (packed string)) (made (refusal 9) table lentBuffer))
-    go true = request-replies table list lentBuffer m codingScheme (packed string)
+    go : (b : Bool) → Replies (cond b (crews.requesting state list lentBuffer m codingScheme (packed string)) (made (refusal 9) state lentBuffer))
+    go true = request-replies state list lentBuffer m codingScheme (packed string)
     go false = (tt, refl)
 
 -- ---- a result
 
-module _ (table : List ℕ) (number : FunctionalNumber) (kind clock : ℕ) where
-  returned-replies : (b c : Bool) → Replies (made (cond b delivered (cond c dropped again)) table [])
+module _ (state : State) (number : FunctionalNumber) (kind clock : ℕ) where
+  returned-replies : (b c : Bool) → Replies (made (cond b delivered (cond c dropped again)) state [])
   returned-replies true c = (tt, refl)
   returned-replies false true = (tt, refl)
   returned-replies false false = (tt, refl)
 
-  result-at-replies : (place : Found) → Replies (notices.resultAt kind clock place table)
+  result-at-replies : (place : Found) → Replies (notices.resultAt kind clock place state)
   result-at-replies Nothing = (tt, refl)
-  result-at-replies (At i) = returned-replies (eqb kind 0) (notices.clears kind (recordAt table i .notice))
+  result-at-replies (At i) = returned-replies (eqb kind 0) (notices.clears kind (recordIn state i .notice))
 
-  pub result-replies : Replies (notices.takingResult table number kind clock)
+  pub result-replies : Replies (notices.takingResult state number kind clock)
   unfolding notices.takingResult
   result-replies =
       decide-each Replies
-      (refusing table [] (notices.resultChecks (tableSound table) (number .0) (recordOf table (number .0)) kind))
-      _ ((tt, refl), ((tt, refl), ((tt, refl), ((tt, refl), tt)))) (result-at-replies (rowOf table (number .0)))
+      (refusing state [] (notices.resultChecks (tableSound (state .table)) (figuresRight state) (number .0) (recordFor state (number .0)) kind))
+      _ ((tt, refl), ((tt, refl), ((tt, refl), ((tt, refl), ((tt, refl), tt))))) (result-at-replies (rowFor state (number .0)))
 
 -- ---- a sending
 
@@ -149,7 +150,7 @@ present Absent h = no-path h
 present (Waiting k s) h = refl
 present (InFlight k) h = refl
 
-module _ (table lentBuffer : List ℕ) (number : FunctionalNumber) (delay clock : ℕ) where
+module _ (state : State) (lentBuffer : List ℕ) (number : FunctionalNumber) (delay clock : ℕ) where
   -- what an outcome says can be printed, and what is sent names a number
   abbrev pub Sends : Outcome → Type 0
   Sends o = Printable (o .answer) (o .buffer) × (isSent (o .answer) ≡ true → isNumber (number .0) ≡ true)
@@ -159,25 +160,25 @@ module _ (table lentBuffer : List ℕ) (number : FunctionalNumber) (delay clock 
   refuses e = no-path e
 
   abbrev checks : List (Bool × Outcome)
-  checks = refusing table lentBuffer (notices.sendingChecks (tableSound table) lentBuffer (number .0) (recordOf table (number .0)) delay clock)
+  checks = refusing state lentBuffer (notices.sendingChecks (tableSound (state .table)) (figuresRight state) lentBuffer (number .0) (recordFor state (number .0)) delay clock)
 
-  sent-sends : AllPass checks → (place : Found) → rowOf table (number .0) ≡ place → Sends (notices.sentAt number place table lentBuffer)
+  sent-sends : AllPass checks → (place : Found) → rowFor state (number .0) ≡ place → Sends (notices.sentAt number place state lentBuffer)
   sent-sends pass Nothing e = (tt, refuses)
   sent-sends pass (At i) e =
-      let sound : tableSound table ≡ true = not-false _ (pass .1 .0) in
-      let r = recordAt table i in
-      let waits : isWaiting (r .notice) ≡ true = rw (record-found table (number .0) i e) at (not-false (isWaiting (notices.noticeIn (recordOf table (number .0)))) (pass .1 .1 .1 .1 .0)) in
-      let words = pending-words r (record-sound table i (found-sound table (number .0) i sound e)) (present (r .notice) waits) in
-      ((words .addressed, notice-stands number (r .supervisor) lentBuffer), λ _. found-number table (number .0) i sound e)
+      let sound : stateSound state ≡ true = and-both (tableSound (state .table)) (figuresRight state) (not-false _ (pass .1 .0)) (not-false _ (pass .1 .1 .0)) in
+      let r = recordIn state i in
+      let waits : isWaiting (r .notice) ≡ true = rw (record-found (state .table) (number .0) i e) at (not-false (isWaiting (notices.noticeIn (recordFor state (number .0)))) (pass .1 .1 .1 .1 .1 .0)) in
+      let words = pending-words r (record-sound (state .table) i (found-sound state (number .0) i sound e)) (present (r .notice) waits) in
+      ((words .addressed, notice-stands number (r .supervisor) lentBuffer), λ _. found-number state (number .0) i sound e)
 
-  pub sending-sends : Sends (notices.sendingNotice table lentBuffer number delay clock)
+  pub sending-sends : Sends (notices.sendingNotice state lentBuffer number delay clock)
   unfolding notices.sendingNotice
   sending-sends = go (anyHolds checks) refl
     where
       done : Outcome
-      done = notices.sentAt number (rowOf table (number .0)) table lentBuffer
+      done = notices.sentAt number (rowFor state (number .0)) state lentBuffer
 
       go : (b : Bool) → anyHolds checks ≡ b → Sends (decide checks done)
-      go true h = rw (one-holds checks done (made (refusal 7) table lentBuffer) h) (decide-each Sends checks (made (refusal 7) table lentBuffer)
-          ((tt, refuses), ((tt, refuses), ((tt, refuses), ((tt, refuses), ((tt, refuses), ((tt, refuses), tt)))))) (tt, refuses))
-      go false h = rw (none-holds checks done h) (sent-sends (all-pass checks h) (rowOf table (number .0)) refl)
+      go true h = rw (one-holds checks done (made (refusal 7) state lentBuffer) h) (decide-each Sends checks (made (refusal 7) state lentBuffer)
+          ((tt, refuses), ((tt, refuses), ((tt, refuses), ((tt, refuses), ((tt, refuses), ((tt, refuses), ((tt, refuses), tt))))))) (tt, refuses))
+      go false h = rw (none-holds checks done h) (sent-sends (all-pass checks h) (rowFor state (number .0)) refl)

@@ -1,7 +1,7 @@
 -- The lines of an input, carried out one after the other: what holds before each of them. Assumes nothing.
 use mathlib.Core.Path.{_≡_, refl, sym, ap, ap₂, _∙_}
 use mathlib.Core.Bool.{true}
-use mathlib.Core.List.{List, _∷_, _++_, append-nil, append-assoc}
+use mathlib.Core.List.{List, [], _∷_, _++_, append-nil, append-assoc}
 use Prim.Native.Nat.{ℕ, _+_, _-_, _*_, _≤_, _<_}
 use native.Mathlib.Omega.{arith}
 use borrow.Rule.Slice.PartMut.{putMid}
@@ -11,7 +11,8 @@ use Rattle.answers.proofs.Parts.{rest-of, rest-back}
 use Rattle.bytes.specs.Bytes.{indexOf}
 use Rattle.rows.specs.Rows.{rowWords}
 use Rattle.tables.specs.Tables.{subscriberWords}
-use Rattle.lines.specs.declared.State.{State}
+use Rattle.tables.specs.Figures.{recount}
+use Rattle.lines.specs.declared.Progress.{Progress}
 use Rattle.lines.specs.declared.Done.{Done}
 use Rattle.forms.specs.Lines.{lineFeed, linesOf}
 use Rattle.lines.specs.Program.{Program, Effect, printedBehind, lineEffect, linesEffect, programEffect, outputOf}
@@ -21,7 +22,7 @@ use Rattle.forms.proofs.Places.{lines-first}
 use Rattle.lines.proofs.Bounds.{line-bounded}
 
 -- at a place of the input, with n octets printed: the rows in use and the lines that are left make the whole effect
-pub record Run (input table list out : List ℕ) (s : State) (at n : ℕ) (t l o : List ℕ) : Type 0 where
+pub record Run (input table list out : List ℕ) (s : Progress) (at n : ℕ) (t l o : List ℕ) : Type 0 where
   pub stands : Fits s t l
   pub tableLong : length t ≡ length table
   pub listLong : length l ≡ length list
@@ -34,10 +35,10 @@ pub record Run (input table list out : List ℕ) (s : State) (at n : ℕ) (t l o
   pub outStays : drop n o ≡ drop n out
 
 pub run-start : (input table list out : List ℕ) → Lent input table list out
-    → Run input table list out (record { numbers = 0; subscribers = 0; filling = true }) 0 0 table list out
-unfolding programEffect
+    → Run input table list out (record { numbers = 0; subscribers = 0; filling = true; figures = 0 ∷ 0 ∷ 0 ∷ [] }) 0 0 table list out
+unfolding programEffect recount
 run-start input table list out lent = record {
-  stands = record { numbers = omega arith; subscribers = omega arith; tableRoom = lent .tableRoom; listRoom = lent .listRoom };
+  stands = record { numbers = omega arith; subscribers = omega arith; tableRoom = lent .tableRoom; listRoom = lent .listRoom; figures = refl };
   tableLong = refl;
   listLong = refl;
   outLong = refl;
@@ -95,7 +96,7 @@ part-rest : (n m : ℕ) (o part : List ℕ) → n ≤ length o → drop (n + m) 
 part-rest n m o part h = ap (λ (i : ℕ). drop (i + m) (take n o ++ part)) (sym (length-take-le n o h)) ∙ drop-append-add (take n o) part m
 
 module _
-    {input table list out : List ℕ} {s : State} {at n : ℕ} {t l o : List ℕ} (before : Run input table list out s at n t l o) (lent : Lent input table list out)
+    {input table list out : List ℕ} {s : Progress} {at n : ℕ} {t l o : List ℕ} (before : Run input table list out s at n t l o) (lent : Lent input table list out)
     (more : at < length input) where
   -- room for a line is left in the output
   pub so-far : n + 61 ≤ length o
@@ -142,6 +143,7 @@ module _
         subscribers = put-length (did .subscribers);
         tableRoom = omega (arith, before .stands .tableRoom);
         listRoom = omega (arith, before .stands .listRoom);
+        figures = did .figures ∙ ap recount (sym (put-front (did .numbers)));
       };
       tableLong = sameTable ∙ before .tableLong;
       listLong = sameList ∙ before .listLong;
@@ -166,7 +168,7 @@ whole m words lent h e =
     sym (take-append-drop m words) ∙ ap (λ (x : List ℕ). take m words ++ x) (e ∙ ap (λ (i : ℕ). drop i lent) (sym (length-take-le m words h)))
 
 pub run-end :
-    (input table list out : List ℕ) (s : State) (at n : ℕ) (t l o : List ℕ) → Run input table list out s at n t l o → Lent input table list out → length input ≤ at
+    (input table list out : List ℕ) (s : Progress) (at n : ℕ) (t l o : List ℕ) → Run input table list out s at n t l o → Lent input table list out → length input ≤ at
     → ran n t l o ≡ running input table list out
 unfolding linesEffect linesOf running
 run-end input table list out s at n t l o run lent done =

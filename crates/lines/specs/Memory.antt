@@ -6,23 +6,25 @@ use mathlib.Core.List.{List}
 use lib.ListN.{length, take}
 use Rattle.rows.specs.Rows.{rowWords}
 use Rattle.tables.specs.Tables.{mostNumbers, subscriberWords, mostSubscribers}
+use Rattle.tables.specs.Figures.{recount}
+use Rattle.states.specs.States.{State}
 use Rattle.rules.specs.Answers.{Outcome}
-use Rattle.lines.specs.declared.State.{State}
+use Rattle.lines.specs.declared.Progress.{Progress}
 use Rattle.lines.specs.declared.Done.{Done}
 use Rattle.lines.specs.Program.{Program, Effect, programEffect}
 use Rattle.answers.specs.Writing.{Stands, over}
 use Rattle.replies.specs.Replies.{behindLetter, answerRoom}
 
--- a call's outcome: its table, and what it says, written
-pub record Answered (o : Outcome) (table old new : List ℕ) (n : ℕ) : Type 0 where
-  pub leaves : table ≡ o .table
+-- a call's outcome: its table and figures, and what it says, written
+pub record Answered (o : Outcome) (state : State) (old new : List ℕ) (n : ℕ) : Type 0 where
+  pub leaves : state ≡ o .state
   pub says : Stands (behindLetter (o .answer) (o .buffer)) old n new
   pub short : n ≤ answerRoom
 
 -- ---- the program in memory
 
 -- the program that the lent words hold: the rows in use, and whether they are still being filled
-abbrev pub programIn : State → List ℕ → List ℕ → Program
+abbrev pub programIn : Progress → List ℕ → List ℕ → Program
 programIn s table list = record {
   table = take (rowWords * s .numbers) table;
   list = take (subscriberWords * s .subscribers) list;
@@ -36,29 +38,31 @@ tableWords = rowWords * mostNumbers
 abbrev pub listWords : ℕ
 listWords = subscriberWords * mostSubscribers
 
--- the rows in use are within the lent words, which have room for the most
-pub record Fits (s : State) (table list : List ℕ) : Type 0 where
+-- the rows in use are within the lent words, which have room for the most, and the figures are a recount of the table's rows
+pub record Fits (s : Progress) (table list : List ℕ) : Type 0 where
   pub numbers : rowWords * s .numbers ≤ length table
   pub subscribers : subscriberWords * s .subscribers ≤ length list
   pub tableRoom : tableWords ≤ length table
   pub listRoom : listWords ≤ length list
+  pub figures : s .figures ≡ recount (take (rowWords * s .numbers) table)
 
 -- room for the longest line: the letter, the space, what follows them and the line feed
 abbrev pub lineRoom : ℕ
 lineRoom = 3 + answerRoom
 
--- what a line did to table, list and output: what it leaves and prints stands at the front of each, what lies beyond stays, and no row is given up
-pub record Did (e : Effect) (s : State) (table list out : List ℕ) (d : Done) (newTable newList newOut : List ℕ) : Type 0 where
+-- what a line did to table, list and output: what it leaves and prints stands at the front of each, what lies beyond stays, the figures are again a recount, and no row is given up
+pub record Did (e : Effect) (s : Progress) (table list out : List ℕ) (d : Done) (newTable newList newOut : List ℕ) : Type 0 where
   pub numbers : Stands (e .leaves .table) table (rowWords * d .state .numbers) newTable
   pub subscribers : Stands (e .leaves .list) list (subscriberWords * d .state .subscribers) newList
   pub filling : d .state .filling ≡ e .leaves .filling
+  pub figures : d .state .figures ≡ recount (e .leaves .table)
   pub printed : Stands (e .prints) out (d .printed) newOut
   pub moreNumbers : s .numbers ≤ d .state .numbers
   pub moreSubscribers : s .subscribers ≤ d .state .subscribers
 
--- a printed line, of which n octets stand before its line feed, leaves the rows as they are counted and ends the filling
-abbrev pub ending : State → ℕ → Done
-ending s n = record { state = record { numbers = s .numbers; subscribers = s .subscribers; filling = false }; printed = n + 1 }
+-- a printed line, of which n octets stand before its line feed, leaves the rows as they are counted and the figures of its call, and ends the filling
+abbrev pub ending : Progress → List ℕ → ℕ → Done
+ending s figures n = record { state = record { numbers = s .numbers; subscribers = s .subscribers; filling = false; figures = figures }; printed = n + 1 }
 
 -- ---- the whole input
 

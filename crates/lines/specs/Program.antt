@@ -13,6 +13,7 @@ use Rattle.numbers.specs.declared.Msisdn.{Msisdn}
 use Rattle.strings.specs.Text.{codingScheme}
 use Rattle.rows.specs.Rows.{rowWords}
 use Rattle.tables.specs.Tables.{mostNumbers, subscriberWords, mostSubscribers}
+use Rattle.states.specs.States.{State, counted}
 use Rattle.rules.specs.Answers.{refusal, Outcome, made, bufferRoom}
 use Rattle.rules.specs.Crews as crews
 use Rattle.rules.specs.Notices as notices
@@ -72,11 +73,11 @@ subscribed m flags p = mayFill (p .filling && mayFollow subscriberWords mostSubs
 
 -- ---- answers
 
--- an answer to an `R`, `T` or `D`, which ends the filling
+-- an answer to an `R`, `T` or `D`, which ends the filling; M-103: its call takes the table with the figures of a recount
 abbrev pub answeredLine : ℕ → Outcome → Program → Effect
 answeredLine letter o p = record {
   prints = letter ∷ space ∷ behindLetter (o .answer) (o .buffer) ++ (lineFeed ∷ []);
-  leaves = record { table = o .table; list = p .list; filling = false };
+  leaves = record { table = o .state .table; list = p .list; filling = false };
 }
 
 -- the buffer that each request and each sending is lent
@@ -84,21 +85,21 @@ abbrev pub lentBuffer : List ℕ
 lentBuffer = replicate bufferRoom 0
 
 -- "the program packs it", and "one the packer refuses" is refused 9, whoever the requester is
-unfoldable pub asked : Msisdn → List ℕ → List ℕ → List ℕ → Outcome
-asked m string table list =
-    cond (takes string) (crews.requesting table list lentBuffer m codingScheme (packed string)) (made (refusal 9) table lentBuffer)
+unfoldable pub asked : Msisdn → List ℕ → State → List ℕ → Outcome
+asked m string state list =
+    cond (takes string) (crews.requesting state list lentBuffer m codingScheme (packed string)) (made (refusal 9) state lentBuffer)
 
 -- "`R` requester string (unpacked …) prints `R` and the reply text"
 unfoldable pub requested : Msisdn → List ℕ → Program → Effect
-requested m string p = answeredLine (code "R") (asked m string (p .table) (p .list)) p
+requested m string p = answeredLine (code "R") (asked m string (counted (p .table)) (p .list)) p
 
 -- "`T` now number prints `T`, addressee, notice", with "delay 0"
 unfoldable pub dispatched : ℕ → FunctionalNumber → Program → Effect
-dispatched now n p = answeredLine (code "T") (notices.sendingNotice (p .table) lentBuffer n 0 now) p
+dispatched now n p = answeredLine (code "T") (notices.sendingNotice (counted (p .table)) lentBuffer n 0 now) p
 
 -- "`D` now number kind prints `D delivered`, `D dropped` or `D again`"
 unfoldable pub reported : ℕ → FunctionalNumber → ℕ → Program → Effect
-reported now n kind p = answeredLine (code "D") (notices.takingResult (p .table) n kind now) p
+reported now n kind p = answeredLine (code "D") (notices.takingResult (counted (p .table)) n kind now) p
 
 -- ---- lines
 

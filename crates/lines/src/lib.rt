@@ -5,6 +5,7 @@ use node::BUFFER_ROOM;
 use numbers::FunctionalNumber;
 use numbers::Msisdn;
 use rows::ROW_WORDS;
+use states::FIGURES;
 use strings::CODING_SCHEME;
 use tables::MOST_NUMBERS;
 use tables::MOST_SUBSCRIBERS;
@@ -17,6 +18,7 @@ ghost use lib.ListN.{length, take, set};
 ghost use Rattle.packing.specs.Packing.{octetsFor};
 ghost use Rattle.rows.specs.Rows.{rowWords};
 ghost use Rattle.tables.specs.Tables.{subscriberWords};
+ghost use Rattle.states.specs.States.{beside};
 ghost use Rattle.rules.specs.Notices as notices;
 ghost use Rattle.forms.specs.Lines.{lineFeed};
 ghost use Rattle.lines.specs.Program.{questioned, lastKey, mayFollow, numbered, subscribed, lentBuffer, asked, requested, dispatched, reported, effectOf, lineEffect};
@@ -41,16 +43,17 @@ pub const TABLE_WORDS: usize = ROW_WORDS * MOST_NUMBERS;
 
 pub const LIST_WORDS: usize = SUBSCRIBER_WORDS * MOST_SUBSCRIBERS;
 
-// How many rows of the lent table and list are in use, and whether they are still being filled.
-struct State {
+// How many rows of the lent table and list are in use, whether they are still being filled, and the figures of the table's rows in use.
+struct Progress {
     numbers: usize,
     subscribers: usize,
     filling: bool,
+    figures: [u64; FIGURES],
 }
 
 // What a line leaves: the state, and how many octets it printed.
 struct Done {
-    state: State,
+    state: Progress,
     printed: usize,
 }
 
@@ -92,7 +95,7 @@ fn append(row: &[u64], used: usize, words: &mut [u64])
 }
 
 // Any other line.
-fn question(state: State, out: &mut [u8]) -> Done
+fn question(state: Progress, out: &mut [u8]) -> Done
     requires { ⌜ lineRoom ≤ length (now out) ⌝ }
     ensures { λ r. ⌜ ((table list : List ℕ) → Fits state table list → Did (questioned (programIn state table list)) state table list (now (out .entry)) r table list (now (out .exit))) ⌝ }
 {
@@ -101,7 +104,7 @@ fn question(state: State, out: &mut [u8]) -> Done
 }
 
 // `N` number: a row more of the table.
-fn add_number(state: State, number: FunctionalNumber, table: &mut [u64], out: &mut [u8]) -> Done
+fn add_number(state: Progress, number: FunctionalNumber, table: &mut [u64], out: &mut [u8]) -> Done
     requires { ⌜ (rowWords * state .numbers ≤ length (now table)) × (tableWords ≤ length (now table)) ⌝ }
     requires { ⌜ lineRoom ≤ length (now out) ⌝ }
     ensures { λ r. ⌜ ((list : List ℕ) → Fits state (now (table .entry)) list → Did (numbered number (programIn state (now (table .entry)) list)) state (now (table .entry)) list (now (out .entry)) r (now (table .exit)) list (now (out .exit))) ⌝ }
@@ -117,10 +120,13 @@ fn add_number(state: State, number: FunctionalNumber, table: &mut [u64], out: &m
     let mut row = [0u64; ROW_WORDS];
     row[0] = number.0;
     append(&row, used, table);
-    let next = State {
+    // A free row counts in no figure.
+    let figures = state.figures;
+    let next = Progress {
         numbers: rows + 1,
         subscribers: state.subscribers,
         filling: true,
+        figures,
     };
     Done {
         state: next,
@@ -129,7 +135,13 @@ fn add_number(state: State, number: FunctionalNumber, table: &mut [u64], out: &m
 }
 
 // `S` MSISDN flags: a row more of the list.
-fn add_subscriber(state: State, msisdn: Msisdn, flags: u8, list: &mut [u64], out: &mut [u8]) -> Done
+fn add_subscriber(
+    state: Progress,
+    msisdn: Msisdn,
+    flags: u8,
+    list: &mut [u64],
+    out: &mut [u8],
+) -> Done
     requires { ⌜ (subscriberWords * state .subscribers ≤ length (now list)) × (listWords ≤ length (now list)) ⌝ }
     requires { ⌜ lineRoom ≤ length (now out) ⌝ }
     ensures { λ r. ⌜ ((table : List ℕ) → Fits state table (now (list .entry)) → Did (subscribed msisdn flags (programIn state table (now (list .entry)))) state table (now (list .entry)) (now (out .entry)) r table (now (list .exit)) (now (out .exit))) ⌝ }
@@ -144,10 +156,12 @@ fn add_subscriber(state: State, msisdn: Msisdn, flags: u8, list: &mut [u64], out
     }
     let row = [msisdn.0, flags as u64];
     append(&row, used, list);
-    let next = State {
+    let figures = state.figures;
+    let next = Progress {
         numbers: state.numbers,
         subscribers: rows + 1,
         filling: true,
+        figures,
     };
     Done {
         state: next,
@@ -160,12 +174,13 @@ fn ask(
     requester: Msisdn,
     string: &[u8],
     table: &mut [u64],
+    figures: &mut [u64],
     list: &[u64],
     packed: &mut [u8],
     out: &mut [u8],
 ) -> usize
     requires { ⌜ (octetsFor (length (now string)) ≤ length (now packed)) × (answerRoom ≤ length (now out)) ⌝ }
-    ensures { λ r. ⌜ Answered (asked requester (now (string .entry)) (now (table .entry)) (now (list .entry))) (now (table .exit)) (now (out .entry)) (now (out .exit)) r ⌝ }
+    ensures { λ r. ⌜ Answered (asked requester (now (string .entry)) (beside (now (table .entry)) (now (figures .entry))) (now (list .entry))) (beside (now (table .exit)) (now (figures .exit))) (now (out .entry)) (now (out .exit)) r ⌝ }
 {
     let written = packing::pack(string, packed);
     let Written::Count(n) = written else {
@@ -174,6 +189,7 @@ fn ask(
     let mut reply = [0u8; BUFFER_ROOM];
     let answer = node::request(
         table,
+        figures,
         list,
         &mut reply,
         requester,
@@ -184,12 +200,18 @@ fn ask(
 }
 
 // Sends the notice of a number, and writes what follows the `T`.
-fn send(clock: u32, number: FunctionalNumber, table: &mut [u64], out: &mut [u8]) -> usize
+fn send(
+    clock: u32,
+    number: FunctionalNumber,
+    table: &mut [u64],
+    figures: &mut [u64],
+    out: &mut [u8],
+) -> usize
     requires { ⌜ answerRoom ≤ length (now out) ⌝ }
-    ensures { λ r. ⌜ Answered (notices.sendingNotice (now (table .entry)) lentBuffer number 0 clock) (now (table .exit)) (now (out .entry)) (now (out .exit)) r ⌝ }
+    ensures { λ r. ⌜ Answered (notices.sendingNotice (beside (now (table .entry)) (now (figures .entry))) lentBuffer number 0 clock) (beside (now (table .exit)) (now (figures .exit))) (now (out .entry)) (now (out .exit)) r ⌝ }
 {
     let mut notice = [0u8; BUFFER_ROOM];
-    let answer = node::sending(table, &mut notice, number, 0, clock);
+    let answer = node::sending(table, figures, &mut notice, number, 0, clock);
     replies::put_sending_answer(answer, &notice, out)
 }
 
@@ -199,25 +221,27 @@ fn report(
     number: FunctionalNumber,
     kind: u32,
     table: &mut [u64],
+    figures: &mut [u64],
     out: &mut [u8],
 ) -> usize
     requires { ⌜ answerRoom ≤ length (now out) ⌝ }
-    ensures { λ r. ⌜ Answered (notices.takingResult (now (table .entry)) number kind clock) (now (table .exit)) (now (out .entry)) (now (out .exit)) r ⌝ }
+    ensures { λ r. ⌜ Answered (notices.takingResult (beside (now (table .entry)) (now (figures .entry))) number kind clock) (beside (now (table .exit)) (now (figures .exit))) (now (out .entry)) (now (out .exit)) r ⌝ }
 {
-    let answer = node::result(table, number, kind, clock);
+    let answer = node::result(table, figures, number, kind, clock);
     replies::put_result_answer(answer, out)
 }
 
-// Ends a printed line with its line feed, and with it the filling.
-fn end_line(state: State, at: usize, out: &mut [u8]) -> Done
+// Ends a printed line with its line feed, and with it the filling; the figures are those that its call left.
+fn end_line(state: Progress, figures: [u64; FIGURES], at: usize, out: &mut [u8]) -> Done
     requires { ⌜ at < length (now out) ⌝ }
-    ensures { λ r. ⌜ (r ≡ ending state at) × (now (out .exit) ≡ set (now (out .entry)) at lineFeed) ⌝ }
+    ensures { λ r. ⌜ (r ≡ ending state figures at) × (now (out .exit) ≡ set (now (out .entry)) at lineFeed) ⌝ }
 {
     out[at] = b'\n';
-    let next = State {
+    let next = Progress {
         numbers: state.numbers,
         subscribers: state.subscribers,
         filling: false,
+        figures,
     };
     Done {
         state: next,
@@ -227,7 +251,7 @@ fn end_line(state: State, at: usize, out: &mut [u8]) -> Done
 
 // `R` requester string.
 fn request_line(
-    state: State,
+    state: Progress,
     requester: Msisdn,
     string: &[u8],
     table: &mut [u64],
@@ -241,21 +265,23 @@ fn request_line(
 {
     let words = ROW_WORDS * state.numbers;
     let entries = SUBSCRIBER_WORDS * state.subscribers;
+    let mut figures = state.figures;
     let at = writers::put(b"R ", out);
     let n = ask(
         requester,
         string,
         &mut table[..words],
+        &mut figures,
         &list[..entries],
         packed,
         &mut out[at..],
     );
-    end_line(state, at + n, out)
+    end_line(state, figures, at + n, out)
 }
 
 // `T` now number.
 fn sending_line(
-    state: State,
+    state: Progress,
     clock: u32,
     number: FunctionalNumber,
     table: &mut [u64],
@@ -265,14 +291,21 @@ fn sending_line(
     ensures { λ r. ⌜ ((list : List ℕ) → Fits state (now (table .entry)) list → Did (dispatched clock number (programIn state (now (table .entry)) list)) state (now (table .entry)) list (now (out .entry)) r (now (table .exit)) list (now (out .exit))) ⌝ }
 {
     let words = ROW_WORDS * state.numbers;
+    let mut figures = state.figures;
     let at = writers::put(b"T ", out);
-    let n = send(clock, number, &mut table[..words], &mut out[at..]);
-    end_line(state, at + n, out)
+    let n = send(
+        clock,
+        number,
+        &mut table[..words],
+        &mut figures,
+        &mut out[at..],
+    );
+    end_line(state, figures, at + n, out)
 }
 
 // `D` now number kind.
 fn result_line(
-    state: State,
+    state: Progress,
     clock: u32,
     number: FunctionalNumber,
     kind: u32,
@@ -283,16 +316,24 @@ fn result_line(
     ensures { λ r. ⌜ ((list : List ℕ) → Fits state (now (table .entry)) list → Did (reported clock number kind (programIn state (now (table .entry)) list)) state (now (table .entry)) list (now (out .entry)) r (now (table .exit)) list (now (out .exit))) ⌝ }
 {
     let words = ROW_WORDS * state.numbers;
+    let mut figures = state.figures;
     let at = writers::put(b"D ", out);
-    let n = report(clock, number, kind, &mut table[..words], &mut out[at..]);
-    end_line(state, at + n, out)
+    let n = report(
+        clock,
+        number,
+        kind,
+        &mut table[..words],
+        &mut figures,
+        &mut out[at..],
+    );
+    end_line(state, figures, at + n, out)
 }
 
 // Carries a line out, by its form.
 fn carry_out(
     line: Line,
     rest: &[u8],
-    state: State,
+    state: Progress,
     table: &mut [u64],
     list: &mut [u64],
     packed: &mut [u8],
@@ -317,7 +358,7 @@ fn carry_out(
 // What a line comes to.
 fn do_line(
     line: &[u8],
-    state: State,
+    state: Progress,
     table: &mut [u64],
     list: &mut [u64],
     packed: &mut [u8],
@@ -349,10 +390,12 @@ fn run_lines(
     requires { ⌜ Lent (now input) (now table) (now list) (now out) × (octetsFor (length (now input)) ≤ length (now packed)) ⌝ }
     ensures { λ r. ⌜ ran r (now (table .exit)) (now (list .exit)) (now (out .exit)) ≡ running (now (input .entry)) (now (table .entry)) (now (list .entry)) (now (out .entry)) ⌝ }
 {
-    let mut state = State {
+    let figures = [0u64; FIGURES];
+    let mut state = Progress {
         numbers: 0,
         subscribers: 0,
         filling: true,
+        figures,
     };
     let mut at = 0;
     let mut n = 0;

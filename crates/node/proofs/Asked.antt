@@ -34,7 +34,8 @@ use Rattle.strings.proofs.Answered.{told-place}
 use Rattle.strings.proofs.Choice.{beside-whole}
 use Rattle.tables.specs.declared.Found.{Found}
 use Rattle.tables.specs.declared.Found.the-variants.{At, Nothing}
-use Rattle.tables.specs.Tables.{tableSound, rowOf, recordOf, flagsOf}
+use Rattle.tables.specs.Tables.{flagsOf}
+use Rattle.states.specs.States.{State, stateSound, rowFor, recordFor}
 use Rattle.rules.specs.Answers.{Answer, outcome, Outcome, made, packedOver, octetCount}
 use Rattle.rules.specs.Requests.{hasFollowMe, isInterrogate, isForced, isSupervisor, refusalChecks, stepChecks, staying, carriedOutAt, step, replying, once}
 use Rattle.rules.specs.Crews.{crewCodes, crewNumber, Walk, walked, setOut, crewOutcome, carriedOutFor, requesting}
@@ -47,8 +48,8 @@ use Rattle.node.specs.Asked.{withAdditional, askedBy}
 
 -- ---- the checks of the requester's rights
 
-module _ (t : List ℕ) (flags : ℕ) (b : List ℕ) (q : Msisdn) (f : Request) where
-  -- the outcome n, with the table as it was
+module _ (t : State) (flags : ℕ) (b : List ℕ) (q : Msisdn) (f : Request) where
+  -- the outcome n, with table and figures as they were
   abbrev Says : Answer → List ℕ → ℕ → Type 0
   Says said after n = (said ≡ outcome n (octetCount (twoDigits n))) × (after ≡ packedOver (twoDigits n) b)
 
@@ -85,25 +86,25 @@ no-broken f sound e = no-path (rw e at (sound-rules f sound .crew))
 -- ---- a single request
 
 -- the additional field's content is ignored
-step-same : (t : List ℕ) (q : Msisdn) (f : Fields) (field : List ℕ) → step t q (withAdditional f field) ≡ step t q (withAdditional f [])
+step-same : (t : State) (q : Msisdn) (f : Fields) (field : List ℕ) → step t q (withAdditional f field) ≡ step t q (withAdditional f [])
 unfolding step
-step-same t q f field = ap (decide (map (staying t) (stepChecks q (withAdditional f []) (recordOf t (f .number .0))))) (go (rowOf t (f .number .0)))
+step-same t q f field = ap (decide (map (staying t) (stepChecks q (withAdditional f []) (recordFor t (f .number .0))))) (go (rowFor t (f .number .0)))
   where
     go : (place : Found) → carriedOutAt (withAdditional f field) place q t ≡ carriedOutAt (withAdditional f []) place q t
     go Nothing = refl
     go (At i) = refl
 
-pub single-asked : (t b : List ℕ) (q : Msisdn) (f : Fields) (field : List ℕ) → crewOf field ≡ none
+pub single-asked : (t : State) (b : List ℕ) (q : Msisdn) (f : Fields) (field : List ℕ) → crewOf field ≡ none
     → carriedOutFor t b q (withAdditional f field) (crewOf field) ≡ once t b q (withAdditional f [])
 single-asked t b q f field e = ap (carriedOutFor t b q (withAdditional f field)) e ∙ ap (replying b) (step-same t q f field)
 
 -- by the row of its number
-module _ (t b : List ℕ) (q : Msisdn) (f : Fields) where
-  pub single-misses : (said : Answer) (after : List ℕ) → rowOf t (f .number .0) ≡ Nothing → said ≡ outcome 41 (octetCount (twoDigits 41)) → after ≡ packedOver (twoDigits 41) b
+module _ (t : State) (b : List ℕ) (q : Msisdn) (f : Fields) where
+  pub single-misses : (said : Answer) (after : List ℕ) → rowFor t (f .number .0) ≡ Nothing → said ≡ outcome 41 (octetCount (twoDigits 41)) → after ≡ packedOver (twoDigits 41) b
       → made said t after ≡ once t b q (withAdditional f [])
   single-misses said after e s d = rw (s, d) (sym (ap (replying b) (step-misses t q (withAdditional f []) e)))
 
-  pub single-visits : (o : Outcome) (i : ℕ) → rowOf t (f .number .0) ≡ At i → erasingSound (f .operation) (f .erasing) ≡ true
+  pub single-visits : (o : Outcome) (i : ℕ) → rowFor t (f .number .0) ≡ At i → erasingSound (f .operation) (f .erasing) ≡ true
       → o ≡ replying b (decidesAt (f .operation) (f .erasing) (f .number) q t i) → o ≡ once t b q (withAdditional f [])
   single-visits o i e h d = d ∙ sym (ap (replying b) (step-visits t q (withAdditional f []) i e h))
 
@@ -164,7 +165,7 @@ module _ (f : Fields) (field : List ℕ) (n : ℕ) (sound : requestSound (withAd
   pub crew-number : isNumber (f .number .0) ≡ true
   crew-number = sound-rules (withAdditional f field) sound .number
 
-  pub crew-asked : (t b : List ℕ) (q : Msisdn)
+  pub crew-asked : (t : State) (b : List ℕ) (q : Msisdn)
       → carriedOutFor t b q (withAdditional f field) (crewOf field)
       ≡ crewOutcome (crewNumber (f .operation)) b (walked q (plainly (f .operation) (f .number)) (crewCodes (codesIn digits)) (setOut t))
   crew-asked t b q =
@@ -230,7 +231,7 @@ module _ (os : List ℕ) (r : ReadRequest) (done : madeRead r ≡ reading os) wh
 
 -- a request that no check refuses is asked
 pub request-asked :
-    (t list b : List ℕ) (q : Msisdn) (scheme : ℕ) (os : List ℕ) (f : Request) → tableSound t ≡ true
-    → anyHolds (refusalChecks true list b q scheme os) ≡ false → requestOf os ≡ some f → requesting t list b q scheme os ≡ askedBy t (flagsOf list (q .0)) b q f
+    (t : State) (list b : List ℕ) (q : Msisdn) (scheme : ℕ) (os : List ℕ) (f : Request) → stateSound t ≡ true
+    → anyHolds (refusalChecks true true list b q scheme os) ≡ false → requestOf os ≡ some f → requesting t list b q scheme os ≡ askedBy t (flagsOf list (q .0)) b q f
 unfolding requesting
 request-asked t list b q scheme os f sound passed reads = by-asks list b q scheme os t sound (λ g. carriedOutFor t b q g (crewOf (g .additional))) f passed reads

@@ -6,6 +6,7 @@ use Rattle.numbers.specs.declared.Msisdn.{Msisdn}
 use Rattle.crews.specs.Crews.{crewOf}
 use Rattle.strings.specs.declared.Fields.{Fields}
 use Rattle.strings.specs.Text.{Request, requestFrom}
+use Rattle.states.specs.States.{State}
 use Rattle.rules.specs.Answers.{Outcome}
 use Rattle.rules.specs.Requests.{askingBy}
 use Rattle.rules.specs.Crews.{carriedOutFor}
@@ -15,5 +16,5 @@ abbrev pub withAdditional : Fields → List ℕ → Request
 withAdditional f additional = requestFrom (f .operation) (f .number) (f .erasing) additional
 
 -- a request whose string was read
-abbrev pub askedBy : List ℕ → ℕ → List ℕ → Msisdn → Request → Outcome
-askedBy table flags reply requester f = askingBy (λ g. carriedOutFor table reply requester g (crewOf (g .additional))) table flags reply (some f)
+abbrev pub askedBy : State → ℕ → List ℕ → Msisdn → Request → Outcome
+askedBy state flags reply requester f = askingBy (λ g. carriedOutFor state reply requester g (crewOf (g .additional))) state flags reply (some f)

@@ -19,7 +19,8 @@ ghost use lib.ListN.{length};
 ghost use Rattle.numbers.specs.Numbers.{isNumber};
 ghost use Rattle.crews.specs.Crews.{countOf};
 ghost use Rattle.strings.specs.Text.{erasingSound, requestSound};
-ghost use Rattle.tables.specs.Tables.{tableSound, listSound, flagsOf};
+ghost use Rattle.tables.specs.Tables.{listSound, flagsOf};
+ghost use Rattle.states.specs.States.{beside, stateSound};
 ghost use Rattle.rules.specs.Answers.{made, bufferRoom};
 ghost use Rattle.rules.specs.Requests.{isForced, isSupervisor};
 ghost use Rattle.rules.specs.Requests as requests;
@@ -47,33 +48,35 @@ fn is_forbidden(erasing: Erasing, flags: u64) -> bool
 // A single request: the number's row, and what its record decides.
 fn ask_single(
     table: &mut [u64],
+    figures: &mut [u64],
     reply: &mut [u8],
     requester: Msisdn,
     fields: Fields,
 ) -> RequestAnswer
-    requires { ⌜ (tableSound (now table) ≡ true) × (bufferRoom ≤ length (now reply)) × (erasingSound (fields .operation) (fields .erasing) ≡ true) ⌝ }
-    ensures { λ r. ⌜ made (saidRequest r) (now (table .exit)) (now (reply .exit)) ≡ requests.once (now (table .entry)) (now (reply .entry)) requester (withAdditional fields []) ⌝ }
+    requires { ⌜ (stateSound (beside (now table) (now figures)) ≡ true) × (bufferRoom ≤ length (now reply)) × (erasingSound (fields .operation) (fields .erasing) ≡ true) ⌝ }
+    ensures { λ r. ⌜ made (saidRequest r) (beside (now (table .exit)) (now (figures .exit))) (now (reply .exit)) ≡ requests.once (beside (now (table .entry)) (now (figures .entry))) (now (reply .entry)) requester (withAdditional fields []) ⌝ }
 {
     let number = fields.number;
     let found = tables::row_of(table, number);
     let Found::At(row) = found else {
         return visits::say(41, reply);
     };
-    visits::decide_at(table, row, reply, requester, fields)
+    visits::decide_at(table, figures, row, reply, requester, fields)
 }
 
 // A request whose string was read: the requester's flags, and then the single request or the crew's.
 fn ask(
     table: &mut [u64],
+    figures: &mut [u64],
     list: &[u64],
     reply: &mut [u8],
     requester: Msisdn,
     fields: Fields,
     additional: &[u8],
 ) -> RequestAnswer
-    requires { ⌜ (tableSound (now table) ≡ true) × (listSound (now list) ≡ true) × (bufferRoom ≤ length (now reply)) × (isNumber (requester .0) ≡ true) ⌝ }
+    requires { ⌜ (stateSound (beside (now table) (now figures)) ≡ true) × (listSound (now list) ≡ true) × (bufferRoom ≤ length (now reply)) × (isNumber (requester .0) ≡ true) ⌝ }
     requires { ⌜ (requestSound (withAdditional fields (now additional)) ≡ true) × (fields .crew ≡ countOf (now additional)) ⌝ }
-    ensures { λ r. ⌜ made (saidRequest r) (now (table .exit)) (now (reply .exit)) ≡ askedBy (now (table .entry)) (flagsOf (now (list .entry)) (requester .0)) (now (reply .entry)) requester (withAdditional fields (now (additional .entry))) ⌝ }
+    ensures { λ r. ⌜ made (saidRequest r) (beside (now (table .exit)) (now (figures .exit))) (now (reply .exit)) ≡ askedBy (beside (now (table .entry)) (now (figures .entry))) (flagsOf (now (list .entry)) (requester .0)) (now (reply .entry)) requester (withAdditional fields (now (additional .entry))) ⌝ }
 {
     let operation = fields.operation;
     let number = fields.number;
@@ -87,27 +90,28 @@ fn ask(
         return visits::say(22, reply);
     }
     match crew {
-        Crew::Single => ask_single(table, reply, requester, fields),
+        Crew::Single => ask_single(table, figures, reply, requester, fields),
         Crew::Codes(n) => {
             let digits = &additional[additional.len() - 2 * n..];
-            walks::request_crew(table, reply, requester, operation, number, digits)
+            walks::request_crew(table, figures, reply, requester, operation, number, digits)
         }
         // No string reads so.
         Crew::Broken => RequestAnswer::Error(36),
     }
 }
 
-// A request over a sound table and list, with room for the reply: the checks with an error, in document 01's order, and what its string asks for.
+// A request over a sound table, right figures and a sound list, with room for the reply: the checks with an error, in document 01's order, and what its string asks for.
 pub fn ask_string(
     table: &mut [u64],
+    figures: &mut [u64],
     list: &[u64],
     reply: &mut [u8],
     requester: Msisdn,
     scheme: u8,
     string: &[u8],
 ) -> RequestAnswer
-    requires { ⌜ (tableSound (now table) ≡ true) × (listSound (now list) ≡ true) × (bufferRoom ≤ length (now reply)) ⌝ }
-    ensures { λ r. ⌜ made (saidRequest r) (now (table .exit)) (now (reply .exit)) ≡ crews.requesting (now (table .entry)) (now (list .entry)) (now (reply .entry)) requester scheme (now (string .entry)) ⌝ }
+    requires { ⌜ (stateSound (beside (now table) (now figures)) ≡ true) × (listSound (now list) ≡ true) × (bufferRoom ≤ length (now reply)) ⌝ }
+    ensures { λ r. ⌜ made (saidRequest r) (beside (now (table .exit)) (now (figures .exit))) (now (reply .exit)) ≡ crews.requesting (beside (now (table .entry)) (now (figures .entry))) (now (list .entry)) (now (reply .entry)) requester scheme (now (string .entry)) ⌝ }
 {
     if !numbers::is_number(requester.0) {
         return RequestAnswer::Error(35);
@@ -129,19 +133,21 @@ pub fn ask_string(
     let text = read.text;
     let start = fields.start;
     let end = start + fields.count;
-    ask(table, list, reply, requester, fields, &text[start..end])
+    let additional = &text[start..end];
+    ask(table, figures, list, reply, requester, fields, additional)
 }
 
 // A request: the checks with a refusal, and then those of its string.
 pub fn request(
     table: &mut [u64],
+    figures: &mut [u64],
     list: &[u64],
     reply: &mut [u8],
     requester: Msisdn,
     scheme: u8,
     string: &[u8],
 ) -> RequestAnswer
-    ensures { λ r. ⌜ made (saidRequest r) (now (table .exit)) (now (reply .exit)) ≡ crews.requesting (now (table .entry)) (now (list .entry)) (now (reply .entry)) requester scheme (now (string .entry)) ⌝ }
+    ensures { λ r. ⌜ made (saidRequest r) (beside (now (table .exit)) (now (figures .exit))) (now (reply .exit)) ≡ crews.requesting (beside (now (table .entry)) (now (figures .entry))) (now (list .entry)) (now (reply .entry)) requester scheme (now (string .entry)) ⌝ }
 {
     if reply.len() < BUFFER_ROOM {
         return RequestAnswer::Refused(1);
@@ -149,27 +155,30 @@ pub fn request(
     if !tables::list_sound(list) {
         return RequestAnswer::Refused(8);
     }
-    if !tables::table_sound(table) {
-        return RequestAnswer::Refused(2);
+    let refused = states::refusal(table, figures);
+    if refused != 0 {
+        return RequestAnswer::Refused(refused);
     }
-    ask_string(table, list, reply, requester, scheme, string)
+    ask_string(table, figures, list, reply, requester, scheme, string)
 }
 
 // A sending names a number.
 pub fn sending(
     table: &mut [u64],
+    figures: &mut [u64],
     buffer: &mut [u8],
     number: FunctionalNumber,
     delay: u32,
     clock: u32,
 ) -> SendingAnswer
-    ensures { λ r. ⌜ made (saidSending r) (now (table .exit)) (now (buffer .exit)) ≡ notices.sendingNotice (now (table .entry)) (now (buffer .entry)) number delay clock ⌝ }
+    ensures { λ r. ⌜ made (saidSending r) (beside (now (table .exit)) (now (figures .exit))) (now (buffer .exit)) ≡ notices.sendingNotice (beside (now (table .entry)) (now (figures .entry))) (now (buffer .entry)) number delay clock ⌝ }
 {
     if buffer.len() < BUFFER_ROOM {
         return SendingAnswer::Refused(1);
     }
-    if !tables::table_sound(table) {
-        return SendingAnswer::Refused(2);
+    let refused = states::refusal(table, figures);
+    if refused != 0 {
+        return SendingAnswer::Refused(refused);
     }
     if !numbers::is_number(number.0) {
         return SendingAnswer::Refused(7);
@@ -178,15 +187,22 @@ pub fn sending(
     let Found::At(row) = found else {
         return SendingAnswer::Refused(7);
     };
-    visits::send_at(table, row, buffer, number, delay, clock)
+    visits::send_at(table, figures, row, buffer, number, delay, clock)
 }
 
 // A result names a number and a kind.
-pub fn result(table: &mut [u64], number: FunctionalNumber, kind: u32, clock: u32) -> ResultAnswer
-    ensures { λ r. ⌜ made (saidResult r) (now (table .exit)) [] ≡ notices.takingResult (now (table .entry)) number kind clock ⌝ }
+pub fn result(
+    table: &mut [u64],
+    figures: &mut [u64],
+    number: FunctionalNumber,
+    kind: u32,
+    clock: u32,
+) -> ResultAnswer
+    ensures { λ r. ⌜ made (saidResult r) (beside (now (table .exit)) (now (figures .exit))) [] ≡ notices.takingResult (beside (now (table .entry)) (now (figures .entry))) number kind clock ⌝ }
 {
-    if !tables::table_sound(table) {
-        return ResultAnswer::Refused(2);
+    let refused = states::refusal(table, figures);
+    if refused != 0 {
+        return ResultAnswer::Refused(refused);
     }
     if !numbers::is_number(number.0) {
         return ResultAnswer::Refused(7);
@@ -195,7 +211,7 @@ pub fn result(table: &mut [u64], number: FunctionalNumber, kind: u32, clock: u32
     let Found::At(row) = found else {
         return ResultAnswer::Refused(7);
     };
-    visits::result_at(table, row, kind, clock)
+    visits::result_at(table, figures, row, kind, clock)
 }
 
 // The lowest due number, if one is due.

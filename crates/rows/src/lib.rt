@@ -24,9 +24,9 @@ const SECONDS: u64 = 4294967296;
 // "six 64-bit words a number": where they stand in a row, the number first.
 pub const ROW_WORDS: usize = 6;
 
-const HOLDER: usize = 1;
+pub const HOLDER: usize = 1;
 
-const PHASE: usize = 2;
+pub const PHASE: usize = 2;
 
 const ADDRESSEE: usize = 3;
 

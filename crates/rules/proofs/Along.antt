@@ -27,7 +27,8 @@ use Rattle.records.specs.declared.Resulted.the-variants.{Refused, Delivered, Dr
 use Rattle.records.specs.declared.Notice.the-variants.{Waiting}
 use Rattle.records.specs.Steps as steps
 use Rattle.records.specs.Steps.{nobody, isNobody, same, heldBy, forcedOff, isAbsent, isWaiting, isInFlight, sendingsDone, launched, withNotice, cleared, mostSendings, lastKind}
-use Rattle.tables.specs.Tables.{tableSound, recordOf, flagsOf}
+use Rattle.tables.specs.Tables.{flagsOf}
+use Rattle.states.specs.States.{State, stateSound, recordFor}
 use Rattle.rules.specs.Answers.{Answer, refusal, delivered, dropped, again, bufferRoom, isOutcome}
 use Rattle.rules.specs.Requests.{hasFollowMe, isSupervisor, isForced, afterErasure, rightChecks}
 use Rattle.rules.specs.Frames.{Inside, insideOf, ownReply}
@@ -161,7 +162,7 @@ pub data Passed (list : List ℕ) (k : ℕ) (c : Call) : Reply → Type 0 where
   unnamed : {a : Reply} → namesOne list c k ≡ false → Passed list k c a
   -- k is not in the table
   missing : Passed list k c (missed list c)
-  -- the table is unsound
+  -- the state is unsound
   refused : {n : ℕ} {buffer : List ℕ} → Passed list k c (record { answer = refusal n; buffer = buffer })
 
 -- from k's record before the calls, by the log, to its record after them; none where k is not in the table
@@ -173,11 +174,11 @@ pub data Along (list : List ℕ) (k : ℕ) : Option Record → List (Call × Rep
 
 module _ (list : List ℕ) (delay k : ℕ) where
   -- one call more at the front
-  ahead : (c : Call) (t : List ℕ) {l : List (Call × Reply)} {p : Option Record}
-      → Along list k (recordOf ((single list delay c t) .1) k) l p → Along list k (recordOf t k) ((c, (single list delay c t) .0) ∷ l) p
-  ahead c t {l} {p} rest = by-table (tableSound t) refl
+  ahead : (c : Call) (t : State) {l : List (Call × Reply)} {p : Option Record}
+      → Along list k (recordFor ((single list delay c t) .1) k) l p → Along list k (recordFor t k) ((c, (single list delay c t) .0) ∷ l) p
+  ahead c t {l} {p} rest = by-state (stateSound t) refl
     where
-      by-record : tableSound t ≡ true → (b : Bool) (o : Option Record) → namesOne list c k ≡ b → recordOf t k ≡ o → Along list k o ((c, (single list delay c t) .0) ∷ l) p
+      by-record : stateSound t ≡ true → (b : Bool) (o : Option Record) → namesOne list c k ≡ b → recordFor t k ≡ o → Along list k o ((c, (single list delay c t) .0) ∷ l) p
       by-record sound false o n e = passes (unnamed n) (rw (single-other list delay c t sound k n ∙ e) at rest)
       by-record sound true none n e =
           let m = single-absent list delay c t sound k (named-some (nameOf list c) k n) e in
@@ -186,14 +187,14 @@ module _ (list : List ℕ) (delay k : ℕ) where
           let m = single-own list delay c t sound k r (named-some (nameOf list c) k n) e in
           rw (m .0) (visits n (does list delay c r) (rw (m .1) at rest))
 
-      by-table : (b : Bool) → tableSound t ≡ b → Along list k (recordOf t k) ((c, (single list delay c t) .0) ∷ l) p
-      by-table true e = by-record e (namesOne list c k) (recordOf t k) refl refl
-      by-table false e =
-          let (n, buffer, m) = unsound-single t e list delay c in
+      by-state : (b : Bool) → stateSound t ≡ b → Along list k (recordFor t k) ((c, (single list delay c t) .0) ∷ l) p
+      by-state true e = by-record e (namesOne list c k) (recordFor t k) refl refl
+      by-state false e =
+          let (n, buffer, m, early) = unsound-single t e list delay c in
           rw m (passes refused (rw m at rest))
 
-  -- any list of calls over any table is such a walk
-  pub along : (cs : List Call) (t : List ℕ) → Along list k (recordOf t k) (log (single list delay) cs t) (recordOf (end (single list delay) cs t) k)
+  -- any list of calls over any state is such a walk
+  pub along : (cs : List Call) (t : State) → Along list k (recordFor t k) (log (single list delay) cs t) (recordFor (end (single list delay) cs t) k)
   along [] t = ends
   along (c ∷ cs) t = ahead c t (along cs ((single list delay c t) .1))
 

@@ -23,7 +23,8 @@ use Rattle.strings.specs.Text.{Request, requestSound, textOf, codingScheme}
 use Rattle.strings.specs.Outcomes.{requestOf}
 use Rattle.strings.proofs.Text.{rules-sound, beforeAdditional, text-grows, octets-short}
 use Rattle.strings.proofs.Octets.{reads-written}
-use Rattle.tables.specs.Tables.{tableSound, listSound, flagsOf}
+use Rattle.tables.specs.Tables.{listSound, flagsOf}
+use Rattle.states.specs.States.{State, stateSound}
 use Rattle.rules.specs.Answers.{Answer, bufferRoom}
 use Rattle.rules.specs.Requests.{hasFollowMe, mostStringOctets, refusalChecks, Verdict, says, tells, Stepping, step, answered, replying, once, askingBy}
 use Rattle.rules.specs.Crews.{withCode, memberOf, Walk, isSuccess, walkedOn, walked}
@@ -62,18 +63,18 @@ written-octets f h =
 
 -- ---- one single request
 
--- what it replies says its step's verdict, and leaves its step's table
-replied-table : (b : List ℕ) (s : Stepping) → replied (replying b s) .1 ≡ s .table
-replied-table b s = go (s .verdict)
+-- what it replies says its step's verdict, and leaves its step's state
+replied-state : (b : List ℕ) (s : Stepping) → replied (replying b s) .1 ≡ s .state
+replied-state b s = go (s .verdict)
   where
-    go : (v : Verdict) → replied (answered b v (s .table)) .1 ≡ s .table
+    go : (v : Verdict) → replied (answered b v (s .state)) .1 ≡ s .state
     go (says n) = refl
     go (tells msisdn) = refl
 
 replied-succeeds : (b : List ℕ) (s : Stepping) → succeeds (replied (replying b s) .0 .answer) ≡ isSuccess (s .verdict)
 replied-succeeds b s = go (s .verdict)
   where
-    go : (v : Verdict) → succeeds (replied (answered b v (s .table)) .0 .answer) ≡ isSuccess v
+    go : (v : Verdict) → succeeds (replied (answered b v (s .state)) .0 .answer) ≡ isSuccess v
     go (says n) = refl
     go (tells msisdn) = refl
 
@@ -122,7 +123,7 @@ module _ (list : List ℕ) (delay : ℕ) (requester : Msisdn) (scheme : ℕ) (f 
     pub member-reads : requestOf (packed (textOf (memberOf f code))) ≡ some (memberOf f code)
     member-reads = reads-written (memberOf f code) member-sound
 
-    member-passes : anyHolds (refusalChecks true list (buffers code) requester scheme (packed (textOf (memberOf f code)))) ≡ false
+    member-passes : anyHolds (refusalChecks true true list (buffers code) requester scheme (packed (textOf (memberOf f code)))) ≡ false
     member-passes =
         let some-octets = octets .0 in
         rw (
@@ -138,21 +139,21 @@ module _ (list : List ℕ) (delay : ℕ) (requester : Msisdn) (scheme : ℕ) (f 
     pub member-named : nameOf list (one code) ≡ some (withCode (f .number .0) code)
     member-named = rw (member-passes, member-reads) refl
 
-    member-asks : (t : List ℕ) → tableSound t ≡ true
+    member-asks : (t : State) → stateSound t ≡ true
         → single list delay (one code) t
         ≡ replied (askingBy (once t (buffers code) requester) t (flagsOf list (requester .0)) (buffers code) (some (memberOf f code)))
     member-asks t sound =
         ap replied (request-asks list (buffers code) requester scheme (packed (textOf (memberOf f code))) t sound (memberOf f code) member-passes member-reads)
 
-    member-once : hasFollowMe (flagsOf list (requester .0)) ≡ true → (t : List ℕ) → tableSound t ≡ true
+    member-once : hasFollowMe (flagsOf list (requester .0)) ≡ true → (t : State) → stateSound t ≡ true
         → single list delay (one code) t ≡ replied (once t (buffers code) requester (memberOf f code))
     member-once right t sound = member-asks t sound ∙ rw (right, shared .plain) refl
 
-    -- without Follow Me it is answered 42, and leaves the table
-    member-stays : hasFollowMe (flagsOf list (requester .0)) ≡ false → (t : List ℕ) → tableSound t ≡ true → single list delay (one code) t .1 ≡ t
+    -- without Follow Me it is answered 42, and leaves table and figures
+    member-stays : hasFollowMe (flagsOf list (requester .0)) ≡ false → (t : State) → stateSound t ≡ true → single list delay (one code) t .1 ≡ t
     member-stays none t sound = ap (λ r. r .1) (member-asks t sound) ∙ rw none refl
 
-  pub members-stay : hasFollowMe (flagsOf list (requester .0)) ≡ false → (codes : List ℕ) → Small codes → (t : List ℕ) → tableSound t ≡ true
+  pub members-stay : hasFollowMe (flagsOf list (requester .0)) ≡ false → (codes : List ℕ) → Small codes → (t : State) → stateSound t ≡ true
       → end (single list delay) (map one codes) t ≡ t
   members-stay none [] small t sound = refl
   members-stay none (code ∷ codes) (c, small) t sound =
@@ -167,26 +168,26 @@ module _ (list : List ℕ) (delay : ℕ) (requester : Msisdn) (scheme : ℕ) (f 
   -- ---- the walk
 
   module _ (right : hasFollowMe (flagsOf list (requester .0)) ≡ true) where
-    -- what the single requests of the codes get, from a table on
-    abbrev got : List ℕ → List ℕ → List (Call × Reply)
+    -- what the single requests of the codes get, from a state on
+    abbrev got : List ℕ → State → List (Call × Reply)
     got codes t = log (single list delay) (map one codes) t
 
     abbrev goneOn : ℕ → Walk → Walk
-    goneOn code w = walkedOn code (step (w .table) requester (memberOf f code)) w
+    goneOn code w = walkedOn code (step (w .state) requester (memberOf f code)) w
 
-    gone-sound : (code : ℕ) (w : Walk) → tableSound (w .table) ≡ true → tableSound (goneOn code w .table) ≡ true
-    gone-sound code w sound = step-keeps (w .table) sound requester (shared .number) (memberOf f code) (rw (shared .plain) refl) .sound
+    gone-sound : (code : ℕ) (w : Walk) → stateSound (w .state) ≡ true → stateSound (goneOn code w .state) ≡ true
+    gone-sound code w sound = step-keeps (w .state) sound requester (shared .number) (memberOf f code) (rw (shared .plain) refl) .sound
 
     -- the walk stands where the single requests stand, with the codes of those that were answered 01 or 02, and of the others
     pub record Walks (codes : List ℕ) (w : Walk) : Type 0 where
-      pub table : walked requester f codes w .table ≡ end (single list delay) (map one codes) (w .table)
-      pub successes : walked requester f codes w .successes ≡ w .successes ++ codesWhere succeeds codes (got codes (w .table))
-      pub failures : walked requester f codes w .failures ≡ w .failures ++ codesWhere (λ a. not (succeeds a)) codes (got codes (w .table))
+      pub state : walked requester f codes w .state ≡ end (single list delay) (map one codes) (w .state)
+      pub successes : walked requester f codes w .successes ≡ w .successes ++ codesWhere succeeds codes (got codes (w .state))
+      pub failures : walked requester f codes w .failures ≡ w .failures ++ codesWhere (λ a. not (succeeds a)) codes (got codes (w .state))
 
-    walk-one : (code : ℕ) (codes : List ℕ) (w : Walk) → code < 100 → tableSound (w .table) ≡ true → Walks codes (goneOn code w) → Walks (code ∷ codes) w
+    walk-one : (code : ℕ) (codes : List ℕ) (w : Walk) → code < 100 → stateSound (w .state) ≡ true → Walks codes (goneOn code w) → Walks (code ∷ codes) w
     unfolding walked
     walk-one code codes w small sound rest = record {
-      table = rest .table ∙ ap (end (single list delay) (map one codes)) after;
+      state = rest .state ∙ ap (end (single list delay) (map one codes)) after;
       successes =
           rest .successes ∙ ap (λ t. goneOn code w .successes ++ codesWhere succeeds codes (got codes t)) after
           ∙ behind-some (isSuccess (s .verdict)) (w .successes) code _ ∙ ap (λ b. w .successes ++ cond b (code ∷ rest-of succeeds) (rest-of succeeds)) answers;
@@ -197,21 +198,21 @@ module _ (list : List ℕ) (delay : ℕ) (requester : Msisdn) (scheme : ℕ) (f 
     }
       where
         s : Stepping
-        s = step (w .table) requester (memberOf f code)
+        s = step (w .state) requester (memberOf f code)
 
-        now-single : single list delay (one code) (w .table) ≡ replied (replying (buffers code) s)
-        now-single = member-once code small right (w .table) sound
+        now-single : single list delay (one code) (w .state) ≡ replied (replying (buffers code) s)
+        now-single = member-once code small right (w .state) sound
 
-        after : goneOn code w .table ≡ single list delay (one code) (w .table) .1
-        after = sym (replied-table (buffers code) s) ∙ sym (ap (λ r. r .1) now-single)
+        after : goneOn code w .state ≡ single list delay (one code) (w .state) .1
+        after = sym (replied-state (buffers code) s) ∙ sym (ap (λ r. r .1) now-single)
 
-        answers : isSuccess (s .verdict) ≡ succeeds (single list delay (one code) (w .table) .0 .answer)
+        answers : isSuccess (s .verdict) ≡ succeeds (single list delay (one code) (w .state) .0 .answer)
         answers = sym (replied-succeeds (buffers code) s) ∙ sym (ap (λ r. succeeds (r .0 .answer)) now-single)
 
         rest-of : (Answer → Bool) → List ℕ
-        rest-of test = codesWhere test codes (got codes (single list delay (one code) (w .table) .1))
+        rest-of test = codesWhere test codes (got codes (single list delay (one code) (w .state) .1))
 
-    pub walks : (codes : List ℕ) (w : Walk) → Small codes → tableSound (w .table) ≡ true → Walks codes w
+    pub walks : (codes : List ℕ) (w : Walk) → Small codes → stateSound (w .state) ≡ true → Walks codes w
     unfolding walked
-    walks [] w small sound = record { table = refl; successes = sym (append-nil (w .successes)); failures = sym (append-nil (w .failures)) }
+    walks [] w small sound = record { state = refl; successes = sym (append-nil (w .successes)); failures = sym (append-nil (w .failures)) }
     walks (code ∷ codes) w (c, small) sound = walk-one code codes w c sound (walks codes (goneOn code w) small (gone-sound code w sound))

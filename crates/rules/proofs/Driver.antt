@@ -13,7 +13,7 @@ use Rattle.numbers.specs.declared.Msisdn.{Msisdn}
 use Rattle.strings.specs.Text.{Request}
 use Rattle.records.specs.declared.Record.{Record}
 use Rattle.records.specs.Steps.{nobody, isNobody, same, isAbsent}
-use Rattle.tables.specs.Tables.{listSound, recordOf, flagsOf, tableSound}
+use Rattle.tables.specs.Tables.{listSound, flagsOf}
 use Rattle.rules.specs.Answers.{isOutcome}
 use Rattle.rules.specs.Frames.{ownReply}
 use Rattle.rules.specs.Run.{end, log}
@@ -24,6 +24,7 @@ use Rattle.rules.specs.Pending.{never}
 use Rattle.rules.specs.Users.{isRequest, bothFlags, askerOf, erasesHoldIn, mayEndHold, endsHold, beginsHold, Stood, HoldEnded, HoldBegun}
 use Rattle.rules.specs.Demand.{isCrewOutcome, mayChange, registersAs, registers, requesterOf, holderOf}
 use Rattle.tables.proofs.Stored.{flags-small}
+use Rattle.states.specs.States.{State, stateSound, recordFor}
 use Rattle.rules.proofs.Inside.{named-inside}
 use Rattle.rules.proofs.Unsound.{unsound-call}
 use Rattle.rules.proofs.Single.{call-single, singles-log}
@@ -39,7 +40,7 @@ use Rattle.rules.proofs.Along.{Asked, AskedIn, negative, registration, 
 bare-listed : (list : List ℕ) (k : ℕ) (requester : Msisdn) (scheme : ℕ) (string reply : List ℕ)
     → nameOf list (request requester scheme string reply) ≡ some k → listSound list ≡ true
 bare-listed list k requester scheme string reply n =
-    not-false _ (all-pass (refusalChecks true list reply requester scheme string) (naming list reply requester scheme string k n .passed) .1 .0)
+    not-false _ (all-pass (refusalChecks true true list reply requester scheme string) (naming list reply requester scheme string k n .passed) .1 .0)
 
 named-listed : (list : List ℕ) (k : ℕ) (c : Call) → isRequest c ≡ true → namesOne list c k ≡ true → listSound list ≡ true
 named-listed list k (request requester scheme string reply) e n =
@@ -191,31 +192,31 @@ module _ (list : List ℕ) (k : ℕ) where
 
 -- ---- the driver, over one call that is its own step
 
-module _ (list : List ℕ) (delay k : ℕ) (c : Call) (table : List ℕ) where
+module _ (list : List ℕ) (delay k : ℕ) (c : Call) (state : State) where
   abbrev got : Reply
-  got = (call list delay c table) .0
+  got = (call list delay c state) .0
 
-  abbrev after : List ℕ
-  after = (call list delay c table) .1
+  abbrev after : State
+  after = (call list delay c state) .1
 
   module _ (alone : codesOf c ≡ none) where
-    once : Along list k (recordOf table k) ((c, got) ∷ []) (recordOf after k)
+    once : Along list k (recordFor state k) ((c, got) ∷ []) (recordFor after k)
     once =
-        subst (λ (r : Reply × List ℕ). Along list k (recordOf table k) ((c, r .0) ∷ []) (recordOf (r .1) k)) (sym (call-single list delay c table alone))
-        (along list delay k (c ∷ []) table)
+        subst (λ (r : Reply × State). Along list k (recordFor state k) ((c, r .0) ∷ []) (recordFor (r .1) k)) (sym (call-single list delay c state alone))
+        (along list delay k (c ∷ []) state)
 
     -- if h holds k before the call and not after it, then the call is an erasure that may end her hold, answered 02, and nobody holds k after it
-    pub hold-ends-by-erasure : (h : Msisdn) → isNobody h ≡ false → holderOf table k ≡ h .0 → (holderOf after k ≡ h .0 → ⊥)
-        → HoldEnded list h k c table got after
+    pub hold-ends-by-erasure : (h : Msisdn) → isNobody h ≡ false → holderOf state k ≡ h .0 → (holderOf after k ≡ h .0 → ⊥)
+        → HoldEnded list h k c state got after
     hold-ends-by-erasure h held e gone =
         ⊎-elim (λ s. absurd (gone (ap word s))) (λ (n, m, a, f). record { named = n; erasure = m; answered = a; nobody = ap word f })
-        (ended-once list k h held once (one-msisdn (holderIn (recordOf table k)) h e))
+        (ended-once list k h held once (one-msisdn (holderIn (recordFor state k)) h e))
 
     -- if k is free before the call and not after it, then the call is a registration, answered 01, and its requester holds k
-    pub hold-begins-by-registration : holderOf table k ≡ 0 → (holderOf after k ≡ 0 → ⊥) → HoldBegun list k c got after
+    pub hold-begins-by-registration : holderOf state k ≡ 0 → (holderOf after k ≡ 0 → ⊥) → HoldBegun list k c got after
     hold-begins-by-registration e gone =
         ⊎-elim (λ s. absurd (gone (ap word s))) (λ (n, m, a, q). record { named = n; registration = m; answered = a; requester = q })
-        (begun-once once (one-msisdn (holderIn (recordOf table k)) nobody e))
+        (begun-once once (one-msisdn (holderIn (recordFor state k)) nobody e))
 
   request-alone : (e : Call) → isRequest e ≡ false → codesOf e ≡ none
   request-alone (request requester scheme string reply) n = no-path (sym n)
@@ -224,51 +225,51 @@ module _ (list : List ℕ) (delay k : ℕ) (c : Call) (table : List ℕ) where
   request-alone (result now number kind) n = refl
 
   -- a sending or a result changes no holder
-  pub notices-change-no-holder : isRequest c ≡ false → holderOf after k ≡ holderOf table k
+  pub notices-change-no-holder : isRequest c ≡ false → holderOf after k ≡ holderOf state k
   notices-change-no-holder e = ap word (kept-once (once (request-alone c e)) (inl e))
 
   -- nor does what is refused, in error or negative: any answer but 01 and 02, and a crew's, whose steps are calls of their own
-  pub negatives-change-no-holder : mayChange (got .answer) ≡ false → holderOf after k ≡ holderOf table k
-  negatives-change-no-holder e = by-table (tableSound table) refl
+  pub negatives-change-no-holder : mayChange (got .answer) ≡ false → holderOf after k ≡ holderOf state k
+  negatives-change-no-holder e = by-state (stateSound state) refl
     where
-      -- what leaves the table leaves its holders
-      by-view : {d : Call} → View list delay d → d ≡ c → tableSound table ≡ true → holderOf after k ≡ holderOf table k
+      -- what leaves the state leaves its holders
+      by-view : {d : Call} → View list delay d → d ≡ c → stateSound state ≡ true → holderOf after k ≡ holderOf state k
       by-view (alone-step d alone s) p sound =
           let none = or-neither (isOutcome 1 (got .answer) || isOutcome 2 (got .answer)) (isCrewOutcome (got .answer)) e in
           ap word (kept-once (once (ap codesOf (sym p) ∙ alone)) (inr (or-neither (isOutcome 1 (got .answer)) (isOutcome 2 (got .answer)) (none .0))))
-      by-view (stops d r f s) p sound = ap (λ x. holderOf (x .1) k) (ap (λ q. call list delay q table) (sym p) ∙ f table sound)
+      by-view (stops d r f s) p sound = ap (λ x. holderOf (x .1) k) (ap (λ q. call list delay q state) (sym p) ∙ f state sound)
       by-view (goes {c = d} {requester = requester} {scheme = scheme} {string = string} {reply = reply} g w s) p sound =
-          let a = call list delay d table .0 .answer in
-          no-path (sym (ap (λ q. mayChange ((call list delay q table) .0 .answer)) p ∙ e)
-          ∙ or-right (isOutcome 1 a || isOutcome 2 a) (isCrewOutcome a) (goes-said list delay requester scheme string reply g w table sound))
+          let a = call list delay d state .0 .answer in
+          no-path (sym (ap (λ q. mayChange ((call list delay q state) .0 .answer)) p ∙ e)
+          ∙ or-right (isOutcome 1 a || isOutcome 2 a) (isCrewOutcome a) (goes-said list delay requester scheme string reply g w state sound))
 
-      by-table : (b : Bool) → tableSound table ≡ b → holderOf after k ≡ holderOf table k
-      by-table true sound = by-view (view list delay c) refl sound
-      by-table false unsound = let (n, buffer, r) = unsound-call table unsound list delay c in ap (λ x. holderOf (x .1) k) r
+      by-state : (b : Bool) → stateSound state ≡ b → holderOf after k ≡ holderOf state k
+      by-state true sound = by-view (view list delay c) refl sound
+      by-state false unsound = let (n, buffer, r, early) = unsound-call state unsound list delay c in ap (λ x. holderOf (x .1) k) r
 
 -- ---- the driver, over any list of calls, by their single steps
 
-module _ (list : List ℕ) (delay k : ℕ) (calls : List Call) (table : List ℕ) where
+module _ (list : List ℕ) (delay k : ℕ) (calls : List Call) (state : State) where
   abbrev stepsGot : List (Call × Reply)
-  stepsGot = log (call list delay) (steps list calls) table
+  stepsGot = log (call list delay) (steps list calls) state
 
-  seen : Along list k (recordOf table k) stepsGot (recordOf (end (call list delay) calls table) k)
+  seen : Along list k (recordFor state k) stepsGot (recordFor (end (call list delay) calls state) k)
   seen =
-      rw (singles-log list delay (steps list calls) table (all-steps-single list delay calls), singly-end list delay calls table)
-      (along list delay k (steps list calls) table)
+      rw (singles-log list delay (steps list calls) state (all-steps-single list delay calls), singly-end list delay calls state)
+      (along list delay k (steps list calls) state)
 
   -- if h holds k before the calls and not after them, one of their steps is an erasure that may end her hold, answered 02: her own, in a crew's request too, or a forced one
-  pub hold-ends-by-a-step : (h : Msisdn) → isNobody h ≡ false → holderOf table k ≡ h .0 → (holderOf (end (call list delay) calls table) k ≡ h .0 → ⊥)
+  pub hold-ends-by-a-step : (h : Msisdn) → isNobody h ≡ false → holderOf state k ≡ h .0 → (holderOf (end (call list delay) calls state) k ≡ h .0 → ⊥)
       → Stood (endsHold list h k) stepsGot
   hold-ends-by-a-step h held e gone =
-      ⊎-elim (λ s. absurd (gone (ap word s))) (λ s. s) (ended-along list k h held seen (one-msisdn (holderIn (recordOf table k)) h e))
+      ⊎-elim (λ s. absurd (gone (ap word s))) (λ s. s) (ended-along list k h held seen (one-msisdn (holderIn (recordFor state k)) h e))
 
   -- if m holds k after them and did not before, one of their steps is her own registration, answered 01, in a crew's request too
-  pub hold-begins-by-a-step : (m : Msisdn) → isNobody m ≡ false → (holderOf table k ≡ m .0 → ⊥) → holderOf (end (call list delay) calls table) k ≡ m .0
+  pub hold-begins-by-a-step : (m : Msisdn) → isNobody m ≡ false → (holderOf state k ≡ m .0 → ⊥) → holderOf (end (call list delay) calls state) k ≡ m .0
       → Stood (beginsHold list m k) stepsGot
   hold-begins-by-a-step m some-one before after = begun-along list k m some-one seen before after
 
   -- with no such erasure among their steps, h holds k at the end
-  pub holds-to-the-end : (h : Msisdn) → isNobody h ≡ false → holderOf table k ≡ h .0 → never (endsHold list h k) stepsGot ≡ true
-      → holderOf (end (call list delay) calls table) k ≡ h .0
-  holds-to-the-end h held e u = ap word (held-along list k h held seen (one-msisdn (holderIn (recordOf table k)) h e) u)
+  pub holds-to-the-end : (h : Msisdn) → isNobody h ≡ false → holderOf state k ≡ h .0 → never (endsHold list h k) stepsGot ≡ true
+      → holderOf (end (call list delay) calls state) k ≡ h .0
+  holds-to-the-end h held e u = ap word (held-along list k h held seen (one-msisdn (holderIn (recordFor state k)) h e) u)

@@ -1,10 +1,11 @@
 -- What each answer that a request can get has, the request's answer has: one law for all that goes by the answers. Assumes nothing.
 use mathlib.Core.Path.{_≡_, refl}
-use mathlib.Core.Bool.{true}
+use mathlib.Core.Bool.{Bool, true, false, cond}
 use mathlib.Core.Option.{Option, none, some}
 use mathlib.Core.List.{List, map}
 use Prim.Native.Nat.{ℕ, _<_}
 use native.Mathlib.Omega.{arith}
+use lib.Dec.{eqb}
 use Rattle.answers.proofs.Decide.{decide-each}
 use Rattle.numbers.specs.declared.Msisdn.{Msisdn}
 use Rattle.crews.specs.Crews.{crewOf}
@@ -13,18 +14,30 @@ use Rattle.strings.specs.declared.Operation.the-variants.{Register, Erase, Inte
 use Rattle.strings.specs.declared.Erasing.{Erasing}
 use Rattle.strings.specs.Text.{Request}
 use Rattle.strings.specs.Outcomes.{requestOf}
+use Rattle.records.specs.declared.Notice.{Notice}
 use Rattle.tables.specs.declared.Found.{Found}
 use Rattle.tables.specs.declared.Found.the-variants.{At, Nothing}
-use Rattle.tables.specs.Tables.{tableSound, rowOf, recordOf, flagsOf}
-use Rattle.rules.specs.Answers.{refusal, error, Outcome, made, isNegativeNumber, refusing}
+use Rattle.tables.specs.Tables.{tableSound, flagsOf}
+use Rattle.states.specs.States.{State, figuresRight, stateSound, rowFor, recordFor}
+use Rattle.rules.specs.Answers.{Answer, refusal, error, delivered, dropped, again, Outcome, made, isNegativeNumber, refusing}
 use Rattle.rules.specs.Requests.{saying, refusalChecks, rightChecks, stepChecks, Stepping, tells, staying, carriedOut, carriedOutAt, step, negative, answered, replying, once, askingBy, requestingBy}
 use Rattle.rules.specs.Crews.{crewCodes, crewNumber, Walk, walked, setOut, crewOutcome, carriedOutFor, requesting}
+use Rattle.rules.specs.Notices.{clears, returned}
 use Rattle.rules.proofs.Once.{requestingOnce}
 use Rattle.rules.proofs.Tallied.{Tallied, crew-tallied}
 
-module _ (t reply : List ℕ) (P : Outcome → Type 0) (refused : (n : ℕ) → P (made (refusal n) t reply)) (erred : (n : ℕ) → P (made (error n) t reply))
+-- what a result returns is delivered, dropped or again
+pub returned-each : (P : Answer → Type 0) → P delivered → P dropped → P again → (kind : ℕ) (n : Notice) → P (returned kind n)
+returned-each P d o a kind n = go (eqb kind 0) (clears kind n)
+  where
+    go : (zero cleared : Bool) → P (cond zero delivered (cond cleared dropped again))
+    go true cleared = d
+    go false true = o
+    go false false = a
+
+module _ (t : State) (reply : List ℕ) (P : Outcome → Type 0) (refused : (n : ℕ) → P (made (refusal n) t reply)) (erred : (n : ℕ) → P (made (error n) t reply))
     (denied : (n : ℕ) → n < 100 → isNegativeNumber n ≡ true → P (saying n t reply))
-    (registered : (new : List ℕ) → P (saying 1 new reply)) (erased : (new : List ℕ) → P (saying 2 new reply))
+    (registered : (new : State) → P (saying 1 new reply)) (erased : (new : State) → P (saying 2 new reply))
     (told : (msisdn : ℕ) → P (answered reply (tells msisdn) t)) where
   abbrev Replied : Stepping → Type 0
   Replied s = P (replying reply s)
@@ -41,7 +54,7 @@ module _ (t reply : List ℕ) (P : Outcome → Type 0) (refused : (n : ℕ) → 
   step-each : (requester : Msisdn) (f : Request) → Replied (step t requester f)
   unfolding step
   step-each requester f =
-      decide-each Replied (map (staying t) (stepChecks requester f (recordOf t (f .number .0)))) _ (
+      decide-each Replied (map (staying t) (stepChecks requester f (recordFor t (f .number .0)))) _ (
         denied 41 (omega arith) refl,
         (
           denied 67 (omega arith) refl,
@@ -51,7 +64,7 @@ module _ (t reply : List ℕ) (P : Outcome → Type 0) (refused : (n : ℕ) → 
           ),
         ),
       )
-      (done-at-each f (rowOf t (f .number .0)) requester)
+      (done-at-each f (rowFor t (f .number .0)) requester)
 
   asking-each : (done : Request → Outcome) → ((f : Request) → P (done f)) → (flags : ℕ) (read : Option Request) → P (askingBy done t flags reply read)
   asking-each done all flags none = erred 36
@@ -61,8 +74,8 @@ module _ (t reply : List ℕ) (P : Outcome → Type 0) (refused : (n : ℕ) → 
   by-each : (done : Request → Outcome) → ((f : Request) → P (done f)) → (list : List ℕ) (requester : Msisdn) (scheme : ℕ) (string : List ℕ)
       → P (requestingBy done t list reply requester scheme string)
   by-each done all list requester scheme string =
-      decide-each P (refusing t reply (refusalChecks (tableSound t) list reply requester scheme string)) _
-      (refused 1, (refused 8, (refused 2, (erred 35, (erred 71, (erred 35, (erred 36, tt))))))) (asking-each done all (flagsOf list (requester .0)) (requestOf string))
+      decide-each P (refusing t reply (refusalChecks (tableSound (t .table)) (figuresRight t) list reply requester scheme string)) _
+      (refused 1, (refused 8, (refused 2, (refused 10, (erred 35, (erred 71, (erred 35, (erred 36, tt)))))))) (asking-each done all (flagsOf list (requester .0)) (requestOf string))
 
   -- of a single request
   pub once-each : (list : List ℕ) (requester : Msisdn) (scheme : ℕ) (string : List ℕ) → P (requestingOnce t list reply requester scheme string)

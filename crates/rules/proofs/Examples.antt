@@ -1,4 +1,4 @@
--- Document 01, "Examples": P1 to P15, and document 02's M-100 and M-101 (M-102 is P14), of the rules, computed from octets and words, as one list under one statement. Assumes nothing.
+-- Document 01, "Examples": P1 to P15, and document 02's M-100, M-101 and M-103 (M-102 is P14), of the rules, computed from octets and words, as one list under one statement. Assumes nothing.
 use mathlib.Core.Path.{_≡_, refl}
 use mathlib.Core.Bool.{Bool, true}
 use mathlib.Core.List.{List, [], _∷_, _++_, map}
@@ -21,7 +21,10 @@ use Rattle.records.specs.Steps.{elapsed, delayOf, delayAllowed}
 use Rattle.rows.specs.Rows as rows
 use Rattle.tables.specs.Keys.{placeOf}
 use Rattle.tables.specs.Tables.{tableUpTo, rowOf, recordOf, listSound, flagsOf}
-use Rattle.rules.specs.Answers.{Answer, refusal, error, outcome, returnError, reject, sentTo, dropped, again}
+use Rattle.tables.specs.Figures as figures
+use Rattle.states.specs.States as states
+use Rattle.states.specs.States.{State, beside, counted}
+use Rattle.rules.specs.Answers.{Answer, refusal, error, outcome, returnError, reject, sentTo, delivered, dropped, again}
 use Rattle.rules.specs.Requests as requests
 use Rattle.rules.specs.Crews as crews
 use Rattle.rules.specs.Frames as frame
@@ -62,12 +65,15 @@ room = replicate 80 0
 abbrev pub asks : ℕ → List ℕ → Call
 asks msisdn text = request (record { 0 = msisdn }) 0x0F (packed text) room
 
--- a sending of F's notice, and a result of kind 5, at a clock reading
+-- a sending of F's notice, a result, and one of kind 5, at a clock reading
 abbrev pub sends : ℕ → Call
 sends now = sending now (record { 0 = F }) room
 
+abbrev pub takes : ℕ → ℕ → Call
+takes kind now = result now (record { 0 = F }) kind
+
 abbrev pub fails : ℕ → Call
-fails now = result now (record { 0 = F }) 5
+fails now = takes 5 now
 
 -- the request strings of the examples
 abbrev pub registersF : List ℕ
@@ -91,10 +97,11 @@ interrogatesF = ascii "*#214*0492123401***#"
 abbrev pub halfForced : List ℕ
 halfForced = ascii "**214*0492123401*88**#"
 
--- by its label P1 to P15: characters and their octets; octets and what they read as; a table, calls over it, each with what it gets, and the table then
+-- by its label P1 to P15: characters and their octets; octets and what they read as; a table with the figures of a recount, calls over it, each with what it gets, and the table then, again with the figures of a recount; the same with figures by their words
 pub data Example : Type 0 where
   packs reads : ℕ → List ℕ → List ℕ → Example
   answers : ℕ → List ℕ → List (Call × Reply) → List ℕ → Example
+  keeps : ℕ → State → List (Call × Reply) → State → Example
 
 -- what a call gets: its answer, and the octets at the front of its buffer, all others as they were
 abbrev pub gets : Call → Answer → List ℕ → Call × Reply
@@ -103,17 +110,21 @@ gets c a octets = (c, record { answer = a; buffer = over octets (bufferOf c) })
 abbrev pub says : Call → ℕ → List ℕ → Call × Reply
 says c n octets = gets c (outcome n 2) octets
 
-abbrev pub go : Call → List ℕ → Reply × List ℕ
+abbrev pub go : Call → State → Reply × State
 go = call subscribers 0
 
 abbrev pub calls : List (Call × Reply) → List Call
 calls got = map (λ p. p .0) got
 
--- every answer, every octet of every buffer, and the table
+-- every answer, every octet of every buffer, table and figures
+abbrev pub Comes : State → List (Call × Reply) → State → Type 0
+Comes state got after = _≡_ {A = List (Call × Reply) × State} (log go (calls got) state, end go (calls got) state) (got, after)
+
 abbrev pub Holds : Example → Type 0
 Holds (packs p cs os) = packed cs ≡ os
 Holds (reads p os cs) = _≡_ {A = Bool × List ℕ} (readable os, unpacked os) (true, cs)
-Holds (answers p table got after) = _≡_ {A = List (Call × Reply) × List ℕ} (log go (calls got) table, end go (calls got) table) (got, after)
+Holds (answers p table got after) = Comes (counted table) got (counted after)
+Holds (keeps p state got after) = Comes state got after
 
 infixr 5 _and_
 pub data All : List Example → Type 0 where
@@ -165,7 +176,7 @@ examples =
     ∷ []
 
 pub p1-to-p15 : All examples
-unfolding countOf crewOf valueOf digits octetsFor charsIn padded packed characters readable filled kept unpacked isDigit pushed storedForm isNumber digitsUpTo digitsOf leading leadingNumber isAdditional textOf noticeFields begins operationAt serviceAt numberFieldAt forcedAt erasingAt additionalAt fieldsOf requestOf elapsed delayOf delayAllowed rows.noticeUpTo rows.rowUpTo rows.noticeOf rows.recordAt rows.stored placeOf tableUpTo rowOf recordOf listSound flagsOf requests.step crews.requesting notices.sendingNotice notices.takingResult
+unfolding countOf crewOf valueOf digits octetsFor charsIn padded packed characters readable filled kept unpacked isDigit pushed storedForm isNumber digitsUpTo digitsOf leading leadingNumber isAdditional textOf noticeFields begins operationAt serviceAt numberFieldAt forcedAt erasingAt additionalAt fieldsOf requestOf elapsed delayOf delayAllowed rows.noticeUpTo rows.rowUpTo rows.noticeOf rows.recordAt rows.stored placeOf tableUpTo rowOf recordOf figures.recount states.figuresRight states.moved listSound flagsOf requests.step crews.requesting notices.sendingNotice notices.takingResult
 p1-to-p15 =
     refl and refl and refl and refl and refl and refl and refl and refl and refl and refl and refl and refl and refl and refl and refl and refl and refl and refl and done
 
@@ -187,6 +198,12 @@ tenRows msisdn =
     member 1 msisdn ++ member 2 msisdn ++ member 3 msisdn ++ member 4 msisdn ++ member 5 msisdn
     ++ member 6 msisdn ++ member 7 msisdn ++ member 8 msisdn ++ member 9 msisdn ++ member 10 msisdn
 
+-- `11 10 01020304050607080910 0`
+abbrev pub registersTen : Call × Reply
+registersTen =
+    gets (asks A (registersCrew (ascii "BULK9 020304050607080910"))) (outcome 11 25)
+    (0xB1 ∷ 0x18 ∷ 0x28 ∷ 0x06 ∷ 0x03 ∷ 0xC1 ∷ 0x62 ∷ 0x30 ∷ 0x19 ∷ 0x6C ∷ 0x06 ∷ 0xA3 ∷ 0xC1 ∷ 0x6A ∷ 0x30 ∷ 0x1B ∷ 0xEC ∷ 0x06 ∷ 0xC3 ∷ 0xC1 ∷ 0x72 ∷ 0x31 ∷ 0x18 ∷ 0x08 ∷ 0x06 ∷ [])
+
 abbrev pub crewExamples : List Example
 crewExamples =
     -- `11 2 0102 0`
@@ -195,10 +212,8 @@ crewExamples =
     ∷ answers 100 (member 1 0 ++ member 2 B) (gets (asks A (registersCrew (ascii "BULK2 0203"))) (outcome 11 13) (0xB1 ∷ 0x18 ∷ 0x28 ∷ 0x06 ∷ 0x82 ∷ 0xC5 ∷ 0x40 ∷ 0x32 ∷ 0x10 ∷ 0x4C ∷ 0x06 ∷ 0x9B ∷ 0x01 ∷ []) ∷ []) (member 1 A ++ member 2 B)
     -- none: `11 0 2 0102`
     ∷ answers 100 (member 1 B ++ member 2 B) (gets (asks A (registersCrew (ascii "BULK1 02"))) (outcome 11 10) (0xB1 ∷ 0x18 ∷ 0x08 ∷ 0x06 ∷ 0x92 ∷ 0x81 ∷ 0x60 ∷ 0x31 ∷ 0x98 ∷ 0x0C ∷ []) ∷ []) (member 1 B ++ member 2 B)
-    -- ten: `11 10 01020304050607080910 0`
-    ∷ answers 100 (tenRows 0)
-    (gets (asks A (registersCrew (ascii "BULK9 020304050607080910"))) (outcome 11 25)
-    (0xB1 ∷ 0x18 ∷ 0x28 ∷ 0x06 ∷ 0x03 ∷ 0xC1 ∷ 0x62 ∷ 0x30 ∷ 0x19 ∷ 0x6C ∷ 0x06 ∷ 0xA3 ∷ 0xC1 ∷ 0x6A ∷ 0x30 ∷ 0x1B ∷ 0xEC ∷ 0x06 ∷ 0xC3 ∷ 0xC1 ∷ 0x72 ∷ 0x31 ∷ 0x18 ∷ 0x08 ∷ 0x06 ∷ []) ∷ []) (tenRows A)
+    -- ten; M-103: ten more are held
+    ∷ keeps 103 (beside (tenRows 0) (0 ∷ 0 ∷ 0 ∷ [])) (registersTen ∷ []) (beside (tenRows A) (10 ∷ 0 ∷ 0 ∷ []))
     -- the lead alone: `11 1 01 0`; then a crew of which she holds half, erased: `12 1 01 1 02`
     ∷ answers 100 (member 1 0 ++ member 2 B)
     (gets (asks A (registersCrew (ascii "BULK0"))) (outcome 11 8) (0xB1 ∷ 0x18 ∷ 0x28 ∷ 0x06 ∷ 0x82 ∷ 0xC5 ∷ 0x40 ∷ 0x30 ∷ [])
@@ -211,8 +226,70 @@ crewExamples =
     ∷ []
 
 pub m-100 : All crewExamples
-unfolding countOf crewOf countedCodesAt spacedCodesAt soundCodesAt codesAt codesIn codesSound isCode isIn distinct each crews.withCode crews.walked valueOf digits octetsFor charsIn padded packed characters readable filled kept unpacked isDigit pushed storedForm isNumber digitsUpTo digitsOf leading leadingNumber isAdditional textOf noticeFields begins operationAt serviceAt numberFieldAt forcedAt erasingAt additionalAt fieldsOf requestOf elapsed delayOf delayAllowed rows.noticeUpTo rows.rowUpTo rows.noticeOf rows.recordAt rows.stored placeOf tableUpTo rowOf recordOf listSound flagsOf requests.step crews.requesting notices.sendingNotice notices.takingResult
+unfolding countOf crewOf countedCodesAt spacedCodesAt soundCodesAt codesAt codesIn codesSound isCode isIn distinct each crews.withCode crews.walked valueOf digits octetsFor charsIn padded packed characters readable filled kept unpacked isDigit pushed storedForm isNumber digitsUpTo digitsOf leading leadingNumber isAdditional textOf noticeFields begins operationAt serviceAt numberFieldAt forcedAt erasingAt additionalAt fieldsOf requestOf elapsed delayOf delayAllowed rows.noticeUpTo rows.rowUpTo rows.noticeOf rows.recordAt rows.stored placeOf tableUpTo rowOf recordOf figures.recount states.figuresRight states.moved listSound flagsOf requests.step crews.requesting notices.sendingNotice notices.takingResult
 m-100 = refl and refl and refl and refl and refl and refl and done
+
+-- ---- document 02, M-103
+
+-- a call that leaves table and figures as they are
+abbrev pub leaves : State → Call × Reply → Example
+leaves state got = keeps 103 state (got ∷ []) state
+
+-- F held by A, with figures by their words
+abbrev pub heldWith : List ℕ → State
+heldWith words = beside (held A) words
+
+abbrev pub figuresExamples : List Example
+figuresExamples =
+    -- held and free again, and once more by her who holds it
+    keeps 103 (beside free (0 ∷ 0 ∷ 0 ∷ [])) (says (asks A registersF) 1 octets01 ∷ []) (heldWith (1 ∷ 0 ∷ 0 ∷ []))
+    ∷ leaves (heldWith (1 ∷ 0 ∷ 0 ∷ [])) (says (asks A registersF) 1 octets01)
+    ∷ keeps 103 (heldWith (1 ∷ 0 ∷ 0 ∷ [])) (says (asks A erasesF) 2 octets02 ∷ []) (beside free (0 ∷ 0 ∷ 0 ∷ []))
+    -- a forced erasure, by a supervisor and by the holder herself
+    ∷ keeps 103 (heldWith (1 ∷ 0 ∷ 0 ∷ [])) (says (asks B forcesA) 2 octets02 ∷ []) (beside (noticed 0 1 0) (0 ∷ 1 ∷ 0 ∷ []))
+    ∷ keeps 103 (beside (held B) (1 ∷ 0 ∷ 0 ∷ [])) (says (asks B forcesB) 2 octets02 ∷ []) (beside free (0 ∷ 0 ∷ 0 ∷ []))
+    -- a sending, and each kind of result
+    ∷ keeps 103 (beside (noticed 0 1 0) (0 ∷ 1 ∷ 0 ∷ [])) (gets (sends 7) (sentTo A 28) noticeOctets ∷ []) (beside (noticed 0 2 0) (0 ∷ 0 ∷ 1 ∷ []))
+    ∷ keeps 103 (beside (noticed 0 2 0) (0 ∷ 0 ∷ 1 ∷ [])) (gets (takes 0 7) delivered [] ∷ []) (beside free (0 ∷ 0 ∷ 0 ∷ []))
+    ∷ keeps 103 (beside (noticed 0 2 0) (0 ∷ 0 ∷ 1 ∷ [])) (gets (takes 1 7) dropped [] ∷ []) (beside free (0 ∷ 0 ∷ 0 ∷ []))
+    ∷ keeps 103 (beside (noticed 0 2 0) (0 ∷ 0 ∷ 1 ∷ [])) (gets (takes 2 7) dropped [] ∷ []) (beside free (0 ∷ 0 ∷ 0 ∷ []))
+    ∷ keeps 103 (beside (noticed 0 2 0) (0 ∷ 0 ∷ 1 ∷ [])) (gets (takes 3 7) dropped [] ∷ []) (beside free (0 ∷ 0 ∷ 0 ∷ []))
+    ∷ keeps 103 (beside (noticed 0 2 0) (0 ∷ 0 ∷ 1 ∷ [])) (gets (takes 4 7) dropped [] ∷ []) (beside free (0 ∷ 0 ∷ 0 ∷ []))
+    ∷ keeps 103 (beside (noticed 0 2 0) (0 ∷ 0 ∷ 1 ∷ [])) (gets (takes 5 7) again [] ∷ []) (beside (noticed 0 3 7) (0 ∷ 1 ∷ 0 ∷ []))
+    ∷ keeps 103 (beside (noticed A 12 0) (1 ∷ 0 ∷ 1 ∷ [])) (gets (takes 5 7) dropped [] ∷ []) (heldWith (1 ∷ 0 ∷ 0 ∷ []))
+    -- wrong by one, two words, four
+    ∷ leaves (heldWith (2 ∷ 0 ∷ 0 ∷ [])) (gets (asks A registersF) (refusal 10) [])
+    ∷ leaves (heldWith (0 ∷ 0 ∷ 0 ∷ [])) (gets (asks A registersF) (refusal 10) [])
+    ∷ leaves (heldWith (1 ∷ 1 ∷ 0 ∷ [])) (gets (asks A registersF) (refusal 10) [])
+    ∷ leaves (heldWith (1 ∷ 0 ∷ 1 ∷ [])) (gets (asks A registersF) (refusal 10) [])
+    ∷ leaves (heldWith (1 ∷ 0 ∷ [])) (gets (asks A registersF) (refusal 10) [])
+    ∷ leaves (heldWith (1 ∷ 0 ∷ 0 ∷ 0 ∷ [])) (gets (asks A registersF) (refusal 10) [])
+    -- 2 before 10; 10 before 35 and before 7
+    ∷ leaves (beside (noticed 0 13 0) (0 ∷ 0 ∷ [])) (gets (asks A registersF) (refusal 2) [])
+    ∷ leaves (heldWith (0 ∷ 0 ∷ 0 ∷ [])) (gets (asks 0 registersF) (refusal 10) [])
+    ∷ leaves (beside [] (1 ∷ 0 ∷ 0 ∷ [])) (gets (sends 7) (refusal 10) [])
+    ∷ leaves (beside [] (1 ∷ 0 ∷ 0 ∷ [])) (gets (fails 7) (refusal 10) [])
+    ∷ leaves (beside [] (0 ∷ 0 ∷ 0 ∷ [])) (gets (fails 7) (refusal 7) [])
+    ∷ []
+
+pub m-103 : All figuresExamples
+unfolding countOf crewOf valueOf digits octetsFor charsIn padded packed characters readable filled kept unpacked isDigit pushed storedForm isNumber digitsUpTo digitsOf leading leadingNumber isAdditional textOf noticeFields begins operationAt serviceAt numberFieldAt forcedAt erasingAt additionalAt fieldsOf requestOf elapsed delayOf delayAllowed rows.noticeUpTo rows.rowUpTo rows.noticeOf rows.recordAt rows.stored placeOf tableUpTo rowOf recordOf figures.recount states.figuresRight states.moved listSound flagsOf requests.step crews.requesting notices.sendingNotice notices.takingResult
+m-103 =
+    refl and refl and refl and refl and refl and refl and refl and refl and refl and refl and refl and refl and refl and refl and refl and refl and refl and refl and refl and refl and refl and refl and refl and refl and done
+
+-- every phase, three of the numbers held
+pub counts-phases : figures.recount
+    ((110001 ∷ A ∷ 0 ∷ 0 ∷ 0 ∷ 0 ∷ []) ++ (110002 ∷ 0 ∷ 1 ∷ A ∷ B ∷ 0 ∷ []) ++ (110003 ∷ B ∷ 2 ∷ A ∷ B ∷ 0 ∷ []) ++ (110004 ∷ 0 ∷ 3 ∷ A ∷ B ∷ 9 ∷ [])
+    ++ (110005 ∷ 0 ∷ 4 ∷ A ∷ B ∷ 0 ∷ []) ++ (110006 ∷ 0 ∷ 5 ∷ A ∷ B ∷ 9 ∷ []) ++ (110007 ∷ 0 ∷ 6 ∷ A ∷ B ∷ 0 ∷ []) ++ (110008 ∷ 0 ∷ 7 ∷ A ∷ B ∷ 9 ∷ [])
+    ++ (110009 ∷ 0 ∷ 8 ∷ A ∷ B ∷ 0 ∷ []) ++ (110010 ∷ 0 ∷ 9 ∷ A ∷ B ∷ 9 ∷ []) ++ (110011 ∷ 0 ∷ 10 ∷ A ∷ B ∷ 0 ∷ []) ++ (110012 ∷ 0 ∷ 11 ∷ A ∷ B ∷ 9 ∷ [])
+    ++ (110013 ∷ C ∷ 12 ∷ A ∷ B ∷ 0 ∷ []))
+    ≡ 3 ∷ 6 ∷ 6 ∷ []
+unfolding figures.recount
+counts-phases = refl
+
+pub counts-none : figures.recount [] ≡ 0 ∷ 0 ∷ 0 ∷ []
+unfolding figures.recount
+counts-none = refl
 
 -- ---- document 02, M-101
 
@@ -242,11 +319,13 @@ framedExamples =
     ∷ gets (frames 120 A (asking 0x7B 0x3B [])) (reject 2 12) (0x9B ∷ 0x2A ∷ 0x1C ∷ 0x08 ∷ 0xA4 ∷ 0x06 ∷ 0x02 ∷ 0x01 ∷ 0x05 ∷ 0x81 ∷ 0x01 ∷ 0x02 ∷ [])
     ∷ [])
     free
+    -- M-103: 10 before a Reject
+    ∷ keeps 103 (beside (held A) (0 ∷ 0 ∷ 0 ∷ [])) (gets (frames 120 A (asking 0x7B 0x3C messages.version)) (refusal 10) [] ∷ []) (beside (held A) (0 ∷ 0 ∷ 0 ∷ []))
     -- no Register, and a frame buffer under 120 octets
     ∷ answers 101 free
     (gets (frames 120 A (asking 0x3B 0x3B messages.version)) (refusal 11) [] ∷ gets (frames 119 A (asking 0x3B 0x3B messages.version)) (refusal 1) [] ∷ []) free
     ∷ []
 
 pub m-101 : All framedExamples
-unfolding countOf crewOf valueOf digits octetsFor charsIn padded packed characters readable filled kept unpacked isDigit pushed storedForm isNumber digitsUpTo digitsOf leading leadingNumber isAdditional textOf noticeFields begins operationAt serviceAt numberFieldAt forcedAt erasingAt additionalAt fieldsOf requestOf elapsed delayOf delayAllowed rows.noticeUpTo rows.rowUpTo rows.noticeOf rows.recordAt rows.stored placeOf tableUpTo rowOf recordOf listSound flagsOf requests.step crews.requesting notices.sendingNotice notices.takingResult part contentsOf octetAt component bodyOf invokeOf messages.messageOf messages.registerOf messages.release messages.inverted frame.framedRequest
-m-101 = refl and refl and refl and refl and done
+unfolding countOf crewOf valueOf digits octetsFor charsIn padded packed characters readable filled kept unpacked isDigit pushed storedForm isNumber digitsUpTo digitsOf leading leadingNumber isAdditional textOf noticeFields begins operationAt serviceAt numberFieldAt forcedAt erasingAt additionalAt fieldsOf requestOf elapsed delayOf delayAllowed rows.noticeUpTo rows.rowUpTo rows.noticeOf rows.recordAt rows.stored placeOf tableUpTo rowOf recordOf figures.recount states.figuresRight states.moved listSound flagsOf requests.step crews.requesting notices.sendingNotice notices.takingResult part contentsOf octetAt component bodyOf invokeOf messages.messageOf messages.registerOf messages.release messages.inverted frame.framedRequest
+m-101 = refl and refl and refl and refl and refl and done

@@ -22,6 +22,8 @@ use Rattle.frames.specs.Components.{wrong, asks}
 use Rattle.frames.specs.Components as components
 use Rattle.frames.specs.Messages.{frameRoom, Register, registerOf}
 use Rattle.tables.specs.Tables.{tableSound, listSound, flagsOf}
+use Rattle.states.specs.States.{State, figuresRight, stateSound}
+use Rattle.states.proofs.States.{state-table, state-right}
 use Rattle.rules.specs.Answers.{Answer, refusal, error, outcome, reject, refusalClass, errorClass, outcomeClass, numbersOf, isOf, isRefusal, isError, Outcome, made, bufferRoom, holderText, packedOver, octetCount, refusing}
 use Rattle.rules.specs.Requests.{saying, mostStringOctets, rightChecks, Verdict, says, tells, step, negative, answered, askingBy}
 use Rattle.rules.specs.Crews.{crewCodes, crewNumber, crewReply, walked, setOut, carriedOutFor, requesting}
@@ -44,7 +46,7 @@ decide-both R h k (check ∷ checks) u v each last = go (check .0) (decide-both 
 
 -- ---- a bare request over any words, with room in its buffer
 
-module _ (t list : List ℕ) (requester : Msisdn) (scheme : ℕ) (string : List ℕ) where
+module _ (t : State) (list : List ℕ) (requester : Msisdn) (scheme : ℕ) (string : List ℕ) where
   abbrev flags : ℕ
   flags = flagsOf list (requester .0)
 
@@ -60,47 +62,47 @@ module _ (t list : List ℕ) (requester : Msisdn) (scheme : ℕ) (string : List 
       ∷ (ltb mostStringOctets (length string) || isNone (requestOf string), error 36)
       ∷ []
 
-  -- ---- it is answered an outcome or an error, over a sound list and table
+  -- ---- it is answered an outcome or an error, over a sound list and state
 
-  module _ (reply : List ℕ) (room : bufferRoom ≤ length reply) where
+  module _ (reply : List ℕ) where
     abbrev Heard : Outcome → Type 0
     Heard o = (isOf outcomeClass (o .answer) || isError (o .answer)) ≡ true
 
-    heard-step : (v : Verdict) (new : List ℕ) → Heard (answered reply v new)
+    heard-step : (v : Verdict) (new : State) → Heard (answered reply v new)
     heard-step (says n) new = refl
     heard-step (tells msisdn) new = refl
 
     heard-done : (f : Request) (codes : Option (List ℕ)) → Heard (carriedOutFor t reply requester f codes)
-    heard-done f none = heard-step (step t requester f .verdict) (step t requester f .table)
+    heard-done f none = heard-step (step t requester f .verdict) (step t requester f .state)
     heard-done f (some codes) = refl
 
-    heard-read : (read : Option Request) → Heard (askingBy (done reply) t flags reply read)
+    pub heard-read : (read : Option Request) → Heard (askingBy (done reply) t flags reply read)
     heard-read none = refl
     heard-read (some f) =
         decide-each Heard (map (negative t reply) (rightChecks flags (f .erasing))) (done reply f) (refl, (refl, tt)) (heard-done f (crewOf (f .additional)))
 
-    heard : listSound list ≡ true → tableSound t ≡ true → Heard (requesting t list reply requester scheme string)
+    heard : bufferRoom ≤ length reply → listSound list ≡ true → stateSound t ≡ true → Heard (requesting t list reply requester scheme string)
     unfolding requesting
-    heard listed sound = rw (le-ltb (length reply) bufferRoom room, listed, sound)
+    heard room listed sound = rw (le-ltb (length reply) bufferRoom room, listed, state-table t sound, state-right t sound)
         (decide-each Heard (refusing t reply errors) (askingBy (done reply) t flags reply (requestOf string)) (refl, (refl, (refl, (refl, tt)))) (heard-read (requestOf string)))
 
-  -- ---- its answer, its string and its table do not depend on what the buffer held: they are the same in a frame
+  -- ---- its answer, its string and its state do not depend on what the buffer held: they are the same in a frame
 
   module _ (first number : ℕ) (frame a b : List ℕ) where
     abbrev Alike : Outcome → Outcome → Type 0
     Alike o p = inFrame first number frame o ≡ inFrame first number frame p
 
-    alike-saying : (n : ℕ) (text new : List ℕ) → Alike (made (outcome n (octetCount text)) new (packedOver text a)) (made (outcome n (octetCount text)) new (packedOver text b))
+    alike-saying : (n : ℕ) (text : List ℕ) (new : State) → Alike (made (outcome n (octetCount text)) new (packedOver text a)) (made (outcome n (octetCount text)) new (packedOver text b))
     alike-saying n text new = rw (string-written text a, string-written text b) refl
 
-    alike-step : (v : Verdict) (new : List ℕ) → Alike (answered a v new) (answered b v new)
+    alike-step : (v : Verdict) (new : State) → Alike (answered a v new) (answered b v new)
     alike-step (says n) new = alike-saying n (twoDigits n) new
     alike-step (tells msisdn) new = rw (string-written (holderText msisdn) a, string-written (holderText msisdn) b) refl
 
     alike-done : (f : Request) (codes : Option (List ℕ)) → Alike (carriedOutFor t a requester f codes) (carriedOutFor t b requester f codes)
-    alike-done f none = alike-step (step t requester f .verdict) (step t requester f .table)
+    alike-done f none = alike-step (step t requester f .verdict) (step t requester f .state)
     alike-done f (some codes) =
-        let w = walked requester f (crewCodes codes) (setOut t) in alike-saying (crewNumber (f .operation)) (crewReply (crewNumber (f .operation)) w) (w .table)
+        let w = walked requester f (crewCodes codes) (setOut t) in alike-saying (crewNumber (f .operation)) (crewReply (crewNumber (f .operation)) w) (w .state)
 
     alike-read : (read : Option Request) → Alike (askingBy (done a) t flags a read) (askingBy (done b) t flags b read)
     alike-read none = refl
@@ -112,25 +114,25 @@ module _ (t list : List ℕ) (requester : Msisdn) (scheme : ℕ) (string : List 
         → Alike (requesting t list a requester scheme string) (requesting t list b requester scheme string)
     unfolding requesting
     alike p q = rw (le-ltb (length a) bufferRoom p, le-ltb (length b) bufferRoom q)
-        (decide-both Alike (λ x. made x t a) (λ x. made x t b) ((not (listSound list), refusal 8) ∷ (not (tableSound t), refusal 2) ∷ errors)
+        (decide-both Alike (λ x. made x t a) (λ x. made x t b) ((not (listSound list), refusal 8) ∷ (not (tableSound (t .table)), refusal 2) ∷ (not (figuresRight t), refusal 10) ∷ errors)
         (askingBy (done a) t flags a (requestOf string)) (askingBy (done b) t flags b (requestOf string))
-        (refl, (refl, (refl, (refl, (refl, (refl, tt)))))) (alike-read (requestOf string)))
+        (refl, (refl, (refl, (refl, (refl, (refl, (refl, tt))))))) (alike-read (requestOf string)))
 
 -- ---- the framed request
 
 -- no outcome and no error is a refusal
-no-refusal : (a : Answer) → (isOf outcomeClass a || isError a) ≡ true → isRefusal a ≡ false
+pub no-refusal : (a : Answer) → (isOf outcomeClass a || isError a) ≡ true → isRefusal a ≡ false
 no-refusal a h =
     let class = or-cases (isOf outcomeClass a) (isError a) h in
     ne-eqb (numbersOf a .class) refusalClass (λ e. ⊎-elim (λ o. omega (arith, eqb-true (numbersOf a .class) outcomeClass o)) (λ o. omega (arith, eqb-true (numbersOf a .class) errorClass o)) class)
 
-module _ (list : List ℕ) (delay : ℕ) (requester : Msisdn) (message frame table : List ℕ) where
-  abbrev got : Reply × List ℕ
-  got = call list delay (framed requester message frame) table
+module _ (list : List ℕ) (delay : ℕ) (requester : Msisdn) (message frame : List ℕ) (state : State) where
+  abbrev got : Reply × State
+  got = call list delay (framed requester message frame) state
 
-  -- what each check gives: a refusal, with the frame and the table as they were
-  abbrev refusedWith : ℕ → Reply × List ℕ
-  refusedWith n = (record { answer = refusal n; buffer = frame }, table)
+  -- what each check gives: a refusal, with frame, table and figures as they were
+  abbrev refusedWith : ℕ → Reply × State
+  refusedWith n = (record { answer = refusal n; buffer = frame }, state)
 
   pub framed-short : length frame < frameRoom → got ≡ refusedWith 1
   unfolding framedRequest
@@ -147,30 +149,34 @@ module _ (list : List ℕ) (delay : ℕ) (requester : Msisdn) (message frame tab
       framed-unlisted unlisted = rw (le-ltb (length frame) frameRoom room, reads, unlisted) refl
 
       module _ (listed : listSound list ≡ true) where
-        pub framed-unsound : tableSound table ≡ false → got ≡ refusedWith 2
+        pub framed-unsound : tableSound (state .table) ≡ false → got ≡ refusedWith 2
         unfolding framedRequest
         framed-unsound unsound = rw (le-ltb (length frame) frameRoom room, reads, listed, unsound) refl
 
-        module _ (sound : tableSound table ≡ true) where
-          passes : anyHolds (framedChecks true list frame message) ≡ false
+        pub framed-miscounted : tableSound (state .table) ≡ true → figuresRight state ≡ false → got ≡ refusedWith 10
+        unfolding framedRequest
+        framed-miscounted sound differ = rw (le-ltb (length frame) frameRoom room, reads, listed, sound, differ) refl
+
+        module _ (sound : stateSound state ≡ true) where
+          passes : anyHolds (framedChecks true true list frame message) ≡ false
           passes = rw (le-ltb (length frame) frameRoom room, reads, listed) refl
 
           -- "only then a Reject"
-          pub framed-rejected : (problem : ℕ) → r .body ≡ wrong problem → got ≡ (givenBack r frame (reject problem) (components.reject (r .number) problem), table)
+          pub framed-rejected : (problem : ℕ) → r .body ≡ wrong problem → got ≡ (givenBack r frame (reject problem) (components.reject (r .number) problem), state)
           unfolding framedRequest
-          framed-rejected problem b = ap replied (frame-rejects list frame message _ table sound r reads passes problem b)
+          framed-rejected problem b = ap replied (frame-rejects list frame message _ state sound r reads passes problem b)
 
           -- the framed request equals the bare one
           module _ (scheme : ℕ) (string : List ℕ) (body : r .body ≡ asks scheme string) (reply : List ℕ) (enough : bufferRoom ≤ length reply) where
             abbrev bare : Outcome
-            bare = requesting table list reply requester scheme string
+            bare = requesting state list reply requester scheme string
 
             -- what the bare request comes to, in the frame
-            pub framed-bare : framedRequest table list frame requester message ≡ inFrame (r .first) (r .number) frame bare
+            pub framed-bare : framedRequest state list frame requester message ≡ inFrame (r .first) (r .number) frame bare
             unfolding framedRequest
             framed-bare =
-                frame-asks list frame message _ table sound r reads passes scheme string body
-                ∙ alike table list requester scheme string (r .first) (r .number) frame ownReply reply (omega arith) enough
+                frame-asks list frame message _ state sound r reads passes scheme string body
+                ∙ alike state list requester scheme string (r .first) (r .number) frame ownReply reply (omega arith) enough
 
             got-bare : got ≡ replied (inFrame (r .first) (r .number) frame bare)
             got-bare = ap replied framed-bare
@@ -178,9 +184,9 @@ module _ (list : List ℕ) (delay : ℕ) (requester : Msisdn) (message frame tab
             abbrev inside : Inside
             inside = record { first = r .first; number = r .number; scheme = scheme; string = string }
 
-            pub as-bare : AsBare list delay requester message frame r scheme string reply table
-            as-bare = let answers = heard table list requester scheme string reply enough listed sound in record {
-              table-after = ap (λ x. x .1) (got-bare ∙ in-envelope inside frame bare);
+            pub as-bare : AsBare list delay requester message frame r scheme string reply state
+            as-bare = let answers = heard state list requester scheme string reply enough listed sound in record {
+              state-after = ap (λ x. x .1) (got-bare ∙ in-envelope inside frame bare);
               outcome-framed = λ n octets e. ap (λ x. x .0) got-bare ∙ rw e refl;
               holder-framed = λ msisdn octets e. ap (λ x. x .0) got-bare ∙ rw e refl;
               error-framed = λ n e. ap (λ x. x .0) got-bare ∙ rw e refl;

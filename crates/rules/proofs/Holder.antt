@@ -23,7 +23,8 @@ use Rattle.records.specs.declared.Holder.the-variants as holds
 use Rattle.records.specs.declared.Sending.the-variants as launches
 use Rattle.records.specs.declared.Resulted.the-variants.{Refused, Delivered, Dropped, Again}
 use Rattle.records.specs.Steps as steps
-use Rattle.tables.specs.Tables.{tableSound, recordOf, flagsOf}
+use Rattle.tables.specs.Tables.{flagsOf}
+use Rattle.states.specs.States.{State, stateSound, recordFor}
 use Rattle.rules.specs.Answers.{Answer, refusal, bufferRoom, isOutcome}
 use Rattle.rules.specs.Requests.{holderIn, afterErasure, rightChecks}
 use Rattle.rules.specs.Frames.{Inside, insideOf, ownReply}
@@ -144,14 +145,14 @@ missed-says list (result now number kind) q = refl
 
 module _ (list : List ℕ) (delay k : ℕ) where
   -- after a call that names k, its answer says who holds k
-  single-says : (c : Call) (t : List ℕ) → tableSound t ≡ true → namesOne list c k ≡ true
+  single-says : (c : Call) (t : State) → stateSound t ≡ true → namesOne list c k ≡ true
       → holderOf (single list delay c t .1) k ≡ said (single list delay c t .0 .answer) (requesterOf c) (holderOf t k)
-  single-says c t sound m = go (recordOf t k) refl
+  single-says c t sound m = go (recordFor t k) refl
     where
       n : nameOf list c ≡ some k
       n = named-some (nameOf list c) k m
 
-      go : (o : Option Record) → recordOf t k ≡ o
+      go : (o : Option Record) → recordFor t k ≡ o
           → holderOf (single list delay c t .1) k ≡ said (single list delay c t .0 .answer) (requesterOf c) (holderOf t k)
       go none e =
           let x = single-absent list delay c t sound k n e in
@@ -187,7 +188,7 @@ turn c a ps h = go (isOutcome 1 (a .answer)) refl (isOutcome 2 (a .answer))
     go false e false = refl
 
 -- the holder at the end is said by the last call that names k and was answered 01 or 02
-pub held : (list : List ℕ) (delay k : ℕ) (cs : List Call) (t : List ℕ) → tableSound t ≡ true
+pub held : (list : List ℕ) (delay k : ℕ) (cs : List Call) (t : State) → stateSound t ≡ true
     → holderOf (end (single list delay) cs t) k ≡ holderAfter (last (only (decidesHolder list k) (log (single list delay) cs t))) (holderOf t k)
 held list delay k [] t sound = refl
 held list delay k (c ∷ cs) t sound =

@@ -1,4 +1,4 @@
--- A framed call beside the request inside it. Over a sound table it has one reply whatever the table, which stays; or it is the request inside, with its reply put into the frame. Assumes nothing.
+-- A framed call beside the request inside it. Over a sound state it has one reply whatever the state, which stays; or it is the request inside, with its reply put into the frame. Assumes nothing.
 use mathlib.Core.Path.{_≡_, refl, sym, ap, _∙_}
 use mathlib.Core.Logic.{_⊎_, inl, inr}
 use mathlib.Core.Bool.{Bool, true, false, cond}
@@ -16,7 +16,8 @@ use Rattle.numbers.specs.declared.Msisdn.{Msisdn}
 use Rattle.frames.specs.Components.{Body, wrong, asks}
 use Rattle.frames.specs.Components as components
 use Rattle.frames.specs.Messages.{Register, registerOf}
-use Rattle.tables.specs.Tables.{tableSound}
+use Rattle.states.specs.States.{State, beside, stateSound}
+use Rattle.states.proofs.States.{state-table, state-right}
 use Rattle.rules.specs.Answers.{Answer, refusal, error, outcome, holderIs, returnError, reject, sentTo, delivered, dropped, again, found, noneDue, Outcome, made, outcomeClass, isOf, isRefusal, isOutcome, packedOver, octetCount, refusing}
 use Rattle.rules.specs.Crews.{requesting}
 use Rattle.rules.specs.Frames.{framedChecks, releasing, answeredIn, inFrame, Inside, insideOf, ownReply, registered, framedBy, framedRequest}
@@ -24,15 +25,15 @@ use Rattle.rules.specs.Calls.{Call, request, framed, Reply, replied, cal
 use Rattle.rules.specs.Visits.{enveloped}
 use Rattle.rules.proofs.Once.{requestingOnce, framedOnce, single}
 
--- a reply turned, with the table as it is
-abbrev pub turned : (Reply → Reply) → Reply × List ℕ → Reply × List ℕ
+-- a reply turned, with the state as it is
+abbrev pub turned : (Reply → Reply) → Reply × State → Reply × State
 turned f r = (f (r .0), r .1)
 
 -- the call c is d, with its reply turned
 pub record Wraps (list : List ℕ) (delay : ℕ) (turn : Reply → Reply) (c d : Call) : Type 0 where
   pub outcomes : (r : Reply) (n : ℕ) → isOutcome n (turn r .answer) ≡ isOutcome n (r .answer)
-  pub calls : (t : List ℕ) → tableSound t ≡ true → call list delay c t ≡ turned turn (call list delay d t)
-  pub singles : (t : List ℕ) → tableSound t ≡ true → single list delay c t ≡ turned turn (single list delay d t)
+  pub calls : (t : State) → stateSound t ≡ true → call list delay c t ≡ turned turn (call list delay d t)
+  pub singles : (t : State) → stateSound t ≡ true → single list delay c t ≡ turned turn (single list delay d t)
   pub name : nameOf list c ≡ nameOf list d
   pub read : readOf c ≡ readOf d
 
@@ -42,14 +43,14 @@ itself list delay c = record { outcomes = λ r n. refl; calls = λ t sound. refl
 
 -- ---- an answer in its frame
 
-module _ (first number : ℕ) (frame table reply : List ℕ) where
+module _ (first number : ℕ) (frame : List ℕ) (state : State) (reply : List ℕ) where
   abbrev within : Answer → Reply
-  within a = replied (answeredIn first number frame [] reply a) .0
+  within a = replied (answeredIn first number frame (beside [] []) reply a) .0
 
-  -- the table is the request's, and so is the outcome, and a refusal is one
+  -- the state is the request's, and so is the outcome, and a refusal is one
   abbrev Within : Answer → Type 0
   Within a =
-      (replied (answeredIn first number frame table reply a) ≡ (within a, table))
+      (replied (answeredIn first number frame state reply a) ≡ (within a, state))
       × ((n : ℕ) → isOutcome n (within a .answer) ≡ isOutcome n a)
       × (isRefusal (within a .answer) ≡ isRefusal a)
 
@@ -69,33 +70,33 @@ module _ (first number : ℕ) (frame table reply : List ℕ) where
 
 -- what comes to an outcome in the frame is that outcome without it
 pub outcome-kept : (i : Inside) (frame : List ℕ) (r : Reply) (n : ℕ) → isOutcome n (enveloped i frame r .answer) ≡ isOutcome n (r .answer)
-outcome-kept i frame r = in-frame (i .first) (i .number) frame [] (r .buffer) (r .answer) .1
+outcome-kept i frame r = in-frame (i .first) (i .number) frame (beside [] []) (r .buffer) (r .answer) .1
 
 pub refusal-kept : (i : Inside) (frame : List ℕ) (r : Reply) → isRefusal (enveloped i frame r .answer) ≡ isRefusal (r .answer)
-refusal-kept i frame r = in-frame (i .first) (i .number) frame [] (r .buffer) (r .answer) .2
+refusal-kept i frame r = in-frame (i .first) (i .number) frame (beside [] []) (r .buffer) (r .answer) .2
 
 pub in-envelope : (i : Inside) (frame : List ℕ) (o : Outcome) → replied (inFrame (i .first) (i .number) frame o) ≡ turned (enveloped i frame) (replied o)
-in-envelope i frame o = in-frame (i .first) (i .number) frame (o .table) (o .buffer) (o .answer) .0
+in-envelope i frame o = in-frame (i .first) (i .number) frame (o .state) (o .buffer) (o .answer) .0
 
 -- the string that a reply holds: what was packed over its front
 pub string-written : (text reply : List ℕ) → take (octetCount text) (packedOver text reply) ≡ packed text
 string-written text reply = take-at (packed text) (drop (length (packed text)) reply) (octetCount text) refl
 
--- ---- the checks of a frame, over a sound table, whatever is asked inside
+-- ---- the checks of a frame, over a sound state, whatever is asked inside
 
 module _ (list frame message : List ℕ) where
   abbrev checks : List (Bool × Answer)
-  checks = framedChecks true list frame message
+  checks = framedChecks true true list frame message
 
   abbrev refused : Bool
   refused = anyHolds checks
 
-  module _ (asked : ℕ → List ℕ → Outcome) (t : List ℕ) (sound : tableSound t ≡ true) where
+  module _ (asked : ℕ → List ℕ → Outcome) (t : State) (sound : stateSound t ≡ true) where
     abbrev behind : Outcome
     behind = registered asked t frame (registerOf message)
 
     in-two : framedBy asked t list frame message ≡ decide (refusing t frame checks) behind
-    in-two = rw sound
+    in-two = rw (state-table t sound, state-right t sound)
 
     any-refuses : anyHolds (refusing t frame checks) ≡ refused
     any-refuses = any-answering (λ a. made a t frame) checks
@@ -141,9 +142,9 @@ module _ (list frame message : List ℕ) where
         go false (some i) e n = (i, e, n)
 
     module _ (delay : ℕ) where
-      -- the same reply r over every sound table, which stays
-      abbrev Always : Reply → (List ℕ → Reply × List ℕ) → Type 0
-      Always r f = (t : List ℕ) → tableSound t ≡ true → f t ≡ (r, t)
+      -- the same reply r over every sound state, which stays
+      abbrev Always : Reply → (State → Reply × State) → Type 0
+      Always r f = (t : State) → stateSound t ≡ true → f t ≡ (r, t)
 
       pub data Opened : Type 0 where
         -- refused by a check of the frame, or rejected: no outcome, and no number is named
@@ -154,13 +155,13 @@ module _ (list frame message : List ℕ) where
       opened-refused : refused ≡ true → Opened
       unfolding framedRequest framedOnce
       opened-refused h =
-          shut _ (decide-each (λ a. isOf outcomeClass a ≡ false) checks (refusal 11) (refl, (refl, (refl, (refl, tt)))) refl) (inl h) (rw h refl)
+          shut _ (decide-each (λ a. isOf outcomeClass a ≡ false) checks (refusal 11) (refl, (refl, (refl, (refl, (refl, tt))))) refl) (inl h) (rw h refl)
           (λ t sound. ap replied (frame-refuses _ t sound h)) (λ t sound. ap replied (frame-refuses _ t sound h))
 
       by-body : (r : Register) → registerOf message ≡ some r → refused ≡ false → (body : Body) → r .body ≡ body → Opened
       unfolding framedRequest framedOnce
       by-body r e h (wrong problem) b =
-          shut (replied (releasing (reject problem) [] (r .first) frame (components.reject (r .number) problem)) .0) refl (inr (rw (e, b) refl)) (rw (h, e, b) refl)
+          shut (replied (releasing (reject problem) (beside [] []) (r .first) frame (components.reject (r .number) problem)) .0) refl (inr (rw (e, b) refl)) (rw (h, e, b) refl)
           (λ t sound. ap replied (frame-rejects _ t sound r e h problem b)) (λ t sound. ap replied (frame-rejects _ t sound r e h problem b))
       by-body r e h (asks scheme string) b = carries i (rw (e, b) refl) h (record {
         outcomes = outcome-kept i frame;

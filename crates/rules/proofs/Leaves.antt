@@ -19,10 +19,10 @@ use Rattle.frames.specs.Components.{Body, wrong, asks}
 use Rattle.frames.specs.Components as components
 use Rattle.frames.specs.Messages.{registerOf, release, inverted}
 use Rattle.frames.specs.Messages as messages
-use Rattle.rows.specs.Rows.{recordAt}
 use Rattle.tables.specs.declared.Found.{Found}
 use Rattle.tables.specs.declared.Found.the-variants.{At, Nothing}
-use Rattle.tables.specs.Tables.{tableSound, rowOf, recordOf}
+use Rattle.tables.specs.Tables.{tableSound}
+use Rattle.states.specs.States.{State, figuresRight, stateSound, rowFor, recordFor, recordIn, storedIn}
 use Rattle.rules.specs.Answers.{Answer, refusal, error, outcome, holderIs, returnError, reject, delivered, dropped, again as sendAgain, Outcome, made, outcomeClass, numbersOf, isOf, isRefusal, isError, isReturnError, isReject, isNegativeNumber, isNegative, crewRegistered, crewErased, packedOver, octetCount, refusing}
 use Rattle.rules.specs.Crews.{crewNumber, requesting}
 use Rattle.rules.specs.Frames.{framedChecks, inFrame, ownReply, bodied, registered, framedRequest}
@@ -30,19 +30,19 @@ use Rattle.rules.specs.Notices as notices
 use Rattle.rules.specs.Calls.{Call, request, framed, sending, result, bufferOf, clockReading, call}
 use Rattle.rules.specs.Demand.{mayChange, releaseOver, replyOver}
 use Rattle.rules.proofs.Inside.{string-written}
-use Rattle.rules.proofs.Each.{request-each}
+use Rattle.rules.proofs.Each.{returned-each, request-each}
 
-module _ (c : Call) (table : List ℕ) where
+module _ (c : Call) (state : State) where
   pub record Leaves (o : Outcome) : Type 0 where
-    pub refused : (isRefusal (o .answer) || isError (o .answer)) ≡ true → (o .table ≡ table) × (o .buffer ≡ bufferOf c)
-    pub negative : isNegative (o .answer) ≡ true → (o .table ≡ table) × (o .buffer ≡ replyOver c (packed (twoDigits (numbersOf (o .answer) .number))))
+    pub refused : (isRefusal (o .answer) || isError (o .answer)) ≡ true → (o .state ≡ state) × (o .buffer ≡ bufferOf c)
+    pub negative : isNegative (o .answer) ≡ true → (o .state ≡ state) × (o .buffer ≡ replyOver c (packed (twoDigits (numbersOf (o .answer) .number))))
     pub returned-error :
-        isReturnError (o .answer) ≡ true → (o .table ≡ table) × (o .buffer ≡ releaseOver c (λ number. components.error number (numbersOf (o .answer) .number)))
-    pub rejected : isReject (o .answer) ≡ true → (o .table ≡ table) × (o .buffer ≡ releaseOver c (λ number. components.reject number (numbersOf (o .answer) .number)))
-    pub others : isOf outcomeClass (o .answer) ≡ true → mayChange (o .answer) ≡ false → o .table ≡ table
+        isReturnError (o .answer) ≡ true → (o .state ≡ state) × (o .buffer ≡ releaseOver c (λ number. components.error number (numbersOf (o .answer) .number)))
+    pub rejected : isReject (o .answer) ≡ true → (o .state ≡ state) × (o .buffer ≡ releaseOver c (λ number. components.reject number (numbersOf (o .answer) .number)))
+    pub others : isOf outcomeClass (o .answer) ≡ true → mayChange (o .answer) ≡ false → o .state ≡ state
 
   -- a refusal, an error: nothing is written
-  refuses : (n : ℕ) → Leaves (made (refusal n) table (bufferOf c))
+  refuses : (n : ℕ) → Leaves (made (refusal n) state (bufferOf c))
   refuses n = record {
     refused = λ e. (refl, refl);
     negative = λ e. no-path e;
@@ -51,7 +51,7 @@ module _ (c : Call) (table : List ℕ) where
     others = λ e f. refl;
   }
 
-  errs : (n : ℕ) → Leaves (made (error n) table (bufferOf c))
+  errs : (n : ℕ) → Leaves (made (error n) state (bufferOf c))
   errs n = record {
     refused = λ e. (refl, refl);
     negative = λ e. no-path e;
@@ -61,7 +61,7 @@ module _ (c : Call) (table : List ℕ) where
   }
 
   -- the same in a frame
-  returns-error : (n octets : ℕ) (buffer : List ℕ) → buffer ≡ releaseOver c (λ number. components.error number n) → Leaves (made (returnError n octets) table buffer)
+  returns-error : (n octets : ℕ) (buffer : List ℕ) → buffer ≡ releaseOver c (λ number. components.error number n) → Leaves (made (returnError n octets) state buffer)
   returns-error n octets buffer b = record {
     refused = λ e. no-path e;
     negative = λ e. no-path e;
@@ -70,7 +70,7 @@ module _ (c : Call) (table : List ℕ) where
     others = λ e f. refl;
   }
 
-  rejects : (n octets : ℕ) (buffer : List ℕ) → buffer ≡ releaseOver c (λ number. components.reject number n) → Leaves (made (reject n octets) table buffer)
+  rejects : (n octets : ℕ) (buffer : List ℕ) → buffer ≡ releaseOver c (λ number. components.reject number n) → Leaves (made (reject n octets) state buffer)
   rejects n octets buffer b = record {
     refused = λ e. no-path e;
     negative = λ e. no-path e;
@@ -80,7 +80,7 @@ module _ (c : Call) (table : List ℕ) where
   }
 
   -- a negative outcome: its two characters
-  denies : (n octets : ℕ) (buffer : List ℕ) → buffer ≡ replyOver c (packed (twoDigits n)) → Leaves (made (outcome n octets) table buffer)
+  denies : (n octets : ℕ) (buffer : List ℕ) → buffer ≡ replyOver c (packed (twoDigits n)) → Leaves (made (outcome n octets) state buffer)
   denies n octets buffer b = record {
     refused = λ e. no-path e;
     negative = λ e. (refl, b);
@@ -90,7 +90,7 @@ module _ (c : Call) (table : List ℕ) where
   }
 
   -- 01, 02, and a crew's
-  changes : (n octets : ℕ) (new buffer : List ℕ) → mayChange (outcome n octets) ≡ true → isNegativeNumber n ≡ false → Leaves (made (outcome n octets) new buffer)
+  changes : (n octets : ℕ) (new : State) (buffer : List ℕ) → mayChange (outcome n octets) ≡ true → isNegativeNumber n ≡ false → Leaves (made (outcome n octets) new buffer)
   changes n octets new buffer d p = record {
     refused = λ e. no-path e;
     negative = λ e. no-path (sym p ∙ e);
@@ -99,12 +99,12 @@ module _ (c : Call) (table : List ℕ) where
     others = λ e f. no-path (sym f ∙ d);
   }
 
-  crew-changes : (o : Operation) (octets : ℕ) (new buffer : List ℕ) → Leaves (made (outcome (crewNumber o) octets) new buffer)
+  crew-changes : (o : Operation) (octets : ℕ) (new : State) (buffer : List ℕ) → Leaves (made (outcome (crewNumber o) octets) new buffer)
   crew-changes Register octets new buffer = changes crewRegistered octets new buffer refl refl
   crew-changes Erase octets new buffer = changes crewErased octets new buffer refl refl
   crew-changes Interrogate octets new buffer = changes crewErased octets new buffer refl refl
 
-  tells-holder : (msisdn octets : ℕ) (buffer : List ℕ) → Leaves (made (holderIs msisdn octets) table buffer)
+  tells-holder : (msisdn octets : ℕ) (buffer : List ℕ) → Leaves (made (holderIs msisdn octets) state buffer)
   tells-holder msisdn octets buffer = record {
     refused = λ e. no-path e;
     negative = λ e. no-path e;
@@ -114,7 +114,7 @@ module _ (c : Call) (table : List ℕ) where
   }
 
   -- what a sending or a result is answered where it is not refused
-  apart : (a : Answer) (new buffer : List ℕ) → (isRefusal a || isError a) ≡ false → isOf outcomeClass a ≡ false → (isReturnError a || isReject a) ≡ false
+  apart : (a : Answer) (new : State) (buffer : List ℕ) → (isRefusal a || isError a) ≡ false → isOf outcomeClass a ≡ false → (isReturnError a || isReject a) ≡ false
       → Leaves (made a new buffer)
   apart a new buffer r unsaid unframed = let neither = or-neither (isReturnError a) (isReject a) unframed in record {
     refused = λ e. no-path (sym r ∙ e);
@@ -124,16 +124,16 @@ module _ (c : Call) (table : List ℕ) where
     others = λ e f. no-path (sym unsaid ∙ e);
   }
 
-request-leaves : (list reply : List ℕ) (requester : Msisdn) (scheme : ℕ) (string table : List ℕ)
-    → Leaves (request requester scheme string reply) table (requesting table list reply requester scheme string)
-request-leaves list reply requester scheme string table =
-    request-each table reply (Leaves c table) (refuses c table) (errs c table) (λ n l e. denies c table n _ _ refl) (λ new. changes c table 1 _ new _ refl refl)
-    (λ new. changes c table 2 _ new _ refl refl) (λ m. tells-holder c table m _ _) (λ o w tallied. crew-changes c table o _ _ _) list requester scheme string
+request-leaves : (list reply : List ℕ) (requester : Msisdn) (scheme : ℕ) (string : List ℕ) (state : State)
+    → Leaves (request requester scheme string reply) state (requesting state list reply requester scheme string)
+request-leaves list reply requester scheme string state =
+    request-each state reply (Leaves c state) (refuses c state) (errs c state) (λ n l e. denies c state n _ _ refl) (λ new. changes c state 1 _ new _ refl refl)
+    (λ new. changes c state 2 _ new _ refl refl) (λ m. tells-holder c state m _ _) (λ o w tallied. crew-changes c state o _ _ _) list requester scheme string
   where
     c : Call
     c = request requester scheme string reply
 
-module _ (list frame : List ℕ) (requester : Msisdn) (message table : List ℕ) where
+module _ (list frame : List ℕ) (requester : Msisdn) (message : List ℕ) (state : State) where
   abbrev framed-call : Call
   framed-call = framed requester message frame
 
@@ -144,63 +144,61 @@ module _ (list frame : List ℕ) (requester : Msisdn) (message table : List ℕ)
         ≡ replyOver framed-call (packed text)
     in-result text = rw (reads, string-written text ownReply) refl
 
-    body-leaves : (body : Body) → Leaves framed-call table (bodied (requesting table list ownReply requester) table frame (r .first) (r .number) body)
-    body-leaves (wrong problem) = rejects framed-call table problem _ _ (rw reads refl)
+    body-leaves : (body : Body) → Leaves framed-call state (bodied (requesting state list ownReply requester) state frame (r .first) (r .number) body)
+    body-leaves (wrong problem) = rejects framed-call state problem _ _ (rw reads refl)
     body-leaves (asks scheme string) =
-        request-each table ownReply (λ o. Leaves framed-call table (inFrame (r .first) (r .number) frame o))
-        (refuses framed-call table) (λ n. returns-error framed-call table n _ _ (rw reads refl)) (λ n l e. denies framed-call table n _ _ (in-result (twoDigits n)))
-        (λ new. changes framed-call table 1 _ new _ refl refl) (λ new. changes framed-call table 2 _ new _ refl refl) (λ m. tells-holder framed-call table m _ _)
-        (λ o w tallied. crew-changes framed-call table o _ _ _) list requester scheme string
+        request-each state ownReply (λ o. Leaves framed-call state (inFrame (r .first) (r .number) frame o))
+        (refuses framed-call state) (λ n. returns-error framed-call state n _ _ (rw reads refl)) (λ n l e. denies framed-call state n _ _ (in-result (twoDigits n)))
+        (λ new. changes framed-call state 1 _ new _ refl refl) (λ new. changes framed-call state 2 _ new _ refl refl) (λ m. tells-holder framed-call state m _ _)
+        (λ o w tallied. crew-changes framed-call state o _ _ _) list requester scheme string
 
-  framed-leaves : Leaves framed-call table (framedRequest table list frame requester message)
+  framed-leaves : Leaves framed-call state (framedRequest state list frame requester message)
   unfolding framedRequest
   framed-leaves =
-      decide-each (Leaves framed-call table) (refusing table frame (framedChecks (tableSound table) list frame message)) _
-      (refuses framed-call table 1, (refuses framed-call table 11, (refuses framed-call table 8, (refuses framed-call table 2, tt)))) (go (registerOf message) refl)
+      decide-each (Leaves framed-call state) (refusing state frame (framedChecks (tableSound (state .table)) (figuresRight state) list frame message)) _
+      (refuses framed-call state 1, (refuses framed-call state 11, (refuses framed-call state 8, (refuses framed-call state 2, (refuses framed-call state 10, tt))))) (go (registerOf message) refl)
     where
-      go : (read : Option messages.Register) → registerOf message ≡ read → Leaves framed-call table (registered (requesting table list ownReply requester) table frame read)
-      go none e = refuses framed-call table 11
+      go : (read : Option messages.Register) → registerOf message ≡ read → Leaves framed-call state (registered (requesting state list ownReply requester) state frame read)
+      go none e = refuses framed-call state 11
       go (some r) e = body-leaves r e (r .body)
 
-module _ (now : ℕ) (number : FunctionalNumber) (buffer table : List ℕ) where
+module _ (now : ℕ) (number : FunctionalNumber) (buffer : List ℕ) (state : State) where
   abbrev sent-call : Call
   sent-call = sending now number buffer
 
-  sent-leaves : (place : Found) → Leaves sent-call table (notices.sentAt number place table buffer)
-  sent-leaves Nothing = refuses sent-call table 7
-  sent-leaves (At i) = apart sent-call table _ _ _ refl refl refl
+  sent-leaves : (place : Found) → Leaves sent-call state (notices.sentAt number place state buffer)
+  sent-leaves Nothing = refuses sent-call state 7
+  sent-leaves (At i) = apart sent-call state _ _ _ refl refl refl
 
-  sending-leaves : (delay clock : ℕ) → Leaves sent-call table (notices.sendingNotice table buffer number delay clock)
+  sending-leaves : (delay clock : ℕ) → Leaves sent-call state (notices.sendingNotice state buffer number delay clock)
   unfolding notices.sendingNotice
   sending-leaves delay clock =
-      decide-each (Leaves sent-call table) (refusing table buffer (notices.sendingChecks (tableSound table) buffer (number .0) (recordOf table (number .0)) delay clock)) _
-      (refuses sent-call table 1, (refuses sent-call table 2, (refuses sent-call table 7, (refuses sent-call table 6, (refuses sent-call table 4, (refuses sent-call table 5, tt))))))
-      (sent-leaves (rowOf table (number .0)))
+      decide-each (Leaves sent-call state) (refusing state buffer (notices.sendingChecks (tableSound (state .table)) (figuresRight state) buffer (number .0) (recordFor state (number .0)) delay clock)) _
+      (refuses sent-call state 1, (refuses sent-call state 2, (refuses sent-call state 10, (refuses sent-call state 7, (refuses sent-call state 6, (refuses sent-call state 4, (refuses sent-call state 5, tt)))))))
+      (sent-leaves (rowFor state (number .0)))
 
-module _ (now : ℕ) (number : FunctionalNumber) (kind : ℕ) (table : List ℕ) where
+module _ (now : ℕ) (number : FunctionalNumber) (kind : ℕ) (state : State) where
   abbrev taken-call : Call
   taken-call = result now number kind
 
-  returned-apart : (zero clears : Bool) (new : List ℕ) → Leaves taken-call table (made (cond zero delivered (cond clears dropped sendAgain)) new [])
-  returned-apart true clears new = apart taken-call table _ _ _ refl refl refl
-  returned-apart false true new = apart taken-call table _ _ _ refl refl refl
-  returned-apart false false new = apart taken-call table _ _ _ refl refl refl
-
-  result-leaves : (clock : ℕ) → Leaves taken-call table (notices.takingResult table number kind clock)
+  result-leaves : (clock : ℕ) → Leaves taken-call state (notices.takingResult state number kind clock)
   unfolding notices.takingResult
   result-leaves clock =
-      decide-each (Leaves taken-call table) (refusing table [] (notices.resultChecks (tableSound table) (number .0) (recordOf table (number .0)) kind)) _
-      (refuses taken-call table 2, (refuses taken-call table 7, (refuses taken-call table 3, (refuses taken-call table 4, tt)))) (at (rowOf table (number .0)))
+      decide-each (Leaves taken-call state) (refusing state [] (notices.resultChecks (tableSound (state .table)) (figuresRight state) (number .0) (recordFor state (number .0)) kind)) _
+      (refuses taken-call state 2, (refuses taken-call state 10, (refuses taken-call state 7, (refuses taken-call state 3, (refuses taken-call state 4, tt))))) (at (rowFor state (number .0)))
     where
-      at : (place : Found) → Leaves taken-call table (notices.resultAt kind clock place table)
-      at Nothing = refuses taken-call table 7
-      at (At i) = returned-apart (eqb kind 0) (notices.clears kind (recordAt table i .notice)) _
+      at : (place : Found) → Leaves taken-call state (notices.resultAt kind clock place state)
+      at Nothing = refuses taken-call state 7
+      at (At i) =
+          let new = storedIn state i (notices.afterResult kind clock (recordIn state i)) in
+          returned-each (λ a. Leaves taken-call state (made a new [])) (apart taken-call state _ _ _ refl refl refl) (apart taken-call state _ _ _ refl refl refl)
+          (apart taken-call state _ _ _ refl refl refl) kind (recordIn state i .notice)
 
 -- ---- every call
 
-pub leaves : (list : List ℕ) (delay : ℕ) (c : Call) (table : List ℕ)
-    → Leaves c table (made (call list delay c table .0 .answer) (call list delay c table .1) (call list delay c table .0 .buffer))
-leaves list delay (request requester scheme string reply) table = request-leaves list reply requester scheme string table
-leaves list delay (framed requester message frame) table = framed-leaves list frame requester message table
-leaves list delay (sending now number buffer) table = sending-leaves now number buffer table delay (clockReading now)
-leaves list delay (result now number kind) table = result-leaves now number kind table (clockReading now)
+pub leaves : (list : List ℕ) (delay : ℕ) (c : Call) (state : State)
+    → Leaves c state (made (call list delay c state .0 .answer) (call list delay c state .1) (call list delay c state .0 .buffer))
+leaves list delay (request requester scheme string reply) state = request-leaves list reply requester scheme string state
+leaves list delay (framed requester message frame) state = framed-leaves list frame requester message state
+leaves list delay (sending now number buffer) state = sending-leaves now number buffer state delay (clockReading now)
+leaves list delay (result now number kind) state = result-leaves now number kind state (clockReading now)

@@ -1,4 +1,4 @@
--- Single requests, sendings and results over a sound table are local: each reads and writes the record of the number that it names, and no other. Assumes nothing.
+-- Single requests, sendings and results over a sound state are local: each reads and writes the record of the number that it names, and no other. Assumes nothing.
 use mathlib.Core.Path.{_≡_, refl, sym, ap, _∙_}
 use mathlib.Core.Bool.{true}
 use mathlib.Core.Option.{Option, none, some}
@@ -7,7 +7,7 @@ use Prim.Native.Nat.{ℕ}
 use borrow.Author.Tests.{eqb-true, eq-eqb}
 use Rattle.answers.proofs.Tests.{no-path}
 use Rattle.records.specs.declared.Record.{Record}
-use Rattle.tables.specs.Tables.{tableSound, recordOf}
+use Rattle.states.specs.States.{State, stateSound, recordFor}
 use Rattle.rules.specs.Run.{Local}
 use Rattle.rules.specs.Calls.{Call, nameOf, isNamed, namesOne}
 use Rattle.rules.proofs.Once.{single}
@@ -24,15 +24,15 @@ named-some (some j) k e = ap some (eqb-true j k e)
 pub one-name : (list : List ℕ) (c : Call) (j k : ℕ) → namesOne list c k ≡ true → namesOne list c j ≡ true → j ≡ k
 one-name list c j k p q = let x = named-some (nameOf list c) k p in let y = named-some (nameOf list c) j q in cc
 
--- ---- two tables with the same record of that number
+-- ---- two states with the same record of that number
 
-module _ (list : List ℕ) (delay : ℕ) (c : Call) (t u : List ℕ) (st : tableSound t ≡ true) (su : tableSound u ≡ true)
-    (same : (k : ℕ) → namesOne list c k ≡ true → recordOf t k ≡ recordOf u k) where
+module _ (list : List ℕ) (delay : ℕ) (c : Call) (t u : State) (st : stateSound t ≡ true) (su : stateSound u ≡ true)
+    (same : (k : ℕ) → namesOne list c k ≡ true → recordFor t k ≡ recordFor u k) where
   -- the call gets the same, and leaves the same record of the number
   abbrev Alike : Type 0
   Alike =
       (single list delay c t .0 ≡ single list delay c u .0)
-      × ((k : ℕ) → namesOne list c k ≡ true → recordOf (single list delay c t .1) k ≡ recordOf (single list delay c u .1) k)
+      × ((k : ℕ) → namesOne list c k ≡ true → recordFor (single list delay c t .1) k ≡ recordFor (single list delay c u .1) k)
 
   alike-none : nameOf list c ≡ none → Alike
   alike-none n = (
@@ -41,13 +41,13 @@ module _ (list : List ℕ) (delay : ℕ) (c : Call) (t u : List ℕ) (st : table
   )
 
   module _ (k : ℕ) (n : nameOf list c ≡ some k) where
-    alike-absent : recordOf t k ≡ none → recordOf u k ≡ none → Alike
+    alike-absent : recordFor t k ≡ none → recordFor u k ≡ none → Alike
     alike-absent p q =
         let x = single-absent list delay c t st k n p in
         let y = single-absent list delay c u su k n q in
-        (ap (λ z. z .0) x ∙ sym (ap (λ z. z .0) y), λ j m. ap (λ z. recordOf (z .1) j) x ∙ same j m ∙ sym (ap (λ z. recordOf (z .1) j) y))
+        (ap (λ z. z .0) x ∙ sym (ap (λ z. z .0) y), λ j m. ap (λ z. recordFor (z .1) j) x ∙ same j m ∙ sym (ap (λ z. recordFor (z .1) j) y))
 
-    alike-there : (r : Record) → recordOf t k ≡ some r → recordOf u k ≡ some r → Alike
+    alike-there : (r : Record) → recordFor t k ≡ some r → recordFor u k ≡ some r → Alike
     alike-there r p q =
         let x = single-own list delay c t st k r n p in
         let y = single-own list delay c u su k r n q in
@@ -56,7 +56,7 @@ module _ (list : List ℕ) (delay : ℕ) (c : Call) (t u : List ℕ) (st : table
         named-one : (j : ℕ) → namesOne list c j ≡ true → j ≡ k
         named-one j m = let e = named-some (nameOf list c) j m in cc
 
-    alike-at : (o : Option Record) → recordOf t k ≡ o → recordOf u k ≡ o → Alike
+    alike-at : (o : Option Record) → recordFor t k ≡ o → recordFor u k ≡ o → Alike
     alike-at none p q = alike-absent p q
     alike-at (some r) p q = alike-there r p q
 
@@ -65,9 +65,9 @@ module _ (list : List ℕ) (delay : ℕ) (c : Call) (t u : List ℕ) (st : table
     where
       go : (n : Option ℕ) → nameOf list c ≡ n → Alike
       go none n = alike-none n
-      go (some k) n = alike-at k n (recordOf t k) refl (sym (same k (ap (λ o. isNamed o k) n ∙ eq-eqb k k refl)))
+      go (some k) n = alike-at k n (recordFor t k) refl (sym (same k (ap (λ o. isNamed o k) n ∙ eq-eqb k k refl)))
 
-pub singles-local : (list : List ℕ) (delay : ℕ) → Local (single list delay) (namesOne list) (λ k t. recordOf t k) (λ t. tableSound t ≡ true)
+pub singles-local : (list : List ℕ) (delay : ℕ) → Local (single list delay) (namesOne list) (λ k t. recordFor t k) (λ t. stateSound t ≡ true)
 singles-local list delay = record {
   keep = λ c t s. single-keeps list delay c t s .sound;
   other = λ c t k s n. single-other list delay c t s k n;

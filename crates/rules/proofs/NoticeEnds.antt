@@ -15,13 +15,12 @@ use Rattle.records.specs.declared.Notice.{Notice}
 use Rattle.records.specs.declared.Notice.the-variants.{Absent, Waiting, InFlight}
 use Rattle.records.specs.declared.Record.{Record}
 use Rattle.records.specs.Steps.{heldBy, mostSendings, isAbsent, isWaiting, isInFlight, sendingsDone, launched}
-use Rattle.rows.specs.Rows.{recordAt}
 use Rattle.rows.proofs.Rows.{record-sound}
 use Rattle.rows.proofs.Kept.{few-sendings}
 use Rattle.tables.specs.declared.Found.{Found}
 use Rattle.tables.specs.declared.Found.the-variants.{At, Nothing}
-use Rattle.tables.specs.Tables.{tableSound, rowOf, recordOf}
 use Rattle.tables.proofs.Stored.{record-found, record-missing}
+use Rattle.states.specs.States.{State, stateSound, rowFor, recordFor, recordIn}
 use Rattle.rules.specs.Answers.{refusal, bufferRoom, isSent}
 use Rattle.rules.specs.Run.{only, end, log}
 use Rattle.rules.specs.Notices.{noticeIn}
@@ -205,13 +204,13 @@ module _ (list : List ℕ) (k : ℕ) where
   last-ends (passes {c = c} n ends) m u = no-path (sym (passed-untaken c n) ∙ u)
   last-ends (visits n d ends) m u = last-clears d m u
 
--- of a sound table no more than the most sendings are done
-table-most : (table : List ℕ) (k : ℕ) → tableSound table ≡ true → sendingsDone (noticeFor table k) ≤ mostSendings
-table-most table k sound = go (rowOf table k) refl
+-- of a sound state no more than the most sendings are done
+state-most : (state : State) (k : ℕ) → stateSound state ≡ true → sendingsDone (noticeFor state k) ≤ mostSendings
+state-most state k sound = go (rowFor state k) refl
   where
-    go : (place : Found) → rowOf table k ≡ place → sendingsDone (noticeFor table k) ≤ mostSendings
-    go Nothing e = rw (record-missing table k e) (omega arith)
-    go (At i) e = rw (record-found table k i e) (few-sendings (recordAt table i) (record-sound table i (found-sound table k i sound e)))
+    go : (place : Found) → rowFor state k ≡ place → sendingsDone (noticeFor state k) ≤ mostSendings
+    go Nothing e = rw (record-missing (state .table) k e) (omega arith)
+    go (At i) e = rw (record-found (state .table) k i e) (few-sendings (recordIn state i) (record-sound (state .table) i (found-sound state k i sound e)))
 
 -- ---- the notice ends
 
@@ -223,41 +222,41 @@ result-single k (sending now number buffer, a) u = no-path u
 result-single k (result now number kind, a) u = refl
 
 -- a result naming k that is not refused, with the most sendings done, of whatever kind, leaves k's phase 0
-pub last-result-ends : (list : List ℕ) (delay k : ℕ) (c : Call) (table : List ℕ) → sendingsDone (noticeFor table k) ≡ mostSendings
-    → resultTaken k (c, (call list delay c table) .0) ≡ true → noticeFor ((call list delay c table) .1) k ≡ Absent
-last-result-ends list delay k c table m u =
-    let same = call-single list delay c table (result-single k (c, (call list delay c table) .0) u) in
-    ap (λ r. noticeFor (r .1) k) same ∙ last-ends list k (along list delay k (c ∷ []) table) m (ap (λ r. resultTaken k (c, r .0)) (sym same) ∙ u)
+pub last-result-ends : (list : List ℕ) (delay k : ℕ) (c : Call) (state : State) → sendingsDone (noticeFor state k) ≡ mostSendings
+    → resultTaken k (c, (call list delay c state) .0) ≡ true → noticeFor ((call list delay c state) .1) k ≡ Absent
+last-result-ends list delay k c state m u =
+    let same = call-single list delay c state (result-single k (c, (call list delay c state) .0) u) in
+    ap (λ r. noticeFor (r .1) k) same ∙ last-ends list k (along list delay k (c ∷ []) state) m (ap (λ r. resultTaken k (c, r .0)) (sym same) ∙ u)
 
 -- over any list of calls, by their single steps; a sending and a result are their own
-module _ (list : List ℕ) (delay k : ℕ) (calls : List Call) (table : List ℕ) where
+module _ (list : List ℕ) (delay k : ℕ) (calls : List Call) (state : State) where
   abbrev got : List (Call × Reply)
-  got = log (call list delay) (steps list calls) table
+  got = log (call list delay) (steps list calls) state
 
-  abbrev after : List ℕ
-  after = end (call list delay) calls table
+  abbrev after : State
+  after = end (call list delay) calls state
 
-  got-singly : got ≡ log (single list delay) (steps list calls) table
-  got-singly = singles-log list delay (steps list calls) table (all-steps-single list delay calls)
+  got-singly : got ≡ log (single list delay) (steps list calls) state
+  got-singly = singles-log list delay (steps list calls) state (all-steps-single list delay calls)
 
-  seen : Along list k (recordOf table k) got (recordOf after k)
-  seen = rw (got-singly, singly-end list delay calls table) (along list delay k (steps list calls) table)
+  seen : Along list k (recordFor state k) got (recordFor after k)
+  seen = rw (got-singly, singly-end list delay calls state) (along list delay k (steps list calls) state)
 
   -- between two sendings of k that succeed stands a result naming k that was not refused
   pub between-two-sendings : (i j : ℕ) → i < j → holdsAt (sendingDone k) got i ≡ true → holdsAt (sendingDone k) got j ≡ true → ResultBetween k got i j
   between-two-sendings = result-between list k seen
 
   -- while k's notice is pending, up to the result that clears it
-  module _ (pending : isAbsent (noticeFor table k) ≡ false) (uncleared : never (noticeCleared k) got ≡ true) where
+  module _ (pending : isAbsent (noticeFor state k) ≡ false) (uncleared : never (noticeCleared k) got ≡ true) where
     -- its phase counts its sendings that succeed
-    pub sendings-counted : sendingsDone (noticeFor after k) ≡ sendingsDone (noticeFor table k) + length (only (sendingDone k) got)
+    pub sendings-counted : sendingsDone (noticeFor after k) ≡ sendingsDone (noticeFor state k) + length (only (sendingDone k) got)
     sendings-counted = sendings-add list k seen pending uncleared
 
-    -- in a sound table no more of them succeed than the most less those done
-    pub sendings-left : tableSound table ≡ true → length (only (sendingDone k) got) ≤ mostSendings - sendingsDone (noticeFor table k)
-    sendings-left sound = omega (arith, sendings-counted, table-most after k (calls-keep list delay calls table sound .sound))
+    -- in a sound state no more of them succeed than the most less those done
+    pub sendings-left : stateSound state ≡ true → length (only (sendingDone k) got) ≤ mostSendings - sendingsDone (noticeFor state k)
+    sendings-left sound = omega (arith, sendings-counted, state-most after k (calls-keep list delay calls state sound .sound))
 
     -- and a result that is taken after the last ends it
-    pub ends-after-the-last : sendingsDone (noticeFor table k) + length (only (sendingDone k) got) ≡ mostSendings
+    pub ends-after-the-last : sendingsDone (noticeFor state k) + length (only (sendingDone k) got) ≡ mostSendings
         → (c : Call) → resultTaken k (c, (call list delay c after) .0) ≡ true → noticeFor ((call list delay c after) .1) k ≡ Absent
     ends-after-the-last all c u = last-result-ends list delay k c after (sendings-counted ∙ all) u

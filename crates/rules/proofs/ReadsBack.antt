@@ -15,7 +15,8 @@ use Rattle.frames.specs.Components as components
 use Rattle.frames.specs.Messages.{frameRoom, protocol, firstOctet, inverted, Register, registerOf, releaseOf}
 use Rattle.frames.proofs.Flags.{half-kept}
 use Rattle.frames.proofs.Exact.{number-only, release-back}
-use Rattle.tables.specs.Tables.{tableSound, listSound}
+use Rattle.tables.specs.Tables.{listSound}
+use Rattle.states.specs.States.{State, stateSound}
 use Rattle.rules.specs.Answers.{Answer, outcome, holderIs, returnError, reject, numbersOf, bufferRoom}
 use Rattle.rules.specs.Frames.{answerTo}
 use Rattle.rules.specs.Calls.{framed, Reply, call}
@@ -42,27 +43,27 @@ module _ (frame message : List ℕ) (r : Register) (reads : registerOf message �
         readable,
       )
 
-module _ (list : List ℕ) (delay : ℕ) (requester : Msisdn) (message frame table : List ℕ) (room : frameRoom ≤ length frame) (r : Register)
-    (reads : registerOf message ≡ some r) (listed : listSound list ≡ true) (sound : tableSound table ≡ true) where
+module _ (list : List ℕ) (delay : ℕ) (requester : Msisdn) (message frame : List ℕ) (state : State) (room : frameRoom ≤ length frame) (r : Register)
+    (reads : registerOf message ≡ some r) (listed : listSound list ≡ true) (sound : stateSound state ≡ true) where
   pub rejected-reads : (problem : ℕ) → r .body ≡ wrong problem
-      → releaseOf (counted frame message r reads (call list delay (framed requester message frame) table .0)) ≡ backTo r (components.reject (r .number) problem)
+      → releaseOf (counted frame message r reads (call list delay (framed requester message frame) state .0)) ≡ backTo r (components.reject (r .number) problem)
   rejected-reads problem b =
       back frame message r reads (reject problem) (components.reject (r .number) problem) refl _
-      (ap (λ x. x .0) (framed-rejected list delay requester message frame table room r reads listed sound problem b)) refl
+      (ap (λ x. x .0) (framed-rejected list delay requester message frame state room r reads listed sound problem b)) refl
 
   module _ (scheme : ℕ) (string : List ℕ) (body : r .body ≡ asks scheme string) (reply : List ℕ) (enough : bufferRoom ≤ length reply) where
     abbrev string-of : ℕ → List ℕ
-    string-of octets = stringGot list delay requester message frame r scheme string reply table octets
+    string-of octets = stringGot list delay requester message frame r scheme string reply state octets
 
     abbrev bare : Answer
-    bare = bareGot list delay requester message frame r scheme string reply table .0 .answer
+    bare = bareGot list delay requester message frame r scheme string reply state .0 .answer
 
     short : (octets : ℕ) → numbersOf bare .count ≡ octets → readableAnswer (components.result (r .number) (string-of octets)) ≡ true
     short octets e =
-        le-leb (length (string-of octets)) mostResultOctets (omega (arith, e, request-short table list reply requester scheme string, take-most octets (bareGot list delay requester message frame r scheme string reply table .0 .buffer)))
+        le-leb (length (string-of octets)) mostResultOctets (omega (arith, e, request-short state list reply requester scheme string, take-most octets (bareGot list delay requester message frame r scheme string reply state .0 .buffer)))
 
-    pub reads-back : ReadsBack list delay requester message frame r scheme string reply table
-    reads-back = let told = as-bare list delay requester message frame table room r reads listed sound scheme string body reply enough in record {
+    pub reads-back : ReadsBack list delay requester message frame r scheme string reply state
+    reads-back = let told = as-bare list delay requester message frame state room r reads listed sound scheme string body reply enough in record {
       outcome-reads = λ n octets e. back frame message r reads (outcome n) _ (short octets (ap (λ a. numbersOf a .count) e)) _ (told .outcome-framed n octets e) refl;
       holder-reads = λ msisdn octets e. back frame message r reads (holderIs msisdn) _ (short octets (ap (λ a. numbersOf a .count) e)) _ (told .holder-framed msisdn octets e) refl;
       error-reads = λ n e. back frame message r reads (returnError n) (components.error (r .number) n) refl _ (told .error-framed n e) refl;

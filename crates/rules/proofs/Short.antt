@@ -16,6 +16,7 @@ use Rattle.frames.specs.Components as components
 use Rattle.frames.specs.Messages.{Register, registerOf, release, inverted}
 use Rattle.frames.proofs.Lengths.{release-length, result-length, error-length, reject-length}
 use Rattle.tables.specs.Tables.{tableSound}
+use Rattle.states.specs.States.{State, figuresRight, stateSound}
 use Rattle.rules.specs.Answers.{Answer, refusal, error, outcome, holderIs, returnError, reject, sentTo, delivered, dropped, again, found, noneDue, numbersOf, Outcome, mostReplyOctets, holderText, octetCount, refusing}
 use Rattle.rules.specs.Crews.{crewNumber, crewReply, requesting}
 use Rattle.rules.specs.Frames.{framedChecks, answeredIn, ownReply, bodied, registered, framedRequest}
@@ -43,9 +44,9 @@ held-short w = text-short (holderText w) (omega (arith, digits-short 15 w))
 abbrev Short : Outcome → Type 0
 Short o = numbersOf (o .answer) .count ≤ mostReplyOctets
 
-pub request-short : (table list reply : List ℕ) (requester : Msisdn) (scheme : ℕ) (string : List ℕ) → Short (requesting table list reply requester scheme string)
-request-short table list reply =
-    request-each table reply Short (λ n. zero-le) (λ n. zero-le) (λ n l e. text-short (twoDigits n) (omega arith)) (λ new. text-short (twoDigits 1) (omega arith))
+pub request-short : (state : State) (list reply : List ℕ) (requester : Msisdn) (scheme : ℕ) (string : List ℕ) → Short (requesting state list reply requester scheme string)
+request-short state list reply =
+    request-each state reply Short (λ n. zero-le) (λ n. zero-le) (λ n l e. text-short (twoDigits n) (omega arith)) (λ new. text-short (twoDigits 1) (omega arith))
     (λ new. text-short (twoDigits 2) (omega arith)) held-short (λ o w tallied. text-short (crewReply (crewNumber o) w) (reply-short (crewNumber o) w tallied)) list
 
 -- ---- a frame that the framed request writes has at most 46 octets: 21 and the longest reply
@@ -61,13 +62,13 @@ take-most zero l = zero-le
 take-most (suc n) [] = zero-le
 take-most (suc n) (x ∷ l) = omega (arith, take-most n l)
 
-module _ (first number : ℕ) (frame table reply : List ℕ) where
+module _ (first number : ℕ) (frame : List ℕ) (state : State) (reply : List ℕ) where
   result-short : (octets : ℕ) → octets ≤ mostReplyOctets → length (release (inverted first) (components.result number (take octets reply))) ≤ mostFrame
   result-short octets h =
       let short = take-most octets reply in
       omega (arith, h, short, release-length (inverted first) (components.result number (take octets reply)), result-length number (take octets reply) (omega (arith, h, short)))
 
-  answered-short : (a : Answer) → numbersOf a .count ≤ mostReplyOctets → FrameShort (answeredIn first number frame table reply a)
+  answered-short : (a : Answer) → numbersOf a .count ≤ mostReplyOctets → FrameShort (answeredIn first number frame state reply a)
   answered-short (outcome n octets) h = result-short octets h
   answered-short (holderIs msisdn octets) h = result-short octets h
   answered-short (error n) h = omega (arith, release-length (inverted first) (components.error number n), error-length number n)
@@ -81,19 +82,19 @@ module _ (first number : ℕ) (frame table reply : List ℕ) where
   answered-short (found functional) h = zero-le
   answered-short noneDue h = zero-le
 
-module _ (table list frame : List ℕ) (requester : Msisdn) (message : List ℕ) where
-  body-short : (first number : ℕ) (b : Body) → FrameShort (bodied (requesting table list ownReply requester) table frame first number b)
+module _ (state : State) (list frame : List ℕ) (requester : Msisdn) (message : List ℕ) where
+  body-short : (first number : ℕ) (b : Body) → FrameShort (bodied (requesting state list ownReply requester) state frame first number b)
   body-short first number (wrong problem) = omega (arith, release-length (inverted first) (components.reject number problem), reject-length number problem)
   body-short first number (asks scheme string) =
-      let o = requesting table list ownReply requester scheme string in
-      answered-short first number frame (o .table) (o .buffer) (o .answer) (request-short table list ownReply requester scheme string)
+      let o = requesting state list ownReply requester scheme string in
+      answered-short first number frame (o .state) (o .buffer) (o .answer) (request-short state list ownReply requester scheme string)
 
-  registered-short : (r : Option Register) → FrameShort (registered (requesting table list ownReply requester) table frame r)
+  registered-short : (r : Option Register) → FrameShort (registered (requesting state list ownReply requester) state frame r)
   registered-short none = zero-le
   registered-short (some r) = body-short (r .first) (r .number) (r .body)
 
-  pub frame-short : FrameShort (framedRequest table list frame requester message)
+  pub frame-short : FrameShort (framedRequest state list frame requester message)
   unfolding framedRequest
   frame-short =
-      decide-each FrameShort (refusing table frame (framedChecks (tableSound table) list frame message)) _ (zero-le, (zero-le, (zero-le, (zero-le, tt))))
+      decide-each FrameShort (refusing state frame (framedChecks (tableSound (state .table)) (figuresRight state) list frame message)) _ (zero-le, (zero-le, (zero-le, (zero-le, (zero-le, tt)))))
       (registered-short (registerOf message))

@@ -10,6 +10,7 @@ use Rattle.strings.specs.Outcomes.{requestOf}
 use Rattle.frames.specs.Components.{Body, wrong, asks}
 use Rattle.frames.specs.Messages.{Register, registerOf}
 use Rattle.tables.specs.Tables.{tableSound}
+use Rattle.states.specs.States.{State, figuresRight}
 use Rattle.rules.specs.Answers.{refusing}
 use Rattle.rules.specs.Crews.{requesting}
 use Rattle.rules.specs.Frames.{framedChecks, inFrame, ownReply, bodied, registered, framedRequest}
@@ -17,7 +18,7 @@ use Rattle.rules.specs.Run.{end, log}
 use Rattle.rules.specs.Calls.{Call, request, framed, sending, result, Reply, replied, call, codesRead, codesOf}
 use Rattle.rules.proofs.Once.{requestingOnce, framedOnce, single}
 
-request-single : (t list reply : List ℕ) (requester : Msisdn) (scheme : ℕ) (string : List ℕ) → codesRead (requestOf string) ≡ none
+request-single : (t : State) (list reply : List ℕ) (requester : Msisdn) (scheme : ℕ) (string : List ℕ) → codesRead (requestOf string) ≡ none
     → requesting t list reply requester scheme string ≡ requestingOnce t list reply requester scheme string
 unfolding requesting requestingOnce
 request-single t list reply requester scheme string e = go (requestOf string) refl e
@@ -27,11 +28,11 @@ request-single t list reply requester scheme string e = go (requestOf string) re
     go none r e = rw r refl
     go (some f) r e = rw (r, e) refl
 
-pub call-single : (list : List ℕ) (delay : ℕ) (c : Call) (t : List ℕ) → codesOf c ≡ none → call list delay c t ≡ single list delay c t
+pub call-single : (list : List ℕ) (delay : ℕ) (c : Call) (t : State) → codesOf c ≡ none → call list delay c t ≡ single list delay c t
 unfolding framedRequest framedOnce
 call-single list delay (request requester scheme string reply) t e = ap replied (request-single t list reply requester scheme string e)
 call-single list delay (framed requester message frame) t e =
-    ap (λ done. replied (decide (refusing t frame (framedChecks (tableSound t) list frame message)) done)) (by-register (registerOf message) refl)
+    ap (λ done. replied (decide (refusing t frame (framedChecks (tableSound (t .table)) (figuresRight t) list frame message)) done)) (by-register (registerOf message) refl)
   where
     by-body : (r : Register) → registerOf message ≡ some r → (body : Body) → r .body ≡ body
         → bodied (requesting t list ownReply requester) t frame (r .first) (r .number) body
@@ -53,12 +54,12 @@ AllSingle [] = Unit {0}
 AllSingle (c ∷ cs) = (codesOf c ≡ none) × AllSingle cs
 
 module _ (list : List ℕ) (delay : ℕ) where
-  pub singles-end : (cs : List Call) (t : List ℕ) → AllSingle cs → end (call list delay) cs t ≡ end (single list delay) cs t
+  pub singles-end : (cs : List Call) (t : State) → AllSingle cs → end (call list delay) cs t ≡ end (single list delay) cs t
   singles-end [] t a = refl
   singles-end (c ∷ cs) t (e, a) = ap (λ r. end (call list delay) cs (r .1)) (call-single list delay c t e) ∙ singles-end cs (single list delay c t .1) a
 
-  pub singles-log : (cs : List Call) (t : List ℕ) → AllSingle cs → log (call list delay) cs t ≡ log (single list delay) cs t
+  pub singles-log : (cs : List Call) (t : State) → AllSingle cs → log (call list delay) cs t ≡ log (single list delay) cs t
   singles-log [] t a = refl
   singles-log (c ∷ cs) t (e, a) =
-      ap (λ (r : Reply × List ℕ). (c, r .0) ∷ log (call list delay) cs (r .1)) (call-single list delay c t e)
+      ap (λ (r : Reply × State). (c, r .0) ∷ log (call list delay) cs (r .1)) (call-single list delay c t e)
       ∙ ap (λ l. (c, single list delay c t .0) ∷ l) (singles-log cs (single list delay c t .1) a)

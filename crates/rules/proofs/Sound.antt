@@ -1,4 +1,4 @@
--- A call over a sound table leaves a sound table, with the same numbers in the same rows; and what it does to the records. Assumes nothing.
+-- A call over a sound state leaves a sound state, with the same numbers in the same rows; and what it does to the records. Assumes nothing.
 use mathlib.Core.Path.{_≡_, refl, sym, ap, _∙_}
 use mathlib.Core.Bool.{true, false}
 use mathlib.Core.Option.{Option, none, some}
@@ -29,13 +29,15 @@ use Rattle.records.specs.declared.Sending.the-variants as launches
 use Rattle.records.specs.declared.Resulted.{Resulted}
 use Rattle.records.specs.declared.Resulted.the-variants.{Refused, Delivered, Dropped, Again}
 use Rattle.records.specs.Steps as steps
-use Rattle.rows.specs.Rows.{numberAt, recordAt, stored, recordSound}
+use Rattle.rows.specs.Rows.{numberAt, recordSound}
 use Rattle.rows.proofs.Rows.{record-sound, stored-length, stored-number}
 use Rattle.rows.proofs.Kept.{SoundStep, SoundSending, SoundResult, registered-sound, erased-sound, forced-sound, sent-sound, resulted-sound}
 use Rattle.tables.specs.declared.Found.{Found}
 use Rattle.tables.specs.declared.Found.the-variants.{At, Nothing}
-use Rattle.tables.specs.Tables.{tableSound, rowOf, recordFound, recordOf, rowsIn, flagsOf}
-use Rattle.tables.proofs.Stored.{row-found, own-record, other-record, table-stored}
+use Rattle.tables.specs.Tables.{rowsIn, recordOf, flagsOf}
+use Rattle.tables.proofs.Stored.{row-found, own-record, other-record}
+use Rattle.states.specs.States.{State, stateSound, rowFor, recordWhere, recordFor, recordIn, storedIn}
+use Rattle.states.proofs.States.{state-stored}
 use Rattle.rules.specs.Answers.{refusal, bufferRoom}
 use Rattle.rules.specs.Requests as requests
 use Rattle.rules.specs.Requests.{rightChecks}
@@ -101,115 +103,115 @@ module _ (r : Record) (sound : recordSound r ≡ true) where
   visit-sound list delay (result now number kind) k e =
       result-step-sound (steps.resulted kind (clockReading now) r) (resulted-sound r sound kind (clockReading now) (omega arith))
 
--- ---- a call leaves a sound table
+-- ---- a call leaves a sound state
 
--- the table u is sound, and has the numbers of t in the rows of t
-pub record Kept (t u : List ℕ) : Type 0 where
-  pub sound : tableSound u ≡ true
-  pub long : length u ≡ length t
-  pub numbers : (i : ℕ) → numberAt u i ≡ numberAt t i
+-- the state u is sound, and its table has the numbers of t in the rows of t
+pub record Kept (t u : State) : Type 0 where
+  pub sound : stateSound u ≡ true
+  pub long : length (u .table) ≡ length (t .table)
+  pub numbers : (i : ℕ) → numberAt (u .table) i ≡ numberAt (t .table) i
 
-kept-same : (t : List ℕ) → tableSound t ≡ true → Kept t t
+kept-same : (t : State) → stateSound t ≡ true → Kept t t
 kept-same t s = record { sound = s; long = refl; numbers = λ i. refl }
 
-kept-twice : (t u v : List ℕ) → Kept t u → Kept u v → Kept t v
+kept-twice : (t u v : State) → Kept t u → Kept u v → Kept t v
 kept-twice t u v p q = record { sound = q .sound; long = q .long ∙ p .long; numbers = λ i. q .numbers i ∙ p .numbers i }
 
-kept-stored : (t : List ℕ) (i : ℕ) (r : Record) → tableSound t ≡ true → i < rowsIn t → recordSound r ≡ true → Kept t (stored t i r)
-kept-stored t i r s l q = record { sound = table-stored t i r s l q; long = stored-length t i r; numbers = stored-number t i r }
+kept-stored : (t : State) (i : ℕ) (r : Record) → stateSound t ≡ true → i < rowsIn (t .table) → recordSound r ≡ true → Kept t (storedIn t i r)
+kept-stored t i r s l q = record { sound = state-stored t i s l r q; long = stored-length (t .table) i r; numbers = stored-number (t .table) i r }
 
 -- a single step does
-module _ (t : List ℕ) (sound : tableSound t ≡ true) (requester : Msisdn) (one : isNumber (requester .0) ≡ true) where
-  module _ (i : ℕ) (inside : i < rowsIn t) (row : recordSound (recordAt t i) ≡ true) where
-    step-at-keeps : (n : ℕ) (s : Step) → SoundStep s → Kept t (stepAt t i n s .table)
+module _ (t : State) (sound : stateSound t ≡ true) (requester : Msisdn) (one : isNumber (requester .0) ≡ true) where
+  module _ (i : ℕ) (inside : i < rowsIn (t .table)) (row : recordSound (recordIn t i) ≡ true) where
+    step-at-keeps : (n : ℕ) (s : Step) → SoundStep s → Kept t (stepAt t i n s .state)
     step-at-keeps n (step.Stays m) h = kept-same t sound
     step-at-keeps n (step.Becomes next) h = kept-stored t i next sound inside h
 
-    tell-at-keeps : (h : Holder) → Kept t (tellAt t h .table)
+    tell-at-keeps : (h : Holder) → Kept t (tellAt t h .state)
     tell-at-keeps (holds.Stays m) = kept-same t sound
     tell-at-keeps (holds.Held msisdn) = kept-same t sound
 
-    decides-at-keeps : (o : Operation) (e : Erasing) (number : FunctionalNumber) → Kept t (decidesAt o e number requester t i .table)
-    decides-at-keeps Register e number = step-at-keeps 1 (steps.registered number requester (recordAt t i)) (registered-sound (recordAt t i) row number requester one)
-    decides-at-keeps Erase Empty number = step-at-keeps 2 (steps.erased requester (recordAt t i)) (erased-sound (recordAt t i) row requester)
-    decides-at-keeps Erase (Forced m) number = step-at-keeps 2 (steps.forced requester m (recordAt t i)) (forced-sound (recordAt t i) row requester m one)
-    decides-at-keeps Interrogate e number = tell-at-keeps (steps.interrogated (recordAt t i))
+    decides-at-keeps : (o : Operation) (e : Erasing) (number : FunctionalNumber) → Kept t (decidesAt o e number requester t i .state)
+    decides-at-keeps Register e number = step-at-keeps 1 (steps.registered number requester (recordIn t i)) (registered-sound (recordIn t i) row number requester one)
+    decides-at-keeps Erase Empty number = step-at-keeps 2 (steps.erased requester (recordIn t i)) (erased-sound (recordIn t i) row requester)
+    decides-at-keeps Erase (Forced m) number = step-at-keeps 2 (steps.forced requester m (recordIn t i)) (forced-sound (recordIn t i) row requester m one)
+    decides-at-keeps Interrogate e number = tell-at-keeps (steps.interrogated (recordIn t i))
 
-  pub step-keeps : (f : Request) → erasingSound (f .operation) (f .erasing) ≡ true → Kept t (requests.step t requester f .table)
-  step-keeps f h = placed (rowOf t (f .number .0)) refl
+  pub step-keeps : (f : Request) → erasingSound (f .operation) (f .erasing) ≡ true → Kept t (requests.step t requester f .state)
+  step-keeps f h = placed (rowFor t (f .number .0)) refl
     where
-      placed : (place : Found) → rowOf t (f .number .0) ≡ place → Kept t (requests.step t requester f .table)
+      placed : (place : Found) → rowFor t (f .number .0) ≡ place → Kept t (requests.step t requester f .state)
       placed Nothing e = rw (step-misses t requester f e) (kept-same t sound)
       placed (At i) e =
           rw (step-visits t requester f i e h)
-          (decides-at-keeps i (row-found t (f .number .0) i e .0) (record-sound t i (found-sound t (f .number .0) i sound e)) (f .operation) (f .erasing) (f .number))
+          (decides-at-keeps i (row-found (t .table) (f .number .0) i e .0) (record-sound (t .table) i (found-sound t (f .number .0) i sound e)) (f .operation) (f .erasing) (f .number))
 
 -- the row of a record that the table has, and that there is none for one that it does not have
-record-place : (t : List ℕ) (k : ℕ) (r : Record) → recordOf t k ≡ some r → (i : ℕ) × (rowOf t k ≡ At i) × (recordAt t i ≡ r)
+record-place : (t : State) (k : ℕ) (r : Record) → recordFor t k ≡ some r → (i : ℕ) × (rowFor t k ≡ At i) × (recordIn t i ≡ r)
 unfolding recordOf
-record-place t k r e = go (rowOf t k) refl e
+record-place t k r e = go (rowFor t k) refl e
   where
-    go : (place : Found) → rowOf t k ≡ place → recordFound t place ≡ some r → (i : ℕ) × (rowOf t k ≡ At i) × (recordAt t i ≡ r)
+    go : (place : Found) → rowFor t k ≡ place → recordWhere t place ≡ some r → (i : ℕ) × (rowFor t k ≡ At i) × (recordIn t i ≡ r)
     go Nothing p e = not-some e
     go (At i) p e = (i, p, cc)
 
-no-place : (t : List ℕ) (k : ℕ) → recordOf t k ≡ none → rowOf t k ≡ Nothing
+no-place : (t : State) (k : ℕ) → recordFor t k ≡ none → rowFor t k ≡ Nothing
 unfolding recordOf
-no-place t k e = go (rowOf t k) refl e
+no-place t k e = go (rowFor t k) refl e
   where
-    go : (place : Found) → rowOf t k ≡ place → recordFound t place ≡ none → rowOf t k ≡ Nothing
+    go : (place : Found) → rowFor t k ≡ place → recordWhere t place ≡ none → rowFor t k ≡ Nothing
     go Nothing p e = p
     go (At i) p e = not-some (sym e)
 
-module _ (list : List ℕ) (delay : ℕ) (c : Call) (t : List ℕ) (sound : tableSound t ≡ true) where
-  abbrev went : Reply × List ℕ
+module _ (list : List ℕ) (delay : ℕ) (c : Call) (t : State) (sound : stateSound t ≡ true) where
+  abbrev went : Reply × State
   went = single list delay c t
 
-  at-row : (k i : ℕ) → nameOf list c ≡ some k → rowOf t k ≡ At i → recordSound (visit list delay c (recordAt t i) .next) ≡ true
-  at-row k i n e = visit-sound (recordAt t i) (record-sound t i (found-sound t k i sound e)) list delay c k n
+  at-row : (k i : ℕ) → nameOf list c ≡ some k → rowFor t k ≡ At i → recordSound (visit list delay c (recordIn t i) .next) ≡ true
+  at-row k i n e = visit-sound (recordIn t i) (record-sound (t .table) i (found-sound t k i sound e)) list delay c k n
 
-  -- a sound table is left, with the same numbers in the same rows
+  -- a sound state is left, with the same numbers in the same rows
   pub single-keeps : Kept t (went .1)
   single-keeps = named (nameOf list c) refl
     where
-      placed : (k : ℕ) → nameOf list c ≡ some k → (place : Found) → rowOf t k ≡ place → Kept t (went .1)
+      placed : (k : ℕ) → nameOf list c ≡ some k → (place : Found) → rowFor t k ≡ place → Kept t (went .1)
       placed k n Nothing e = rw (single-misses list delay t sound c k n e) (kept-same t sound)
-      placed k n (At i) e = rw (single-visits list delay t sound c k i n e) (kept-stored t i _ sound (row-found t k i e .0) (at-row k i n e))
+      placed k n (At i) e = rw (single-visits list delay t sound c k i n e) (kept-stored t i _ sound (row-found (t .table) k i e .0) (at-row k i n e))
 
       named : (n : Option ℕ) → nameOf list c ≡ n → Kept t (went .1)
       named none n = rw (single-stops list delay c n .1 t sound) (kept-same t sound)
-      named (some k) n = placed k n (rowOf t k) refl
+      named (some k) n = placed k n (rowFor t k) refl
 
   -- the record of the number that the call names decides, and becomes the next one
-  pub single-own : (k : ℕ) (r : Record) → nameOf list c ≡ some k → recordOf t k ≡ some r
-      → (went .0 ≡ visit list delay c r .reply) × (recordOf (went .1) k ≡ some (visit list delay c r .next))
+  pub single-own : (k : ℕ) (r : Record) → nameOf list c ≡ some k → recordFor t k ≡ some r
+      → (went .0 ≡ visit list delay c r .reply) × (recordFor (went .1) k ≡ some (visit list delay c r .next))
   single-own k r n e =
       let (i, p, q) = record-place t k r e in
       let v = single-visits list delay t sound c k i n p in (
         ap (λ x. x .0) v ∙ ap (λ r. visit list delay c r .reply) q,
-        ap (λ x. recordOf (x .1) k) v ∙ own-record t i _ k p (at-row k i n p) ∙ ap (λ r. some (visit list delay c r .next)) q,
+        ap (λ x. recordFor (x .1) k) v ∙ own-record (t .table) i _ k p (at-row k i n p) ∙ ap (λ r. some (visit list delay c r .next)) q,
       )
 
   -- it is not in the table, and nothing changes
-  pub single-absent : (k : ℕ) → nameOf list c ≡ some k → recordOf t k ≡ none → went ≡ (missed list c, t)
+  pub single-absent : (k : ℕ) → nameOf list c ≡ some k → recordFor t k ≡ none → went ≡ (missed list c, t)
   single-absent k n e = single-misses list delay t sound c k n (no-place t k e)
 
   -- the record of any other number stays
-  pub single-other : (k : ℕ) → namesOne list c k ≡ false → recordOf (went .1) k ≡ recordOf t k
+  pub single-other : (k : ℕ) → namesOne list c k ≡ false → recordFor (went .1) k ≡ recordFor t k
   single-other k m = named (nameOf list c) refl
     where
-      placed : (j : ℕ) → nameOf list c ≡ some j → (place : Found) → rowOf t j ≡ place → recordOf (went .1) k ≡ recordOf t k
+      placed : (j : ℕ) → nameOf list c ≡ some j → (place : Found) → rowFor t j ≡ place → recordFor (went .1) k ≡ recordFor t k
       placed j n Nothing e = rw (single-misses list delay t sound c j n e)
       placed j n (At i) e =
-          ap (λ x. recordOf (x .1) k) (single-visits list delay t sound c j i n e)
-          ∙ other-record t i _ j e k (λ q. eqb-false j k (ap (λ o. isNamed o k) (sym n) ∙ m) (sym q))
+          ap (λ x. recordFor (x .1) k) (single-visits list delay t sound c j i n e)
+          ∙ other-record (t .table) i _ j e k (λ q. eqb-false j k (ap (λ o. isNamed o k) (sym n) ∙ m) (sym q))
 
-      named : (n : Option ℕ) → nameOf list c ≡ n → recordOf (went .1) k ≡ recordOf t k
+      named : (n : Option ℕ) → nameOf list c ≡ n → recordFor (went .1) k ≡ recordFor t k
       named none n = rw (single-stops list delay c n .1 t sound)
-      named (some j) n = placed j n (rowOf t j) refl
+      named (some j) n = placed j n (rowFor t j) refl
 
--- a list of calls leaves a sound table, with the same numbers in the same rows
-pub end-keeps : (list : List ℕ) (delay : ℕ) (cs : List Call) (t : List ℕ) → tableSound t ≡ true → Kept t (end (single list delay) cs t)
+-- a list of calls leaves a sound state, with the same numbers in the same rows
+pub end-keeps : (list : List ℕ) (delay : ℕ) (cs : List Call) (t : State) → stateSound t ≡ true → Kept t (end (single list delay) cs t)
 end-keeps list delay [] t sound = kept-same t sound
 end-keeps list delay (c ∷ cs) t sound =
     let k = single-keeps list delay c t sound in

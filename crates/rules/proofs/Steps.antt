@@ -29,7 +29,8 @@ use Rattle.strings.specs.Outcomes.{requestOf}
 use Rattle.strings.proofs.Text.{sound-rules}
 use Rattle.strings.proofs.ReadBack.{read-only}
 use Rattle.strings.proofs.Octets.{request-reads}
-use Rattle.tables.specs.Tables.{tableSound, flagsOf}
+use Rattle.tables.specs.Tables.{flagsOf}
+use Rattle.states.specs.States.{State, beside, stateSound}
 use Rattle.rules.specs.Answers.{crewRegistered, crewErased, Outcome, bufferRoom}
 use Rattle.rules.specs.Requests.{isForced, hasFollowMe, refusalChecks, rightChecks, negative, saying}
 use Rattle.rules.specs.Crews.{withCode, memberOf, crewCodes, crewNumber, Walk, walked, setOut, crewOutcome, carriedOutFor, requesting}
@@ -68,7 +69,7 @@ own-step list (sending now number buffer) e = refl
 own-step list (result now number kind) e = refl
 
 -- a crew's request that its frame stops has none
-no-steps : (list : List ℕ) (requester : Msisdn) (message frame : List ℕ) {codes : List ℕ} → anyHolds (framedChecks true list frame message) ≡ true
+no-steps : (list : List ℕ) (requester : Msisdn) (message frame : List ℕ) {codes : List ℕ} → anyHolds (framedChecks true true list frame message) ≡ true
     → codesOf (framed requester message frame) ≡ some codes → stepsOf list (framed requester message frame) ≡ []
 no-steps list requester message frame {codes} h e = by-inside (insideOf message) refl e
   where
@@ -123,7 +124,7 @@ module _ (f : Request) {codes : List ℕ} (sound : requestSound f ≡ true) (cre
       omega arith
 
 -- a requester with Follow Me passes the checks of her rights, if she forces nobody
-passes-rights : (t reply : List ℕ) (flags : ℕ) (e : Erasing) (done : Outcome) → hasFollowMe flags ≡ true → e ≡ Empty
+passes-rights : (t : State) (reply : List ℕ) (flags : ℕ) (e : Erasing) (done : Outcome) → hasFollowMe flags ≡ true → e ≡ Empty
     → decide (map (negative t reply) (rightChecks flags e)) done ≡ done
 passes-rights t reply flags e done h p = rw (h, p) refl
 
@@ -156,7 +157,7 @@ pub record Goes (list : List ℕ) (requester : Msisdn) (scheme : ℕ) (string re
   pub codes : List ℕ
   pub reads : requestOf string ≡ some fields
   pub crew : crewOf (fields .additional) ≡ some codes
-  pub passed : anyHolds (refusalChecks true list reply requester scheme string) ≡ false
+  pub passed : anyHolds (refusalChecks true true list reply requester scheme string) ≡ false
   pub right : hasFollowMe (flagsOf list (requester .0)) ≡ true
 
 -- its codes have two digits
@@ -165,14 +166,14 @@ codes-small f codes crew = (omega arith, small-codes codes (sound-codes codes (c
 
 -- what its single requests share
 pub passed-shared : (list : List ℕ) (requester : Msisdn) (scheme : ℕ) (string reply : List ℕ) (f : Request) (codes : List ℕ) → requestOf string ≡ some f
-    → crewOf (f .additional) ≡ some codes → anyHolds (refusalChecks true list reply requester scheme string) ≡ false → Shared list requester scheme f
+    → crewOf (f .additional) ≡ some codes → anyHolds (refusalChecks true true list reply requester scheme string) ≡ false → Shared list requester scheme f
 passed-shared list requester scheme string reply f codes reads crew passes =
     let sound = read-only (unpacked string) (request-reads string reads .1) .0 in
-    let passed = all-pass (refusalChecks true list reply requester scheme string) passes in
+    let passed = all-pass (refusalChecks true true list reply requester scheme string) passes in
     record {
       listed = not-false _ (passed .1 .0);
-      number = not-false _ (passed .1 .1 .1 .0);
-      coded = not-false _ (passed .1 .1 .1 .1 .0);
+      number = not-false _ (passed .1 .1 .1 .1 .0);
+      coded = not-false _ (passed .1 .1 .1 .1 .1 .0);
       plain = crew-plain f sound crew;
       lead = sound-rules f sound .number;
     }
@@ -182,7 +183,7 @@ module _ (list : List ℕ) (requester : Msisdn) (scheme : ℕ) (string reply : L
   read = g .fields
 
   pub goes-room : bufferRoom ≤ length reply
-  goes-room = omega (arith, ltb-false (length reply) bufferRoom (all-pass (refusalChecks true list reply requester scheme string) (g .passed) .0))
+  goes-room = omega (arith, ltb-false (length reply) bufferRoom (all-pass (refusalChecks true true list reply requester scheme string) (g .passed) .0))
 
   pub goes-shared : Shared list requester scheme read
   goes-shared = passed-shared list requester scheme string reply read (g .codes) (g .reads) (g .crew) (g .passed)
@@ -191,10 +192,10 @@ module _ (list : List ℕ) (requester : Msisdn) (scheme : ℕ) (string reply : L
   goes-small = codes-small read (g .codes) (g .crew)
 
   -- the walk over its single requests
-  abbrev pub walk : List ℕ → Walk
+  abbrev pub walk : State → Walk
   walk t = walked requester read (crewCodes (g .codes)) (setOut t)
 
-  pub goes-walks : (t : List ℕ) → tableSound t ≡ true → requesting t list reply requester scheme string ≡ crewOutcome (crewNumber (read .operation)) reply (walk t)
+  pub goes-walks : (t : State) → stateSound t ≡ true → requesting t list reply requester scheme string ≡ crewOutcome (crewNumber (read .operation)) reply (walk t)
   unfolding requesting
   goes-walks t sound =
       by-asks list reply requester scheme string t sound (λ h. carriedOutFor t reply requester h (crewOf (h .additional))) read (g .passed) (g .reads)
@@ -202,7 +203,7 @@ module _ (list : List ℕ) (requester : Msisdn) (scheme : ℕ) (string reply : L
       ∙ ap (carriedOutFor t reply requester read) (g .crew)
 
   -- it is answered 11 or 12
-  goes-answered : (t : List ℕ) → tableSound t ≡ true → isCrewOutcome (requesting t list reply requester scheme string .answer) ≡ true
+  goes-answered : (t : State) → stateSound t ≡ true → isCrewOutcome (requesting t list reply requester scheme string .answer) ≡ true
   goes-answered t sound = ap (λ o. isCrewOutcome (o .answer)) (goes-walks t sound) ∙ by-operation (read .operation)
     where
       by-operation : (o : Operation) → isCrewOutcome (crewOutcome (crewNumber o) reply (walk t) .answer) ≡ true
@@ -212,10 +213,10 @@ module _ (list : List ℕ) (requester : Msisdn) (scheme : ℕ) (string reply : L
 
 -- ---- a call by its steps
 
--- its own step; or none, and it leaves every table; or the single requests of a crew
+-- its own step; or none, and it leaves every state; or the single requests of a crew
 pub data View (list : List ℕ) (delay : ℕ) : Call → Type 0 where
   own : (c : Call) → codesOf c ≡ none → stepsOf list c ≡ c ∷ [] → View list delay c
-  stops : (c : Call) (r : Reply) → ((t : List ℕ) → tableSound t ≡ true → call list delay c t ≡ (r, t)) → stepsOf list c ≡ [] → View list delay c
+  stops : (c : Call) (r : Reply) → ((t : State) → stateSound t ≡ true → call list delay c t ≡ (r, t)) → stepsOf list c ≡ [] → View list delay c
   goes : {c : Call} {turn : Reply → Reply} {requester : Msisdn} {scheme : ℕ} {string reply : List ℕ} (g : Goes list requester scheme string reply)
       → Wraps list delay turn c (request requester scheme string reply) → stepsOf list c ≡ singleCalls requester scheme reply (g .fields) (g .codes)
       → View list delay c
@@ -227,19 +228,19 @@ module _ (list : List ℕ) (delay : ℕ) (requester : Msisdn) (scheme : ℕ) (st
     → stepsOf list c ≡ cond (stopsCrew list requester scheme string reply) [] (singleCalls requester scheme reply f codes)) where
   module _ (f : Request) (codes : List ℕ) (reads : requestOf string ≡ some f) (crew : crewOf (f .additional) ≡ some codes) where
     -- what is done where no check holds
-    abbrev done : List ℕ → Request → Outcome
+    abbrev done : State → Request → Outcome
     done t h = carriedOutFor t reply requester h (crewOf (h .additional))
 
-    stays : (r : Reply) → ((t : List ℕ) → tableSound t ≡ true → call list delay (request requester scheme string reply) t ≡ (r, t))
+    stays : (r : Reply) → ((t : State) → stateSound t ≡ true → call list delay (request requester scheme string reply) t ≡ (r, t))
         → stopsCrew list requester scheme string reply ≡ true → View list delay c
     stays r f′ p = stops c (turn r) (λ t sound. w .calls t sound ∙ ap (turned turn) (f′ t sound)) (crew-steps f codes reads crew ∙ rw p)
 
-    crew-view : (a b : Bool) → anyHolds (refusalChecks true list reply requester scheme string) ≡ a → hasFollowMe (flagsOf list (requester .0)) ≡ b
+    crew-view : (a b : Bool) → anyHolds (refusalChecks true true list reply requester scheme string) ≡ a → hasFollowMe (flagsOf list (requester .0)) ≡ b
         → View list delay c
     unfolding requesting
     crew-view true b p q = stays _ (λ t sound. ap replied (by-stops list reply requester scheme string t sound (done t) p)) (rw p)
     crew-view false false p q =
-        stays (replied (saying 42 [] reply) .0) (λ t sound. ap replied (by-asks list reply requester scheme string t sound (done t) f p reads ∙ rw q)) (rw (p, q))
+        stays (replied (saying 42 (beside [] []) reply) .0) (λ t sound. ap replied (by-asks list reply requester scheme string t sound (done t) f p reads ∙ rw q)) (rw (p, q))
     crew-view false true p q =
         goes (record { fields = f; codes = codes; reads = reads; crew = crew; passed = p; right = q }) w (crew-steps f codes reads crew ∙ rw (p, q))
 
@@ -252,7 +253,7 @@ module _ (list : List ℕ) (delay : ℕ) (requester : Msisdn) (scheme : ℕ) (st
       by-codes : (f : Request) → requestOf string ≡ some f → (codes : Option (List ℕ)) → crewOf (f .additional) ≡ codes → View list delay c
       by-codes f r none e = alone-view (rw r e)
       by-codes f r (some codes) e =
-          crew-view f codes r e (anyHolds (refusalChecks true list reply requester scheme string)) (hasFollowMe (flagsOf list (requester .0))) refl refl
+          crew-view f codes r e (anyHolds (refusalChecks true true list reply requester scheme string)) (hasFollowMe (flagsOf list (requester .0))) refl refl
 
       by-read : (read : Option Request) → requestOf string ≡ read → View list delay c
       by-read none r = alone-view (rw r refl)
@@ -267,7 +268,7 @@ view list delay (framed requester message frame) = go (opened list frame message
     it = framed requester message frame
 
     -- one that its frame stops
-    stopped : (r : Reply) → ((t : List ℕ) → tableSound t ≡ true → call list delay it t ≡ (r, t)) → anyHolds (framedChecks true list frame message) ≡ true
+    stopped : (r : Reply) → ((t : State) → stateSound t ≡ true → call list delay it t ≡ (r, t)) → anyHolds (framedChecks true true list frame message) ≡ true
         → (codes : Option (List ℕ)) → codesOf it ≡ codes → View list delay it
     stopped r f h none e = own it e (own-step list it e)
     stopped r f h (some codes) e = stops it r f (no-steps list requester message frame h e)
@@ -282,7 +283,7 @@ view list delay (result now number kind) = own (result now number kind) refl ref
 
 -- a crew's request that goes is answered 11 or 12, in its frame too
 pub goes-said : (list : List ℕ) (delay : ℕ) {c : Call} {turn : Reply → Reply} (requester : Msisdn) (scheme : ℕ) (string reply : List ℕ)
-    → Goes list requester scheme string reply → Wraps list delay turn c (request requester scheme string reply) → (t : List ℕ) → tableSound t ≡ true
+    → Goes list requester scheme string reply → Wraps list delay turn c (request requester scheme string reply) → (t : State) → stateSound t ≡ true
     → isCrewOutcome (call list delay c t .0 .answer) ≡ true
 goes-said list delay requester scheme string reply g w t sound =
     let r = call list delay (request requester scheme string reply) t .0 in
@@ -308,7 +309,7 @@ module _ (list : List ℕ) (delay : ℕ) (requester : Msisdn) (scheme : ℕ) (st
   pub singly-single : AllSingle singly
   singly-single = members-single list delay requester scheme (g .fields) shared buffers roomy (crewCodes (g .codes)) small
 
-  pub singly-walks : (t : List ℕ) → tableSound t ≡ true
+  pub singly-walks : (t : State) → stateSound t ≡ true
       → Walks list delay requester scheme (g .fields) shared buffers roomy (g .right) (crewCodes (g .codes)) (setOut t)
   singly-walks t sound = walks list delay requester scheme (g .fields) shared buffers roomy (g .right) (crewCodes (g .codes)) (setOut t) small sound
 

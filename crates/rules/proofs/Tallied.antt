@@ -17,6 +17,7 @@ use Rattle.crews.specs.Crews.{codesText, spacedCodes, crewOf}
 use Rattle.crews.proofs.Codes.{length-codes}
 use Rattle.crews.proofs.Crews.{sound-few, crew-only}
 use Rattle.strings.specs.Text.{Request}
+use Rattle.states.specs.States.{State}
 use Rattle.rules.specs.Requests.{step}
 use Rattle.rules.specs.Crews.{memberOf, crewCodes, mostSteps, Walk, isSuccess, walkedOn, walked, setOut, codesAndSpace, crewReply}
 use Rattle.rules.proofs.Taken.{takes-two, takes-numeral, takes-both, takes-space}
@@ -39,18 +40,18 @@ module _ (requester : Msisdn) (f : Request) where
       → length (w .successes) + length (w .failures) + length codes ≤ mostSteps → Tallied (walked requester f codes w)
   unfolding walked
   walked-tallied [] w c s u h = record { few = omega arith; successes = s; failures = u }
-  walked-tallied (code ∷ codes) w (c, cs) s u h = go (isSuccess (step (w .table) requester (memberOf f code) .verdict)) refl (walked-tallied codes _ cs)
+  walked-tallied (code ∷ codes) w (c, cs) s u h = go (isSuccess (step (w .state) requester (memberOf f code) .verdict)) refl (walked-tallied codes _ cs)
     where
       next : Walk
-      next = walkedOn code (step (w .table) requester (memberOf f code)) w
+      next = walkedOn code (step (w .state) requester (memberOf f code)) w
 
-      go : (b : Bool) → isSuccess (step (w .table) requester (memberOf f code) .verdict) ≡ b
+      go : (b : Bool) → isSuccess (step (w .state) requester (memberOf f code) .verdict) ≡ b
           → (Small (next .successes) → Small (next .failures) → length (next .successes) + length (next .failures) + length codes ≤ mostSteps → Tallied (walked requester f codes next))
           → Tallied (walked requester f codes next)
       go true e rest = rest (rw e (small-behind (w .successes) code s c)) (rw e u) (rw e (omega (arith, length-append (w .successes) (code ∷ []))))
       go false e rest = rest (rw e s) (rw e (small-behind (w .failures) code u c)) (rw e (omega (arith, length-append (w .failures) (code ∷ []))))
 
-  pub crew-tallied : (codes t : List ℕ) → crewOf (f .additional) ≡ some codes → Tallied (walked requester f (crewCodes codes) (setOut t))
+  pub crew-tallied : (codes : List ℕ) (t : State) → crewOf (f .additional) ≡ some codes → Tallied (walked requester f (crewCodes codes) (setOut t))
   crew-tallied codes t e =
       walked-tallied (crewCodes codes) (setOut t) (codes-small f codes e) tt tt (omega (arith, sound-few codes (crew-only (f .additional) e .1)))
 

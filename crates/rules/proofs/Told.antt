@@ -15,7 +15,7 @@ use Rattle.strings.specs.declared.Erasing.the-variants.{Forced}
 use Rattle.strings.specs.Text.{Request}
 use Rattle.records.specs.declared.Record.{Record}
 use Rattle.records.specs.Steps.{same, isAbsent}
-use Rattle.tables.specs.Tables.{recordOf}
+use Rattle.states.specs.States.{State, recordFor}
 use Rattle.rules.specs.Answers.{isOutcome}
 use Rattle.rules.specs.Run.{log}
 use Rattle.rules.specs.Calls.{Call, Reply, request, framed, sending, result, readOf, namesOne, call, steps}
@@ -90,23 +90,23 @@ module _ (list : List ℕ) (k : ℕ) where
 -- ---- the told
 
 -- a call c, framed or not, asks for a forced erasure of k naming h, and its requester is not h; it is answered 02; then come any calls, none of them a result that clears k's notice
-module _ (list : List ℕ) (delay k : ℕ) (table : List ℕ) (h : Msisdn) (c : Call) (f : Request)
+module _ (list : List ℕ) (delay k : ℕ) (state : State) (h : Msisdn) (c : Call) (f : Request)
     (named : namesOne list c k ≡ true) (reads : readOf c ≡ some f) (forces : f .erasing ≡ Forced h)
-    (other : askerOf c ≡ h → ⊥) (answered : isOutcome 2 ((call list delay c table) .0 .answer) ≡ true) where
-  abbrev after : List ℕ
-  after = (call list delay c table) .1
+    (other : askerOf c ≡ h → ⊥) (answered : isOutcome 2 ((call list delay c state) .0 .answer) ≡ true) where
+  abbrev after : State
+  after = (call list delay c state) .1
 
   -- the supervisor
   abbrev s : Msisdn
   s = askerOf c
 
-  singly : call list delay c table ≡ single list delay c table
-  singly = call-single list delay c table (forced-alone c f reads forces)
+  singly : call list delay c state ≡ single list delay c state
+  singly = call-single list delay c state (forced-alone c f reads forces)
 
-  notified : (r : Record) × (recordOf after k ≡ some r) × Telling h s r
+  notified : (r : Record) × (recordFor after k ≡ some r) × Telling h s r
   notified =
-      let (r, v, d, e, u) = answered-02 (along list delay k (c ∷ []) table) named (ap (λ x. isOutcome 2 (x .0 .answer)) (sym singly) ∙ answered) in
-      (v .next, ap (λ x. recordOf (x .1) k) singly ∙ e, call-tells list k d reads forces other u)
+      let (r, v, d, e, u) = answered-02 (along list delay k (c ∷ []) state) named (ap (λ x. isOutcome 2 (x .0 .answer)) (sym singly) ∙ answered) in
+      (v .next, ap (λ x. recordFor (x .1) k) singly ∙ e, call-tells list k d reads forces other u)
 
   -- every sending of k that succeeds tells h of her, whoever holds k meanwhile: among the single steps of the calls, a sending being its own
   pub holder-is-told : (calls : List Call) → never (noticeCleared k) (log (call list delay) (steps list calls) after) ≡ true

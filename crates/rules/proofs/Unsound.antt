@@ -1,66 +1,88 @@
--- Over an unsound table every call is refused, and leaves it. Assumes nothing.
-use mathlib.Core.Path.{_≡_, refl, ap, _∙_}
-use mathlib.Core.Bool.{false, not}
-use mathlib.Core.List.{List, [], _∷_}
+-- Over an unsound table or wrong figures every call is refused, and leaves both. Assumes nothing.
+use mathlib.Core.Path.{_≡_, refl, sym, ap, _∙_}
+use mathlib.Core.Bool.{Bool, true, false, not, _&&_}
+use mathlib.Core.List.{List, [], _∷_, _++_, map}
 use Prim.Native.Nat.{ℕ}
-use lib.ListN.{length}
+use lib.ListN.{length, drop}
 use lib.Dec.{ltb}
-use Rattle.answers.specs.Checks.{isNone}
-use Rattle.answers.proofs.Decide.{decide-each}
+use Rattle.answers.specs.Checks.{decide, isNone}
+use Rattle.answers.proofs.Tests.{no-path}
 use Rattle.numbers.specs.declared.FunctionalNumber.{FunctionalNumber}
 use Rattle.numbers.specs.declared.Msisdn.{Msisdn}
 use Rattle.strings.specs.Text.{Request}
-use Rattle.frames.specs.Messages.{frameRoom, registerOf}
-use Rattle.tables.specs.Tables.{tableSound, listSound}
+use Rattle.strings.specs.Outcomes.{requestOf}
+use Rattle.frames.specs.Messages.{frameRoom, unreadMessage, registerOf}
+use Rattle.tables.specs.Tables.{tableSound, listSound, flagsOf}
+use Rattle.states.specs.States.{State, figuresRight, stateSound, rowFor, recordFor}
 use Rattle.rules.specs.Answers.{refusal, Outcome, made, bufferRoom, refusing}
-use Rattle.rules.specs.Requests.{requestingBy}
+use Rattle.rules.specs.Requests.{refusalChecks, askingBy, requestingBy}
 use Rattle.rules.specs.Crews.{requesting}
-use Rattle.rules.specs.Frames.{framedBy, framedRequest}
-use Rattle.rules.specs.Notices.{sendingNotice, takingResult}
+use Rattle.rules.specs.Frames.{registered, framedBy, framedRequest}
+use Rattle.rules.specs.Notices.{sendingChecks, sentAt, sendingNotice, resultChecks, resultAt, takingResult}
 use Rattle.rules.specs.Run.{end}
+use Rattle.rules.specs.Figures.{isEarly}
 use Rattle.rules.specs.Calls.{Call, request, framed, sending, result, Reply, replied, clockReading, call}
 use Rattle.rules.proofs.Once.{requestingOnce, framedOnce, single}
 
-module _ (t : List ℕ) (unsound : tableSound t ≡ false) where
-  abbrev RefusedWith : Reply × List ℕ → Type 0
-  RefusedWith r = (n : ℕ) × (buffer : List ℕ) × (r ≡ (record { answer = refusal n; buffer = buffer }, t))
+module _ (t : State) (unsound : stateSound t ≡ false) where
+  abbrev RefusedWith : Reply × State → Type 0
+  RefusedWith r = (n : ℕ) × (buffer : List ℕ) × (r ≡ (record { answer = refusal n; buffer = buffer }, t)) × (isEarly (refusal n) ≡ true)
 
   abbrev RefusedAt : Outcome → Type 0
   RefusedAt o = RefusedWith (replied o)
 
+  abbrev AllEarly : List (Bool × ℕ) → Type 0
+  AllEarly [] = Unit {0}
+  AllEarly (c ∷ cs) = (isEarly (refusal (c .1)) ≡ true) × AllEarly cs
+
+  -- the checks before 2 and 10 are early refusals, and one of the two holds
+  refused-by : (buffer : List ℕ) (earlier : List (Bool × ℕ)) → AllEarly earlier → (later : List (Bool × Outcome)) (done : Outcome) (a b : Bool) → (a && b) ≡ false
+      → RefusedAt (decide (map (λ c. (c .0, made (refusal (c .1)) t buffer)) earlier ++ ((not a, made (refusal 2) t buffer) ∷ (not b, made (refusal 10) t buffer) ∷ later)) done)
+  refused-by buffer [] all later done false b e = (2, buffer, refl, refl)
+  refused-by buffer [] all later done true false e = (10, buffer, refl, refl)
+  refused-by buffer [] all later done true true e = no-path (sym e)
+  refused-by buffer ((true, n) ∷ earlier) (first, all) later done a b e = (n, buffer, refl, first)
+  refused-by buffer ((false, n) ∷ earlier) (first, all) later done a b e = refused-by buffer earlier all later done a b e
+
   request-refused : (done : Request → Outcome) (list reply : List ℕ) (requester : Msisdn) (scheme : ℕ) (string : List ℕ)
       → RefusedAt (requestingBy done t list reply requester scheme string)
   request-refused done list reply requester scheme string =
-      rw unsound (decide-each RefusedAt (refusing t reply ((ltb (length reply) bufferRoom, refusal 1) ∷ (not (listSound list), refusal 8) ∷ []))
-      (made (refusal 2) t reply) ((1, reply, refl), ((8, reply, refl), tt)) (2, reply, refl))
+      let checks = refusing t reply (refusalChecks (tableSound (t .table)) (figuresRight t) list reply requester scheme string) in
+      refused-by reply ((ltb (length reply) bufferRoom, 1) ∷ (not (listSound list), 8) ∷ []) (refl, (refl, tt)) (drop 4 checks)
+      (askingBy done t (flagsOf list (requester .0)) reply (requestOf string)) (tableSound (t .table)) (figuresRight t) unsound
 
   framed-refused : (asked : ℕ → List ℕ → Outcome) (list frame message : List ℕ) → RefusedAt (framedBy asked t list frame message)
   framed-refused asked list frame message =
-      rw unsound (decide-each RefusedAt
-      (refusing t frame ((ltb (length frame) frameRoom, refusal 1) ∷ (isNone (registerOf message), refusal 11) ∷ (not (listSound list), refusal 8) ∷ []))
-      (made (refusal 2) t frame) ((1, frame, refl), ((11, frame, refl), ((8, frame, refl), tt))) (2, frame, refl))
+      refused-by frame ((ltb (length frame) frameRoom, 1) ∷ (isNone (registerOf message), unreadMessage) ∷ (not (listSound list), 8) ∷ []) (refl, (refl, (refl, tt))) [] (registered asked t frame (registerOf message))
+      (tableSound (t .table)) (figuresRight t) unsound
 
   sending-refused : (buffer : List ℕ) (number : FunctionalNumber) (delay clock : ℕ) → RefusedAt (sendingNotice t buffer number delay clock)
   unfolding sendingNotice
   sending-refused buffer number delay clock =
-      rw unsound (decide-each RefusedAt (refusing t buffer ((ltb (length buffer) bufferRoom, refusal 1) ∷ []))
-      (made (refusal 2) t buffer) ((1, buffer, refl), tt) (2, buffer, refl))
+      let checks = refusing t buffer (sendingChecks (tableSound (t .table)) (figuresRight t) buffer (number .0) (recordFor t (number .0)) delay clock) in
+      refused-by buffer ((ltb (length buffer) bufferRoom, 1) ∷ []) (refl, tt) (drop 3 checks) (sentAt number (rowFor t (number .0)) t buffer) (tableSound (t .table)) (figuresRight t) unsound
+
+  result-refused : (number : FunctionalNumber) (kind clock : ℕ) → RefusedAt (takingResult t number kind clock)
+  unfolding takingResult
+  result-refused number kind clock =
+      let checks = refusing t [] (resultChecks (tableSound (t .table)) (figuresRight t) (number .0) (recordFor t (number .0)) kind) in
+      refused-by [] [] tt (drop 2 checks) (resultAt kind clock (rowFor t (number .0)) t) (tableSound (t .table)) (figuresRight t) unsound
 
   pub unsound-single : (list : List ℕ) (delay : ℕ) (c : Call) → RefusedWith (single list delay c t)
-  unfolding requestingOnce framedOnce takingResult
+  unfolding requestingOnce framedOnce
   unsound-single list delay (request requester scheme string reply) = request-refused _ list reply requester scheme string
   unsound-single list delay (framed requester message frame) = framed-refused _ list frame message
   unsound-single list delay (sending now number buffer) = sending-refused buffer number delay (clockReading now)
-  unsound-single list delay (result now number kind) = rw unsound (2, [], refl)
+  unsound-single list delay (result now number kind) = result-refused number kind (clockReading now)
 
   pub unsound-call : (list : List ℕ) (delay : ℕ) (c : Call) → RefusedWith (call list delay c t)
-  unfolding requesting framedRequest takingResult
+  unfolding requesting framedRequest
   unsound-call list delay (request requester scheme string reply) = request-refused _ list reply requester scheme string
   unsound-call list delay (framed requester message frame) = framed-refused _ list frame message
   unsound-call list delay (sending now number buffer) = sending-refused buffer number delay (clockReading now)
-  unsound-call list delay (result now number kind) = rw unsound (2, [], refl)
+  unsound-call list delay (result now number kind) = result-refused number kind (clockReading now)
 
   pub unsound-end : (list : List ℕ) (delay : ℕ) (cs : List Call) → end (call list delay) cs t ≡ t
   unsound-end list delay [] = refl
   unsound-end list delay (c ∷ cs) =
-      let (n, buffer, e) = unsound-call list delay c in ap (λ r. end (call list delay) cs (r .1)) e ∙ unsound-end list delay cs
+      let (n, buffer, e, early) = unsound-call list delay c in ap (λ r. end (call list delay) cs (r .1)) e ∙ unsound-end list delay cs

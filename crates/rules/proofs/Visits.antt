@@ -33,13 +33,15 @@ use Rattle.records.specs.declared.Holder.the-variants as holds
 use Rattle.records.specs.declared.Sending.the-variants as launches
 use Rattle.records.specs.declared.Resulted.the-variants.{Refused, Delivered, Dropped, Again}
 use Rattle.records.specs.Steps as steps
-use Rattle.rows.specs.Rows.{rowSound, recordAt, stored}
-use Rattle.rows.proofs.Rows.{sound-row, words-stored}
+use Rattle.rows.specs.Rows.{rowSound}
+use Rattle.rows.proofs.Rows.{sound-row}
 use Rattle.tables.specs.declared.Found.{Found}
 use Rattle.tables.specs.declared.Found.the-variants.{At, Nothing}
-use Rattle.tables.specs.Tables.{tableSound, rowOf, recordFound, recordOf, flagsOf}
+use Rattle.tables.specs.Tables.{recordOf, flagsOf}
 use Rattle.tables.proofs.Sound.{table-row}
 use Rattle.tables.proofs.Stored.{row-found}
+use Rattle.states.specs.States.{State, stateSound, rowFor, recordWhere, recordFor, recordIn, storedIn}
+use Rattle.states.proofs.States.{state-table, state-right, stored-back}
 use Rattle.rules.specs.Answers.{Answer, refusal, error, delivered, dropped, again, Outcome, made, bufferRoom, refusing}
 use Rattle.rules.specs.Requests as requests
 use Rattle.rules.specs.Requests.{Stepping, comesTo, says}
@@ -50,18 +52,17 @@ use Rattle.rules.specs.Visits.{stepAt, tellAt, decidesAt, visited, stori
 use Rattle.rules.proofs.Once.{requestingOnce, single}
 use Rattle.rules.proofs.Inside.{turned, Opened, shut, carries, opened}
 
--- ---- the row of a number in a sound table
+-- ---- the row of a number in a sound state
 
-module _ (t : List ℕ) (k i : ℕ) (sound : tableSound t ≡ true) (e : rowOf t k ≡ At i) where
-  pub found-sound : rowSound t i ≡ true
-  found-sound = table-row t sound i (row-found t k i e .0)
+module _ (t : State) (k i : ℕ) (sound : stateSound t ≡ true) (e : rowFor t k ≡ At i) where
+  pub found-sound : rowSound (t .table) i ≡ true
+  found-sound = table-row (t .table) (state-table t sound) i (row-found (t .table) k i e .0)
 
   pub found-number : isNumber k ≡ true
-  found-number = rw (← (row-found t k i e .1)) (sound-row t i found-sound .number)
+  found-number = rw (← (row-found (t .table) k i e .1)) (sound-row (t .table) i found-sound .number)
 
-  -- storing the record that it has changes nothing
-  stored-back : stored t i (recordAt t i) ≡ t
-  stored-back = words-stored t i found-sound
+  pub found-back : storedIn t i (recordIn t i) ≡ t
+  found-back = stored-back t i sound (row-found (t .table) k i e .0)
 
 -- ---- requests
 
@@ -81,14 +82,14 @@ recordChecks Erase (Forced m) number requester r =
     ∷ []
 recordChecks Interrogate e number requester r = (steps.isNobody (r .holder), 62) ∷ []
 
-module _ (t : List ℕ) (i : ℕ) (requester : Msisdn) where
+module _ (t : State) (i : ℕ) (requester : Msisdn) where
   abbrev it : Record
-  it = recordAt t i
+  it = recordIn t i
 
   -- the checks before a step of the record
   stepping :
       (n : ℕ) (checks : List (Bool × ℕ)) (next : Record)
-      → decide (map (requests.staying t) checks) (comesTo (says n) (stored t i next)) ≡ stepAt t i n (decide (map (answering step.Stays) checks) (step.Becomes next))
+      → decide (map (requests.staying t) checks) (comesTo (says n) (storedIn t i next)) ≡ stepAt t i n (decide (map (answering step.Stays) checks) (step.Becomes next))
   stepping n checks next = decide-of (λ m. comesTo (says m) t) (stepAt t i n) step.Stays (λ m. refl) checks (step.Becomes next)
 
   by-record :
@@ -113,56 +114,56 @@ module _ (t : List ℕ) (i : ℕ) (requester : Msisdn) where
   in-order Interrogate Empty number additional h = refl
   in-order Interrogate (Forced m) number additional h = no-path h
 
-module _ (t : List ℕ) (requester : Msisdn) (f : Request) where
+module _ (t : State) (requester : Msisdn) (f : Request) where
   abbrev stepped-at : Found → Stepping
-  stepped-at place = decide (map (requests.staying t) (requests.stepChecks requester f (recordFound t place))) (requests.carriedOutAt f place requester t)
+  stepped-at place = decide (map (requests.staying t) (requests.stepChecks requester f (recordWhere t place))) (requests.carriedOutAt f place requester t)
 
-  step-place : (place : Found) → rowOf t (f .number .0) ≡ place → requests.step t requester f ≡ stepped-at place
+  step-place : (place : Found) → rowFor t (f .number .0) ≡ place → requests.step t requester f ≡ stepped-at place
   unfolding requests.step recordOf
   step-place place e = ap stepped-at e
 
-  pub step-visits : (i : ℕ) → rowOf t (f .number .0) ≡ At i → erasingSound (f .operation) (f .erasing) ≡ true
+  pub step-visits : (i : ℕ) → rowFor t (f .number .0) ≡ At i → erasingSound (f .operation) (f .erasing) ≡ true
       → requests.step t requester f ≡ decidesAt (f .operation) (f .erasing) (f .number) requester t i
   step-visits i e h =
       step-place (At i) e
       ∙ in-order t i requester (f .operation) (f .erasing) (f .number) (f .additional) h
       ∙ by-record t i requester (f .operation) (f .erasing) (f .number)
 
-  pub step-misses : rowOf t (f .number .0) ≡ Nothing → requests.step t requester f ≡ comesTo (says 41) t
+  pub step-misses : rowFor t (f .number .0) ≡ Nothing → requests.step t requester f ≡ comesTo (says 41) t
   step-misses e = step-place Nothing e
 
 -- a single request by its step: what is replied, and stored
-module _ (t : List ℕ) (i : ℕ) (same : stored t i (recordAt t i) ≡ t) (requester : Msisdn) (reply : List ℕ) where
+module _ (t : State) (i : ℕ) (same : storedIn t i (recordIn t i) ≡ t) (requester : Msisdn) (reply : List ℕ) where
   -- storing the record that row i has changes nothing
-  stays : (n : ℕ) → requests.saying n t reply ≡ storing t i (visitSaying n reply (recordAt t i))
+  stays : (n : ℕ) → requests.saying n t reply ≡ storing t i (visitSaying n reply (recordIn t i))
   stays n = rw same
 
-  replies-step : (n : ℕ) (s : Step) → requests.replying reply (stepAt t i n s) ≡ storing t i (stepped n reply (recordAt t i) s)
+  replies-step : (n : ℕ) (s : Step) → requests.replying reply (stepAt t i n s) ≡ storing t i (stepped n reply (recordIn t i) s)
   replies-step n (step.Stays m) = stays m
   replies-step n (step.Becomes next) = refl
 
-  replies-holder : (h : Holder) → requests.replying reply (tellAt t h) ≡ storing t i (holderAnswered reply (recordAt t i) h)
+  replies-holder : (h : Holder) → requests.replying reply (tellAt t h) ≡ storing t i (holderAnswered reply (recordIn t i) h)
   replies-holder (holds.Stays m) = stays m
   replies-holder (holds.Held msisdn) = rw same
 
   replies : (o : Operation) (e : Erasing) (number : FunctionalNumber)
-      → requests.replying reply (decidesAt o e number requester t i) ≡ storing t i (decides o e number requester reply (recordAt t i))
-  replies Register e number = replies-step 1 (steps.registered number requester (recordAt t i))
-  replies Erase e number = replies-step 2 (erases e requester (recordAt t i))
-  replies Interrogate e number = replies-holder (steps.interrogated (recordAt t i))
+      → requests.replying reply (decidesAt o e number requester t i) ≡ storing t i (decides o e number requester reply (recordIn t i))
+  replies Register e number = replies-step 1 (steps.registered number requester (recordIn t i))
+  replies Erase e number = replies-step 2 (erases e requester (recordIn t i))
+  replies Interrogate e number = replies-holder (steps.interrogated (recordIn t i))
 
-  visits : (flags : ℕ) (f : Request) → rowOf t (f .number .0) ≡ At i → erasingSound (f .operation) (f .erasing) ≡ true
-      → requests.askingBy (requests.once t reply requester) t flags reply (some f) ≡ storing t i (visitRequest flags requester reply (some f) (recordAt t i))
+  visits : (flags : ℕ) (f : Request) → rowFor t (f .number .0) ≡ At i → erasingSound (f .operation) (f .erasing) ≡ true
+      → requests.askingBy (requests.once t reply requester) t flags reply (some f) ≡ storing t i (visitRequest flags requester reply (some f) (recordIn t i))
   unfolding decided
   visits flags f e h =
       ap (λ done. decide (map (requests.negative t reply) (requests.rightChecks flags (f .erasing))) done)
       (ap (requests.replying reply) (step-visits t requester f i e h) ∙ replies (f .operation) (f .erasing) (f .number))
-      ∙ decide-of (λ n. requests.saying n t reply) (storing t i) (λ n. visitSaying n reply (recordAt t i)) stays (requests.rightChecks flags (f .erasing))
-      (decided f requester reply (recordAt t i))
+      ∙ decide-of (λ n. requests.saying n t reply) (storing t i) (λ n. visitSaying n reply (recordIn t i)) stays (requests.rightChecks flags (f .erasing))
+      (decided f requester reply (recordIn t i))
 
 module _ (list reply : List ℕ) (requester : Msisdn) (scheme : ℕ) (string : List ℕ) where
   abbrev refusals : List (Bool × Answer)
-  refusals = requests.refusalChecks true list reply requester scheme string
+  refusals = requests.refusalChecks true true list reply requester scheme string
 
   -- what a request that names k has: checks that all pass, and fields that are read
   pub record Naming (k : ℕ) : Type 0 where
@@ -181,7 +182,7 @@ module _ (list reply : List ℕ) (requester : Msisdn) (scheme : ℕ) (string : L
 
   -- its requester is a number
   pub requester-number : (k : ℕ) → nameOf list (request requester scheme string reply) ≡ some k → isNumber (requester .0) ≡ true
-  requester-number k e = not-false (isNumber (requester .0)) (all-pass refusals (naming k e .passed) .1 .1 .1 .0)
+  requester-number k e = not-false (isNumber (requester .0)) (all-pass refusals (naming k e .passed) .1 .1 .1 .1 .0)
 
   -- a request that names none has a check that holds: a string that does not read is one
   unnamed : nameOf list (request requester scheme string reply) ≡ none → anyHolds refusals ≡ true
@@ -190,12 +191,12 @@ module _ (list reply : List ℕ) (requester : Msisdn) (scheme : ℕ) (string : L
       go : (b : Bool) → anyHolds refusals ≡ b → (read : Option Request) → requestOf string ≡ read → cond b none (numberRead read) ≡ none → b ≡ true
       go true h read r e = refl
       go false h none r e =
-          let reads = or-neither (ltb requests.mostStringOctets (length string)) (isNone (requestOf string)) (all-pass refusals h .1 .1 .1 .1 .1 .1 .0) in
+          let reads = or-neither (ltb requests.mostStringOctets (length string)) (isNone (requestOf string)) (all-pass refusals h .1 .1 .1 .1 .1 .1 .1 .0) in
           sym (reads .1) ∙ ap isNone r
       go false h (some f) r e = not-some (sym e)
 
-  -- over a sound table
-  module _ (t : List ℕ) (sound : tableSound t ≡ true) where
+  -- over a sound state
+  module _ (t : State) (sound : stateSound t ≡ true) where
     -- whatever is done where no check holds
     module _ (done : Request → Outcome) where
       abbrev asked : Outcome
@@ -205,7 +206,7 @@ module _ (list reply : List ℕ) (requester : Msisdn) (scheme : ℕ) (string : L
       behind = requests.askingBy done t (flagsOf list (requester .0)) reply (requestOf string)
 
       in-two : asked ≡ decide (refusing t reply refusals) behind
-      in-two = rw sound
+      in-two = rw (state-table t sound, state-right t sound)
 
       any-refuses : anyHolds (refusing t reply refusals) ≡ anyHolds refusals
       any-refuses = any-answering (λ a. made a t reply) refusals
@@ -235,15 +236,15 @@ module _ (list reply : List ℕ) (requester : Msisdn) (scheme : ℕ) (string : L
       request-asks = by-asks (requests.once t reply requester) f passed reads
 
       -- the number is in row i: that row's record decides
-      pub request-visits : (i : ℕ) → rowOf t (f .number .0) ≡ At i
+      pub request-visits : (i : ℕ) → rowFor t (f .number .0) ≡ At i
           → requestingOnce t list reply requester scheme string
-          ≡ storing t i (visitRequest (flagsOf list (requester .0)) requester reply (some f) (recordAt t i))
+          ≡ storing t i (visitRequest (flagsOf list (requester .0)) requester reply (some f) (recordIn t i))
       request-visits i e =
           request-asks
-          ∙ visits t i (stored-back t (f .number .0) i sound e) requester reply (flagsOf list (requester .0)) f e (read-sound string f reads)
+          ∙ visits t i (found-back t (f .number .0) i sound e) requester reply (flagsOf list (requester .0)) f e (read-sound string f reads)
 
       -- the number is not in the table
-      pub request-misses : rowOf t (f .number .0) ≡ Nothing
+      pub request-misses : rowFor t (f .number .0) ≡ Nothing
           → requestingOnce t list reply requester scheme string ≡ leaving t (missedRequest (flagsOf list (requester .0)) reply (some f))
       request-misses e =
           request-asks
@@ -259,18 +260,18 @@ abbrev pub sentChecks : ℕ → ℕ → Record → List (Bool × ℕ)
 sentChecks delay clock r =
     (not (steps.delayAllowed delay), 6) ∷ (not (steps.isWaiting (r .notice)), 4) ∷ (not (steps.isDue delay clock (r .notice)), 5) ∷ []
 
-module _ (t buffer : List ℕ) (number : FunctionalNumber) (delay clock : ℕ) (sound : tableSound t ≡ true) where
-  abbrev sendings : Bool → Found → Outcome
-  sendings soundTable place =
-      decide (refusing t buffer (notices.sendingChecks soundTable buffer (number .0) (recordFound t place) delay clock))
+module _ (t : State) (buffer : List ℕ) (number : FunctionalNumber) (delay clock : ℕ) (sound : stateSound t ≡ true) where
+  abbrev sendings : Bool → Bool → Found → Outcome
+  sendings soundTable rightFigures place =
+      decide (refusing t buffer (notices.sendingChecks soundTable rightFigures buffer (number .0) (recordWhere t place) delay clock))
       (notices.sentAt number place t buffer)
 
-  sending-at : (place : Found) → rowOf t (number .0) ≡ place → notices.sendingNotice t buffer number delay clock ≡ sendings true place
+  sending-at : (place : Found) → rowFor t (number .0) ≡ place → notices.sendingNotice t buffer number delay clock ≡ sendings true true place
   unfolding notices.sendingNotice recordOf
-  sending-at place e = ap (λ b. sendings b (rowOf t (number .0))) sound ∙ ap (sendings true) e
+  sending-at place e = rw (state-table t sound, state-right t sound) (ap (sendings true true) e)
 
-  by-sending : (i : ℕ) → stored t i (recordAt t i) ≡ t → isNumber (number .0) ≡ true
-      → sendings true (At i) ≡ storing t i (visitSending delay clock number buffer (recordAt t i))
+  by-sending : (i : ℕ) → storedIn t i (recordIn t i) ≡ t → isNumber (number .0) ≡ true
+      → sendings true true (At i) ≡ storing t i (visitSending delay clock number buffer (recordIn t i))
   unfolding steps.sent
   by-sending i same isOne = rw isOne
       (chosen (storing t i) (ltb (length buffer) bufferRoom) (refuses (refusal 1))
@@ -278,19 +279,19 @@ module _ (t buffer : List ℕ) (number : FunctionalNumber) (delay clock : ℕ) (
       (sentChecks delay clock it) (launches.Launched (steps.withNotice (steps.launched (it .notice)) it))))
     where
       it : Record
-      it = recordAt t i
+      it = recordIn t i
 
       refuses : (a : Answer) → made a t buffer ≡ storing t i (visited a buffer it)
       refuses a = rw same
 
   -- the number is in row i: that row's record decides
-  pub sending-visits : (i : ℕ) → rowOf t (number .0) ≡ At i
-      → notices.sendingNotice t buffer number delay clock ≡ storing t i (visitSending delay clock number buffer (recordAt t i))
+  pub sending-visits : (i : ℕ) → rowFor t (number .0) ≡ At i
+      → notices.sendingNotice t buffer number delay clock ≡ storing t i (visitSending delay clock number buffer (recordIn t i))
   sending-visits i e =
-      sending-at (At i) e ∙ by-sending i (stored-back t (number .0) i sound e) (found-number t (number .0) i sound e)
+      sending-at (At i) e ∙ by-sending i (found-back t (number .0) i sound e) (found-number t (number .0) i sound e)
 
   -- the number is not in the table
-  pub sending-misses : rowOf t (number .0) ≡ Nothing → notices.sendingNotice t buffer number delay clock ≡ leaving t (missedSending buffer)
+  pub sending-misses : rowFor t (number .0) ≡ Nothing → notices.sendingNotice t buffer number delay clock ≡ leaving t (missedSending buffer)
   sending-misses e =
       sending-at Nothing e ∙ rw (or-right (not (isNumber (number .0))) true refl) (chosen (leaving t) (ltb (length buffer) bufferRoom) refl refl)
 
@@ -300,20 +301,20 @@ module _ (t buffer : List ℕ) (number : FunctionalNumber) (delay clock : ℕ) (
 abbrev resultChecks : ℕ → Record → List (Bool × ℕ)
 resultChecks kind r = (ltb steps.lastKind kind, 3) ∷ (not (steps.isInFlight (r .notice)), 4) ∷ []
 
-module _ (t : List ℕ) (number : FunctionalNumber) (kind clock : ℕ) (sound : tableSound t ≡ true) where
-  abbrev results : Bool → Found → Outcome
-  results soundTable place =
-      decide (refusing t [] (notices.resultChecks soundTable (number .0) (recordFound t place) kind)) (notices.resultAt kind clock place t)
+module _ (t : State) (number : FunctionalNumber) (kind clock : ℕ) (sound : stateSound t ≡ true) where
+  abbrev results : Bool → Bool → Found → Outcome
+  results soundTable rightFigures place =
+      decide (refusing t [] (notices.resultChecks soundTable rightFigures (number .0) (recordWhere t place) kind)) (notices.resultAt kind clock place t)
 
-  result-at : (place : Found) → rowOf t (number .0) ≡ place → notices.takingResult t number kind clock ≡ results true place
+  result-at : (place : Found) → rowFor t (number .0) ≡ place → notices.takingResult t number kind clock ≡ results true true place
   unfolding notices.takingResult recordOf
-  result-at place e = ap (λ b. results b (rowOf t (number .0))) sound ∙ ap (results true) e
+  result-at place e = rw (state-table t sound, state-right t sound) (ap (results true true) e)
 
   -- what is returned and left where no check holds; kind 0 clears, since it is below 5
   returns : (i : ℕ) (zero below last : Bool) → (zero ≡ true → below ≡ true)
-      → let it = recordAt t i in
+      → let it = recordIn t i in
       let failed = steps.withNotice (Waiting (steps.sendingsDone (it .notice)) clock) it in
-      made (cond zero delivered (cond (below || last) dropped again)) (stored t i (cond (below || last) (steps.cleared it) failed)) []
+      made (cond zero delivered (cond (below || last) dropped again)) (storedIn t i (cond (below || last) (steps.cleared it) failed)) []
       ≡ storing t i (resultStep it
       (decide ((zero, Delivered (steps.cleared it)) ∷ (below, Dropped (steps.cleared it)) ∷ (last, Dropped (steps.cleared it)) ∷ []) (Again failed)))
   returns i true true last h = refl
@@ -322,8 +323,8 @@ module _ (t : List ℕ) (number : FunctionalNumber) (kind clock : ℕ) (sound : 
   returns i false false true h = refl
   returns i false false false h = refl
 
-  by-result : (i : ℕ) → stored t i (recordAt t i) ≡ t → isNumber (number .0) ≡ true
-      → results true (At i) ≡ storing t i (visitResult kind clock (recordAt t i))
+  by-result : (i : ℕ) → storedIn t i (recordIn t i) ≡ t → isNumber (number .0) ≡ true
+      → results true true (At i) ≡ storing t i (visitResult kind clock (recordIn t i))
   unfolding steps.resulted
   by-result i same isOne = rw isOne
       (ap (λ done. decide (refusing t [] (map (answering refusal) (resultChecks kind it))) done)
@@ -331,31 +332,31 @@ module _ (t : List ℕ) (number : FunctionalNumber) (kind clock : ℕ) (sound : 
       ∙ decide-of (λ n. made (refusal n) t []) (λ s. storing t i (resultStep it s)) Refused (λ n. rw same) (resultChecks kind it) _)
     where
       it : Record
-      it = recordAt t i
+      it = recordIn t i
 
   -- the number is in row i: that row's record decides
-  pub result-visits : (i : ℕ) → rowOf t (number .0) ≡ At i → notices.takingResult t number kind clock ≡ storing t i (visitResult kind clock (recordAt t i))
+  pub result-visits : (i : ℕ) → rowFor t (number .0) ≡ At i → notices.takingResult t number kind clock ≡ storing t i (visitResult kind clock (recordIn t i))
   result-visits i e =
-      result-at (At i) e ∙ by-result i (stored-back t (number .0) i sound e) (found-number t (number .0) i sound e)
+      result-at (At i) e ∙ by-result i (found-back t (number .0) i sound e) (found-number t (number .0) i sound e)
 
   -- the number is not in the table
-  pub result-misses : rowOf t (number .0) ≡ Nothing → notices.takingResult t number kind clock ≡ leaving t missedResult
+  pub result-misses : rowFor t (number .0) ≡ Nothing → notices.takingResult t number kind clock ≡ leaving t missedResult
   result-misses e = result-at Nothing e ∙ rw (or-right (not (isNumber (number .0))) true refl)
 
 -- ---- calls
 
-module _ (list : List ℕ) (delay : ℕ) (t : List ℕ) (sound : tableSound t ≡ true) where
+module _ (list : List ℕ) (delay : ℕ) (t : State) (sound : stateSound t ≡ true) where
   -- the number that the call names is in row i: that row's record decides
   abbrev VisitsAt : Call → ℕ → Type 0
-  VisitsAt c i = single list delay c t ≡ (visit list delay c (recordAt t i) .reply, stored t i (visit list delay c (recordAt t i) .next))
+  VisitsAt c i = single list delay c t ≡ (visit list delay c (recordIn t i) .reply, storedIn t i (visit list delay c (recordIn t i) .next))
 
   bare-visits : (requester : Msisdn) (scheme : ℕ) (string reply : List ℕ) (k i : ℕ) → nameOf list (request requester scheme string reply) ≡ some k
-      → rowOf t k ≡ At i → VisitsAt (request requester scheme string reply) i
+      → rowFor t k ≡ At i → VisitsAt (request requester scheme string reply) i
   bare-visits requester scheme string reply k i n e =
       let x = naming list reply requester scheme string k n in
       ap replied (request-visits list reply requester scheme string t sound (x .fields) (x .passed) (x .reads) i (rw (x .names) e) ∙ rw (x .reads))
 
-  pub single-visits : (c : Call) (k i : ℕ) → nameOf list c ≡ some k → rowOf t k ≡ At i → VisitsAt c i
+  pub single-visits : (c : Call) (k i : ℕ) → nameOf list c ≡ some k → rowFor t k ≡ At i → VisitsAt c i
   single-visits (request requester scheme string reply) k i n e = bare-visits requester scheme string reply k i n e
   single-visits (framed requester message frame) k i n e = go (opened list frame message requester delay)
     where
@@ -368,12 +369,12 @@ module _ (list : List ℕ) (delay : ℕ) (t : List ℕ) (sound : tableSound t �
 
   -- it is not in the table
   bare-misses : (requester : Msisdn) (scheme : ℕ) (string reply : List ℕ) (k : ℕ) → nameOf list (request requester scheme string reply) ≡ some k
-      → rowOf t k ≡ Nothing → single list delay (request requester scheme string reply) t ≡ (missed list (request requester scheme string reply), t)
+      → rowFor t k ≡ Nothing → single list delay (request requester scheme string reply) t ≡ (missed list (request requester scheme string reply), t)
   bare-misses requester scheme string reply k n e =
       let x = naming list reply requester scheme string k n in
       ap replied (request-misses list reply requester scheme string t sound (x .fields) (x .passed) (x .reads) (rw (x .names) e) ∙ rw (x .reads))
 
-  pub single-misses : (c : Call) (k : ℕ) → nameOf list c ≡ some k → rowOf t k ≡ Nothing → single list delay c t ≡ (missed list c, t)
+  pub single-misses : (c : Call) (k : ℕ) → nameOf list c ≡ some k → rowFor t k ≡ Nothing → single list delay c t ≡ (missed list c, t)
   single-misses (request requester scheme string reply) k n e = bare-misses requester scheme string reply k n e
   single-misses (framed requester message frame) k n e = go (opened list frame message requester delay)
     where
@@ -384,10 +385,10 @@ module _ (list : List ℕ) (delay : ℕ) (t : List ℕ) (sound : tableSound t �
   single-misses (sending now number buffer) k n e = ap replied (sending-misses t buffer number delay (clockReading now) sound (cc))
   single-misses (result now number kind) k n e = ap replied (result-misses t number kind (clockReading now) sound (cc))
 
--- the call names none: it gets the same over every sound table, which stays
+-- the call names none: it gets the same over every sound state, which stays
 module _ (list : List ℕ) (delay : ℕ) where
   abbrev Stops : Call → Type 0
-  Stops c = (r : Reply) × ((t : List ℕ) → tableSound t ≡ true → single list delay c t ≡ (r, t))
+  Stops c = (r : Reply) × ((t : State) → stateSound t ≡ true → single list delay c t ≡ (r, t))
 
   bare-stops : (requester : Msisdn) (scheme : ℕ) (string reply : List ℕ) → nameOf list (request requester scheme string reply) ≡ none
       → Stops (request requester scheme string reply)

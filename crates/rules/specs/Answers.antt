@@ -1,4 +1,4 @@
--- Answers in document 01's words and numbers, the texts that they write, and what a call comes to: the answer, the table afterwards and the buffer afterwards. Assumes nothing.
+-- Answers in document 01's words and numbers, the texts that they write, and what a call comes to: the answer, table and figures afterwards, and the buffer afterwards. Assumes nothing.
 use Prim.Native.Nat.{ℕ}
 use mathlib.Core.Bool.{Bool, not, _&&_, _||_}
 use mathlib.Core.List.{List, _∷_, _++_, map}
@@ -7,10 +7,11 @@ use lib.Dec.{eqb}
 use Rattle.answers.specs.Writing.{over}
 use Rattle.packing.specs.Packing.{packed}
 use Rattle.numbers.specs.Numbers.{digitsOf, twoDigits}
+use Rattle.states.specs.States.{State}
 
 -- "Refusals, errors and outcomes are numbered apart"
 pub data Answer : Type 0 where
-  -- refusals 1 to 9, and 11
+  -- refusals 1 to 11
   refusal : ℕ → Answer
   -- errors 35, 36 and 71
   error : ℕ → Answer
@@ -121,6 +122,10 @@ isReturnError a = isOf returnErrorClass a
 abbrev pub isReject : Answer → Bool
 isReject a = isOf rejectClass a
 
+-- it is refusal n
+abbrev pub isRefusedWith : ℕ → Answer → Bool
+isRefusedWith n a = isOf refusalClass a && eqb (numbersOf a .number) n
+
 -- it is outcome n; outcomes 01 and 02 are not refusals 1 and 2
 abbrev pub isOutcome : ℕ → Answer → Bool
 isOutcome n a = isOf outcomeClass a && eqb (numbersOf a .number) n
@@ -144,11 +149,11 @@ isClearing a = isOf resultClass a && not (eqb (numbersOf a .number) againNumber)
 
 pub record Outcome : Type 0 where
   pub answer : Answer
-  pub table : List ℕ
+  pub state : State
   pub buffer : List ℕ
 
-abbrev pub made : Answer → List ℕ → List ℕ → Outcome
-made a t b = record { answer = a; table = t; buffer = b }
+abbrev pub made : Answer → State → List ℕ → Outcome
+made a s b = record { answer = a; state = s; buffer = b }
 
 -- the reply and notice buffers: "under 80 octets" is refusal 1
 abbrev pub bufferRoom : ℕ
@@ -170,8 +175,8 @@ abbrev pub octetCount : List ℕ → ℕ
 octetCount text = length (packed text)
 
 -- "Errors and refusals return only their number and touch no memory": what a check with such an answer comes to
-abbrev pub unchanged : List ℕ → List ℕ → Bool × Answer → Bool × Outcome
-unchanged table buffer check = (check .0, made (check .1) table buffer)
+abbrev pub unchanged : State → List ℕ → Bool × Answer → Bool × Outcome
+unchanged state buffer check = (check .0, made (check .1) state buffer)
 
-abbrev pub refusing : List ℕ → List ℕ → List (Bool × Answer) → List (Bool × Outcome)
-refusing table buffer checks = map (unchanged table buffer) checks
+abbrev pub refusing : State → List ℕ → List (Bool × Answer) → List (Bool × Outcome)
+refusing state buffer checks = map (unchanged state buffer) checks

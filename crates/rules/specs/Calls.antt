@@ -1,4 +1,4 @@
--- Requests, framed ones, sendings and results as calls over one table, with one subscriber list and one delay; the numbers that a call names; and its single steps. Assumes nothing.
+-- Requests, framed ones, sendings and results as calls over one table and its figures, with one subscriber list and one delay; the numbers that a call names; and its single steps. Assumes nothing.
 use Prim.Native.Nat.{ℕ, _*_, _%_, _^_}
 use mathlib.Core.Bool.{Bool, true, false, cond, not, _||_}
 use mathlib.Core.Option.{Option, none, some}
@@ -16,6 +16,7 @@ use Rattle.rows.specs.Rows.{rowWords}
 use Rattle.tables.specs.declared.Found.{Found}
 use Rattle.tables.specs.declared.Found.the-variants.{At, Nothing}
 use Rattle.tables.specs.Tables.{rowOf, flagsOf}
+use Rattle.states.specs.States.{State, counted}
 use Rattle.rules.specs.Answers.{Answer, Outcome}
 use Rattle.rules.specs.Requests.{hasFollowMe, refusalChecks}
 use Rattle.rules.specs.Crews.{withCode, memberOf, crewCodes, requesting}
@@ -45,19 +46,19 @@ pub record Reply : Type 0 where
   pub answer : Answer
   pub buffer : List ℕ
 
-abbrev pub replied : Outcome → Reply × List ℕ
-replied o = (record { answer = o .answer; buffer = o .buffer }, o .table)
+abbrev pub replied : Outcome → Reply × State
+replied o = (record { answer = o .answer; buffer = o .buffer }, o .state)
 
 -- "The second counter has 32 bits and wraps"
 abbrev pub clockReading : ℕ → ℕ
 clockReading now = now % 2 ^ 32
 
--- one call over the table
-abbrev pub call : List ℕ → ℕ → Call → List ℕ → Reply × List ℕ
-call list delay (request requester scheme string reply) table = replied (requesting table list reply requester scheme string)
-call list delay (framed requester message frame) table = replied (framedRequest table list frame requester message)
-call list delay (sending now number buffer) table = replied (notices.sendingNotice table buffer number delay (clockReading now))
-call list delay (result now number kind) table = replied (notices.takingResult table number kind (clockReading now))
+-- one call over table and figures
+abbrev pub call : List ℕ → ℕ → Call → State → Reply × State
+call list delay (request requester scheme string reply) state = replied (requesting state list reply requester scheme string)
+call list delay (framed requester message frame) state = replied (framedRequest state list frame requester message)
+call list delay (sending now number buffer) state = replied (notices.sendingNotice state buffer number delay (clockReading now))
+call list delay (result now number kind) state = replied (notices.takingResult state number kind (clockReading now))
 
 -- what the string of a request reads as; a framed one's stands inside it
 abbrev pub readOf : Call → Option Request
@@ -71,16 +72,16 @@ numberRead none = none
 numberRead (some f) = some (f .number .0)
 
 -- "A request names the number in its string if the string reads; one refused before that names none."
--- The table is sound here, as it is before each call of demand 3's lists
+-- The table is sound here and the figures right, as they are before each call of demand 3's lists
 abbrev pub requestName : List ℕ → Msisdn → ℕ → List ℕ → List ℕ → Option ℕ
 requestName list requester scheme string reply =
-    cond (anyHolds (refusalChecks true list reply requester scheme string)) none (numberRead (requestOf string))
+    cond (anyHolds (refusalChecks true true list reply requester scheme string)) none (numberRead (requestOf string))
 
 -- a framed request names what the request inside names; one that is refused or rejected has none inside. A sending or a result names the number that it is given
 abbrev pub nameOf : List ℕ → Call → Option ℕ
 nameOf list (request requester scheme string reply) = requestName list requester scheme string reply
 nameOf list (framed requester message frame) =
-    cond (anyHolds (framedChecks true list frame message)) none (insideOf message >>= λ i. requestName list requester (i .scheme) (i .string) ownReply)
+    cond (anyHolds (framedChecks true true list frame message)) none (insideOf message >>= λ i. requestName list requester (i .scheme) (i .string) ownReply)
 nameOf list (sending now number buffer) = some (number .0)
 nameOf list (result now number kind) = some (number .0)
 
@@ -127,7 +128,7 @@ stepsRead c stops requester scheme reply (some f) = stepsFor c stops requester s
 -- a crew's request has no step
 abbrev pub stopsCrew : List ℕ → Msisdn → ℕ → List ℕ → List ℕ → Bool
 stopsCrew list requester scheme string reply =
-    anyHolds (refusalChecks true list reply requester scheme string) || not (hasFollowMe (flagsOf list (requester .0)))
+    anyHolds (refusalChecks true true list reply requester scheme string) || not (hasFollowMe (flagsOf list (requester .0)))
 
 -- a framed crew's request has the steps of the request inside
 abbrev pub stepsInside : List ℕ → Call → Bool → Msisdn → Option Inside → List Call
@@ -139,7 +140,7 @@ abbrev pub stepsOf : List ℕ → Call → List Call
 stepsOf list (request requester scheme string reply) =
     stepsRead (request requester scheme string reply) (stopsCrew list requester scheme string reply) requester scheme reply (requestOf string)
 stepsOf list (framed requester message frame) =
-    stepsInside list (framed requester message frame) (anyHolds (framedChecks true list frame message)) requester (insideOf message)
+    stepsInside list (framed requester message frame) (anyHolds (framedChecks true true list frame message)) requester (insideOf message)
 stepsOf list (sending now number buffer) = sending now number buffer ∷ []
 stepsOf list (result now number kind) = result now number kind ∷ []
 
@@ -155,5 +156,6 @@ abbrev pub rowAlone : List ℕ → Found → List ℕ
 rowAlone table Nothing = []
 rowAlone table (At i) = take rowWords (drop (rowWords * i) table)
 
-abbrev pub alone : List ℕ → ℕ → List ℕ
-alone table k = rowAlone table (rowOf table k)
+-- M-103: "a number run alone from its own row's" figures
+abbrev pub alone : State → ℕ → State
+alone state k = counted (rowAlone (state .table) (rowOf (state .table) k))

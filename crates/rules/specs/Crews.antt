@@ -11,6 +11,7 @@ use Rattle.crews.specs.Crews.{leadCode, mostCodes, codesText, spacedCodes, crew
 use Rattle.strings.specs.declared.Operation.{Operation}
 use Rattle.strings.specs.declared.Operation.the-variants.{Register, Erase, Interrogate}
 use Rattle.strings.specs.Text.{Request}
+use Rattle.states.specs.States.{State}
 use Rattle.rules.specs.Answers.{outcome, crewRegistered, crewErased, Outcome, made, packedOver, octetCount}
 use Rattle.rules.specs.Requests.{Verdict, says, tells, Stepping, step, once, requestingBy}
 
@@ -34,11 +35,11 @@ mostSteps = suc mostCodes
 
 -- ---- the walk
 
--- the codes of the steps that succeeded and of those that failed, each in their order, and the table
+-- the codes of the steps that succeeded and of those that failed, each in their order, and table and figures
 pub record Walk : Type 0 where
   pub successes : List ℕ
   pub failures : List ℕ
-  pub table : List ℕ
+  pub state : State
 
 -- "Success is 01 or 02"
 abbrev pub isSuccess : Verdict → Bool
@@ -50,17 +51,17 @@ abbrev pub walkedOn : ℕ → Stepping → Walk → Walk
 walkedOn code s w = record {
   successes = cond (isSuccess (s .verdict)) (w .successes ++ (code ∷ [])) (w .successes);
   failures = cond (isSuccess (s .verdict)) (w .failures) (w .failures ++ (code ∷ []));
-  table = s .table;
+  state = s .state;
 }
 
 -- each number is "treated as single requests, in that order"
 unfoldable pub walked : Msisdn → Request → List ℕ → Walk → Walk
 walked requester f [] w = w
-walked requester f (code ∷ codes) w = walked requester f codes (walkedOn code (step (w .table) requester (memberOf f code)) w)
+walked requester f (code ∷ codes) w = walked requester f codes (walkedOn code (step (w .state) requester (memberOf f code)) w)
 
 -- before the first step
-abbrev pub setOut : List ℕ → Walk
-setOut table = record { successes = []; failures = []; table = table }
+abbrev pub setOut : State → Walk
+setOut state = record { successes = []; failures = []; state = state }
 
 -- ---- the reply
 
@@ -87,14 +88,14 @@ crewReply n w =
 -- ---- a request
 
 abbrev pub crewOutcome : ℕ → List ℕ → Walk → Outcome
-crewOutcome n reply w = made (outcome n (octetCount (crewReply n w))) (w .table) (packedOver (crewReply n w) reply)
+crewOutcome n reply w = made (outcome n (octetCount (crewReply n w))) (w .state) (packedOver (crewReply n w) reply)
 
 -- a single request, or a crew's
-abbrev pub carriedOutFor : List ℕ → List ℕ → Msisdn → Request → Option (List ℕ) → Outcome
-carriedOutFor table reply requester f none = once table reply requester f
-carriedOutFor table reply requester f (some codes) = crewOutcome (crewNumber (f .operation)) reply (walked requester f (crewCodes codes) (setOut table))
+abbrev pub carriedOutFor : State → List ℕ → Msisdn → Request → Option (List ℕ) → Outcome
+carriedOutFor state reply requester f none = once state reply requester f
+carriedOutFor state reply requester f (some codes) = crewOutcome (crewNumber (f .operation)) reply (walked requester f (crewCodes codes) (setOut state))
 
 -- the crew's codes stand in the additional field; "42 comes before any single step"
-unfoldable pub requesting : List ℕ → List ℕ → List ℕ → Msisdn → ℕ → List ℕ → Outcome
-requesting table list reply requester scheme string =
-    requestingBy (λ f. carriedOutFor table reply requester f (crewOf (f .additional))) table list reply requester scheme string
+unfoldable pub requesting : State → List ℕ → List ℕ → Msisdn → ℕ → List ℕ → Outcome
+requesting state list reply requester scheme string =
+    requestingBy (λ f. carriedOutFor state reply requester f (crewOf (f .additional))) state list reply requester scheme string

@@ -9,6 +9,7 @@ use Rattle.numbers.specs.declared.Msisdn.{Msisdn}
 use Rattle.frames.specs.Components.{Component}
 use Rattle.frames.specs.Components as components
 use Rattle.frames.specs.Messages.{Register, inverted, Release, releaseOf}
+use Rattle.states.specs.States.{State}
 use Rattle.rules.specs.Answers.{Answer, error, outcome, holderIs, returnError, outcomeClass, numbersOf, isOf, isRefusal, isError}
 use Rattle.rules.specs.Frames.{answerTo, released}
 use Rattle.rules.specs.Calls.{request, framed, Reply, call}
@@ -21,20 +22,20 @@ givenBack r frame answer c = record { answer = answer (length (answerTo (r .firs
 abbrev pub backTo : Register → Component → Option Release
 backTo r c = some (record { first = inverted (r .first); answer = c })
 
-module _ (list : List ℕ) (delay : ℕ) (requester : Msisdn) (message frame : List ℕ) (r : Register) (scheme : ℕ) (string reply table : List ℕ) where
-  abbrev pub bareGot : Reply × List ℕ
-  bareGot = call list delay (request requester scheme string reply) table
+module _ (list : List ℕ) (delay : ℕ) (requester : Msisdn) (message frame : List ℕ) (r : Register) (scheme : ℕ) (string reply : List ℕ) (state : State) where
+  abbrev pub bareGot : Reply × State
+  bareGot = call list delay (request requester scheme string reply) state
 
-  abbrev pub framedGot : Reply × List ℕ
-  framedGot = call list delay (framed requester message frame) table
+  abbrev pub framedGot : Reply × State
+  framedGot = call list delay (framed requester message frame) state
 
   -- an outcome's packed string: the first octets of the bare request's reply buffer
   abbrev pub stringGot : ℕ → List ℕ
   stringGot octets = take octets (bareGot .0 .buffer)
 
   pub record AsBare : Type 0 where
-    -- the table afterwards is the bare request's
-    pub table-after : framedGot .1 ≡ bareGot .1
+    -- table and figures afterwards are the bare request's
+    pub state-after : framedGot .1 ≡ bareGot .1
     -- the same outcome, its string in a Return Result; "The invoke number returns unchanged"
     pub outcome-framed :
         (n octets : ℕ) → bareGot .0 .answer ≡ outcome n octets → framedGot .0 ≡ givenBack r frame (outcome n) (components.result (r .number) (stringGot octets))

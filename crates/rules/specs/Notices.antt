@@ -13,10 +13,11 @@ use Rattle.records.specs.declared.Notice.{Notice}
 use Rattle.records.specs.declared.Notice.the-variants.{Absent, Waiting}
 use Rattle.records.specs.declared.Record.{Record}
 use Rattle.records.specs.Steps.{mostSendings, lastKind, isWaiting, isInFlight, isDue, sendingsDone, launched, withNotice, cleared, delayAllowed}
-use Rattle.rows.specs.Rows.{numberAt, recordAt, stored}
+use Rattle.rows.specs.Rows.{numberAt, recordAt}
 use Rattle.tables.specs.declared.Found.{Found}
 use Rattle.tables.specs.declared.Found.the-variants.{At, Nothing}
-use Rattle.tables.specs.Tables.{tableSound, rowOf, recordOf, rowsIn}
+use Rattle.tables.specs.Tables.{tableSound, rowsIn}
+use Rattle.states.specs.States.{State, figuresRight, rowFor, recordFor, recordIn, storedIn}
 use Rattle.rules.specs.Answers.{Answer, refusal, sentTo, delivered, dropped, again, found, noneDue, Outcome, made, bufferRoom, packedOver, octetCount, refusing}
 
 -- the notice in a record that is there
@@ -26,11 +27,12 @@ noticeIn (some r) = r .notice
 
 -- ---- sending
 
--- "Checks: 1 (buffer under 80), 2, 7 (malformed, or not in the table), 6 (delay), 4 (phase not odd), 5 (not due)"
-abbrev pub sendingChecks : Bool → List ℕ → ℕ → Option Record → ℕ → ℕ → List (Bool × Answer)
-sendingChecks soundTable buffer number r delay clock =
+-- "Checks: 1 (buffer under 80), 2, 7 (malformed, or not in the table), 6 (delay), 4 (phase not odd), 5 (not due)"; M-103: 10 "directly after 2"
+abbrev pub sendingChecks : Bool → Bool → List ℕ → ℕ → Option Record → ℕ → ℕ → List (Bool × Answer)
+sendingChecks soundTable rightFigures buffer number r delay clock =
     (ltb (length buffer) bufferRoom, refusal 1)
     ∷ (not soundTable, refusal 2)
+    ∷ (not rightFigures, refusal 10)
     ∷ (not (isNumber number) || isNone r, refusal 7)
     ∷ (not (delayAllowed delay), refusal 6)
     ∷ (not (isWaiting (noticeIn r)), refusal 4)
@@ -38,24 +40,25 @@ sendingChecks soundTable buffer number r delay clock =
     ∷ []
 
 -- "Then the phase grows by 1, the last word becomes 0, and the buffer holds packed `##214*` number `*88*` supervisor `*#`; the addressee and octet count are returned"
-abbrev pub sentAt : FunctionalNumber → Found → List ℕ → List ℕ → Outcome
-sentAt number Nothing table buffer = made (refusal 7) table buffer
-sentAt number (At i) table buffer =
-    let r = recordAt table i in
+abbrev pub sentAt : FunctionalNumber → Found → State → List ℕ → Outcome
+sentAt number Nothing state buffer = made (refusal 7) state buffer
+sentAt number (At i) state buffer =
+    let r = recordIn state i in
     let text = textOf (noticeFields number (r .supervisor)) in
-    made (sentTo (r .addressee .0) (octetCount text)) (stored table i (withNotice (launched (r .notice)) r)) (packedOver text buffer)
+    made (sentTo (r .addressee .0) (octetCount text)) (storedIn state i (withNotice (launched (r .notice)) r)) (packedOver text buffer)
 
-unfoldable pub sendingNotice : List ℕ → List ℕ → FunctionalNumber → ℕ → ℕ → Outcome
-sendingNotice table buffer number delay clock =
-    decide (refusing table buffer (sendingChecks (tableSound table) buffer (number .0) (recordOf table (number .0)) delay clock))
-    (sentAt number (rowOf table (number .0)) table buffer)
+unfoldable pub sendingNotice : State → List ℕ → FunctionalNumber → ℕ → ℕ → Outcome
+sendingNotice state buffer number delay clock =
+    decide (refusing state buffer (sendingChecks (tableSound (state .table)) (figuresRight state) buffer (number .0) (recordFor state (number .0)) delay clock))
+    (sentAt number (rowFor state (number .0)) state buffer)
 
 -- ---- result
 
--- "Checks: 2, 7, 3 (kind above 5), 4 (phase 0 or odd)"
-abbrev pub resultChecks : Bool → ℕ → Option Record → ℕ → List (Bool × Answer)
-resultChecks soundTable number r kind =
+-- "Checks: 2, 7, 3 (kind above 5), 4 (phase 0 or odd)"; M-103: 10 "directly after 2"
+abbrev pub resultChecks : Bool → Bool → ℕ → Option Record → ℕ → List (Bool × Answer)
+resultChecks soundTable rightFigures number r kind =
     (not soundTable, refusal 2)
+    ∷ (not rightFigures, refusal 10)
     ∷ (not (isNumber number) || isNone r, refusal 7)
     ∷ (ltb lastKind kind, refusal 3)
     ∷ (not (isInFlight (noticeIn r)), refusal 4)
@@ -73,16 +76,17 @@ returned kind n = cond (eqb kind 0) delivered (cond (clears kind n) dropped agai
 abbrev pub afterResult : ℕ → ℕ → Record → Record
 afterResult kind clock r = cond (clears kind (r .notice)) (cleared r) (withNotice (Waiting (sendingsDone (r .notice)) clock) r)
 
-abbrev pub resultAt : ℕ → ℕ → Found → List ℕ → Outcome
-resultAt kind clock Nothing table = made (refusal 7) table []
-resultAt kind clock (At i) table =
-    let r = recordAt table i in
-    made (returned kind (r .notice)) (stored table i (afterResult kind clock r)) []
+abbrev pub resultAt : ℕ → ℕ → Found → State → Outcome
+resultAt kind clock Nothing state = made (refusal 7) state []
+resultAt kind clock (At i) state =
+    let r = recordIn state i in
+    made (returned kind (r .notice)) (storedIn state i (afterResult kind clock r)) []
 
 -- a result is lent no buffer
-unfoldable pub takingResult : List ℕ → FunctionalNumber → ℕ → ℕ → Outcome
-takingResult table number kind clock =
-    decide (refusing table [] (resultChecks (tableSound table) (number .0) (recordOf table (number .0)) kind)) (resultAt kind clock (rowOf table (number .0)) table)
+unfoldable pub takingResult : State → FunctionalNumber → ℕ → ℕ → Outcome
+takingResult state number kind clock =
+    decide (refusing state [] (resultChecks (tableSound (state .table)) (figuresRight state) (number .0) (recordFor state (number .0)) kind))
+    (resultAt kind clock (rowFor state (number .0)) state)
 
 -- ---- finding
 

@@ -7,14 +7,14 @@ use mathlib.Core.List.{List, [], _∷_}
 use lib.ListN.{getElem?}
 use lib.Dec.{eqb}
 use Rattle.records.specs.declared.Notice.{Notice}
-use Rattle.tables.specs.Tables.{recordOf}
+use Rattle.states.specs.States.{State, recordFor}
 use Rattle.rules.specs.Answers.{isRefusal, isSent, isClearing}
 use Rattle.rules.specs.Notices.{noticeIn}
 use Rattle.rules.specs.Calls.{Call, request, framed, sending, result, Reply}
 
--- the notice that a table keeps for the number k: none, as at phase 0, where k is not in it
-abbrev pub noticeFor : List ℕ → ℕ → Notice
-noticeFor table k = noticeIn (recordOf table k)
+-- the notice that the table keeps for the number k: none, as at phase 0, where k is not in it
+abbrev pub noticeFor : State → ℕ → Notice
+noticeFor state k = noticeIn (recordFor state k)
 
 -- ---- entries of a list
 

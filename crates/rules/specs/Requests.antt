@@ -16,10 +16,10 @@ use Rattle.strings.specs.Text.{Request, codingScheme}
 use Rattle.strings.specs.Outcomes.{requestOf}
 use Rattle.records.specs.declared.Record.{Record}
 use Rattle.records.specs.Steps.{nobody, isNobody, same, heldBy, forcedOff, isAbsent}
-use Rattle.rows.specs.Rows.{stored, recordAt}
 use Rattle.tables.specs.declared.Found.{Found}
 use Rattle.tables.specs.declared.Found.the-variants.{At, Nothing}
-use Rattle.tables.specs.Tables.{tableSound, listSound, rowOf, recordOf, flagsOf}
+use Rattle.tables.specs.Tables.{tableSound, listSound, flagsOf}
+use Rattle.states.specs.States.{State, figuresRight, rowFor, recordFor, recordIn, storedIn}
 use Rattle.rules.specs.Answers.{Answer, refusal, error, outcome, holderIs, Outcome, made, bufferRoom, holderText, packedOver, octetCount, refusing}
 
 -- ---- what the checks look at
@@ -68,19 +68,20 @@ noNotice (some r) = isAbsent (r .notice)
 -- ---- the checks
 
 -- an outcome's answer, with its text in the reply
-abbrev pub saying : ℕ → List ℕ → List ℕ → Outcome
-saying n table reply = made (outcome n (octetCount (twoDigits n))) table (packedOver (twoDigits n) reply)
+abbrev pub saying : ℕ → State → List ℕ → Outcome
+saying n state reply = made (outcome n (octetCount (twoDigits n))) state (packedOver (twoDigits n) reply)
 
 -- "over 160 octets"
 abbrev pub mostStringOctets : ℕ
 mostStringOctets = 160
 
--- the rows with a refusal or an error, `soundTable` saying whether the table is sound: over a sound one they follow from the request alone. "In row 35 the requester is tested before the coding scheme, the 0 octets after it"
-abbrev pub refusalChecks : Bool → List ℕ → List ℕ → Msisdn → ℕ → List ℕ → List (Bool × Answer)
-refusalChecks soundTable list reply requester scheme string =
+-- the rows with a refusal or an error, and M-103's "10 for counts that differ from a recount, directly after 2"; `soundTable` and `rightFigures` say how table and figures are: where they are right, the checks follow from the request alone. "In row 35 the requester is tested before the coding scheme, the 0 octets after it"
+abbrev pub refusalChecks : Bool → Bool → List ℕ → List ℕ → Msisdn → ℕ → List ℕ → List (Bool × Answer)
+refusalChecks soundTable rightFigures list reply requester scheme string =
     (ltb (length reply) bufferRoom, refusal 1)
     ∷ (not (listSound list), refusal 8)
     ∷ (not soundTable, refusal 2)
+    ∷ (not rightFigures, refusal 10)
     ∷ (not (isNumber (requester .0)), error 35)
     ∷ (not (eqb scheme codingScheme), error 71)
     ∷ (eqb (length string) 0, error 35)
@@ -109,17 +110,17 @@ pub data Verdict : Type 0 where
   says : ℕ → Verdict
   tells : ℕ → Verdict
 
--- what it comes to: what it says, and the table afterwards
+-- what it comes to: what it says, and table and figures afterwards
 pub record Stepping : Type 0 where
   pub verdict : Verdict
-  pub table : List ℕ
+  pub state : State
 
-abbrev pub comesTo : Verdict → List ℕ → Stepping
-comesTo v t = record { verdict = v; table = t }
+abbrev pub comesTo : Verdict → State → Stepping
+comesTo v s = record { verdict = v; state = s }
 
--- a negative outcome changes no table
-abbrev pub staying : List ℕ → Bool × ℕ → Bool × Stepping
-staying table check = (check .0, comesTo (says (check .1)) table)
+-- a negative outcome changes no table and no figures
+abbrev pub staying : State → Bool × ℕ → Bool × Stepping
+staying state check = (check .0, comesTo (says (check .1)) state)
 
 -- the record that an erasure leaves: "A forced erasure …; if supervisor and holder differ, the phase becomes 1 with addressee and supervisor set"
 abbrev pub afterErasure : Msisdn → Erasing → Record → Record
@@ -127,44 +128,44 @@ afterErasure requester Empty r = heldBy nobody r
 afterErasure requester (Forced msisdn) r = cond (same (r .holder) requester) (heldBy nobody r) (forcedOff requester r)
 
 -- where no check holds: "registration answers 01 and the requester holds the number … Erasure answers 02 and nobody holds it … Interrogation answers 03"
-abbrev pub carriedOut : Operation → Erasing → Msisdn → List ℕ → ℕ → Stepping
-carriedOut Register erasing requester table i = comesTo (says 1) (stored table i (heldBy requester (recordAt table i)))
-carriedOut Erase erasing requester table i = comesTo (says 2) (stored table i (afterErasure requester erasing (recordAt table i)))
-carriedOut Interrogate erasing requester table i = comesTo (tells (recordAt table i .holder .0)) table
+abbrev pub carriedOut : Operation → Erasing → Msisdn → State → ℕ → Stepping
+carriedOut Register erasing requester state i = comesTo (says 1) (storedIn state i (heldBy requester (recordIn state i)))
+carriedOut Erase erasing requester state i = comesTo (says 2) (storedIn state i (afterErasure requester erasing (recordIn state i)))
+carriedOut Interrogate erasing requester state i = comesTo (tells (recordIn state i .holder .0)) state
 
-abbrev pub carriedOutAt : Request → Found → Msisdn → List ℕ → Stepping
-carriedOutAt f Nothing requester table = comesTo (says 41) table
-carriedOutAt f (At i) requester table = carriedOut (f .operation) (f .erasing) requester table i
+abbrev pub carriedOutAt : Request → Found → Msisdn → State → Stepping
+carriedOutAt f Nothing requester state = comesTo (says 41) state
+carriedOutAt f (At i) requester state = carriedOut (f .operation) (f .erasing) requester state i
 
-unfoldable pub step : List ℕ → Msisdn → Request → Stepping
-step table requester f =
-    decide (map (staying table) (stepChecks requester f (recordOf table (f .number .0)))) (carriedOutAt f (rowOf table (f .number .0)) requester table)
+unfoldable pub step : State → Msisdn → Request → Stepping
+step state requester f =
+    decide (map (staying state) (stepChecks requester f (recordFor state (f .number .0)))) (carriedOutAt f (rowFor state (f .number .0)) requester state)
 
 -- ---- a request
 
--- a negative outcome writes its two characters and changes no table
-abbrev pub negative : List ℕ → List ℕ → Bool × ℕ → Bool × Outcome
-negative table reply check = (check .0, saying (check .1) table reply)
+-- a negative outcome writes its two characters and changes no table and no figures
+abbrev pub negative : State → List ℕ → Bool × ℕ → Bool × Outcome
+negative state reply check = (check .0, saying (check .1) state reply)
 
 -- the answer to a single request, with the reply
-abbrev pub answered : List ℕ → Verdict → List ℕ → Outcome
-answered reply (says n) table = saying n table reply
-answered reply (tells msisdn) table = made (holderIs msisdn (octetCount (holderText msisdn))) table (packedOver (holderText msisdn) reply)
+abbrev pub answered : List ℕ → Verdict → State → Outcome
+answered reply (says n) state = saying n state reply
+answered reply (tells msisdn) state = made (holderIs msisdn (octetCount (holderText msisdn))) state (packedOver (holderText msisdn) reply)
 
 abbrev pub replying : List ℕ → Stepping → Outcome
-replying reply s = answered reply (s .verdict) (s .table)
+replying reply s = answered reply (s .verdict) (s .state)
 
 -- a single request, where no check of the requester's rights holds
-abbrev pub once : List ℕ → List ℕ → Msisdn → Request → Outcome
-once table reply requester f = replying reply (step table requester f)
+abbrev pub once : State → List ℕ → Msisdn → Request → Outcome
+once state reply requester f = replying reply (step state requester f)
 
 -- by what the string reads as, and what is then done; one that does not read has ended with error 36 before this
-abbrev pub askingBy : (Request → Outcome) → List ℕ → ℕ → List ℕ → Option Request → Outcome
-askingBy done table flags reply none = made (error 36) table reply
-askingBy done table flags reply (some f) = decide (map (negative table reply) (rightChecks flags (f .erasing))) (done f)
+abbrev pub askingBy : (Request → Outcome) → State → ℕ → List ℕ → Option Request → Outcome
+askingBy done state flags reply none = made (error 36) state reply
+askingBy done state flags reply (some f) = decide (map (negative state reply) (rightChecks flags (f .erasing))) (done f)
 
 -- every row of the table, in its order
-abbrev pub requestingBy : (Request → Outcome) → List ℕ → List ℕ → List ℕ → Msisdn → ℕ → List ℕ → Outcome
-requestingBy done table list reply requester scheme string =
-    decide (refusing table reply (refusalChecks (tableSound table) list reply requester scheme string))
-    (askingBy done table (flagsOf list (requester .0)) reply (requestOf string))
+abbrev pub requestingBy : (Request → Outcome) → State → List ℕ → List ℕ → Msisdn → ℕ → List ℕ → Outcome
+requestingBy done state list reply requester scheme string =
+    decide (refusing state reply (refusalChecks (tableSound (state .table)) (figuresRight state) list reply requester scheme string))
+    (askingBy done state (flagsOf list (requester .0)) reply (requestOf string))

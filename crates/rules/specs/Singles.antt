@@ -13,6 +13,7 @@ use Rattle.strings.specs.declared.Operation.{Operation}
 use Rattle.strings.specs.declared.Erasing.the-variants.{Empty}
 use Rattle.strings.specs.Text.{Request, requestFrom, textOf}
 use Rattle.tables.specs.Tables.{flagsOf}
+use Rattle.states.specs.States.{State}
 use Rattle.rules.specs.Answers.{Answer, isOutcome, bufferRoom}
 use Rattle.rules.specs.Requests.{hasFollowMe}
 use Rattle.rules.specs.Crews.{crewCodes, crewNumber, crewOutcome}
@@ -39,7 +40,7 @@ replaced number code = record { 0 = storedForm (take (length (digitsOf (number .
 abbrev pub plainly : Operation → FunctionalNumber → Request
 plainly o number = requestFrom o number Empty []
 
-module _ (list : List ℕ) (delay : ℕ) (requester : Msisdn) (scheme : ℕ) (string reply : List ℕ) (f : Request) (codes : List ℕ) (table : List ℕ) where
+module _ (list : List ℕ) (delay : ℕ) (requester : Msisdn) (scheme : ℕ) (string reply : List ℕ) (f : Request) (codes : List ℕ) (state : State) where
   abbrev pub singleAsked : List ℕ → Request → Call
   singleAsked buffer g = request requester scheme (packed (textOf g)) buffer
 
@@ -52,15 +53,15 @@ module _ (list : List ℕ) (delay : ℕ) (requester : Msisdn) (scheme : ℕ) (st
 
   -- what the single requests got, asked one after the other
   abbrev pub gotSingly : (ℕ → List ℕ) → List (Call × Reply)
-  gotSingly buffers = log (call list delay) (singleRequests buffers) table
+  gotSingly buffers = log (call list delay) (singleRequests buffers) state
 
-  abbrev pub whole : Reply × List ℕ
-  whole = call list delay (request requester scheme string reply) table
+  abbrev pub whole : Reply × State
+  whole = call list delay (request requester scheme string reply) state
 
   -- of a crew's request that is neither refused nor in error; its steps in demand 3 are these single requests, with its own buffer
   pub record AsSingles (buffers : ℕ → List ℕ) : Type 0 where
-    -- "the table afterwards equals theirs"
-    pub table-after : whole .1 ≡ end (call list delay) (singleRequests buffers) table
+    -- "the table afterwards equals theirs", and so do the figures
+    pub state-after : whole .1 ≡ end (call list delay) (singleRequests buffers) state
     pub steps-are : hasFollowMe (flagsOf list (requester .0)) ≡ true → stepsOf list (request requester scheme string reply) ≡ singleRequests (λ code. reply)
     -- where it is not answered 42: a code stands among the successes exactly if its single request was answered 01 or 02, and so the reply is
     pub reply-after :
@@ -68,7 +69,7 @@ module _ (list : List ℕ) (delay : ℕ) (requester : Msisdn) (scheme : ℕ) (st
         → whole ≡ replied (crewOutcome (crewNumber (f .operation)) reply (record {
           successes = codesWhere succeeds (crewCodes codes) (gotSingly buffers);
           failures = codesWhere (λ a. not (succeeds a)) (crewCodes codes) (gotSingly buffers);
-          table = end (call list delay) (singleRequests buffers) table;
+          state = end (call list delay) (singleRequests buffers) state;
         }))
 
 -- room in every buffer

@@ -14,7 +14,8 @@ use Rattle.strings.specs.declared.Erasing.the-variants.{Empty, Forced}
 use Rattle.strings.specs.Text.{Request, textOf, noticeFields, codingScheme}
 use Rattle.strings.specs.Outcomes.{requestOf}
 use Rattle.records.specs.Steps.{same}
-use Rattle.tables.specs.Tables.{recordOf, listSound, flagsOf}
+use Rattle.tables.specs.Tables.{listSound, flagsOf}
+use Rattle.states.specs.States.{State, recordFor}
 use Rattle.rules.specs.Answers.{sentTo, isOutcome, bufferRoom, packedOver, octetCount}
 use Rattle.rules.specs.Requests.{isErase, noNotice, mostStringOctets}
 use Rattle.rules.specs.Calls.{Call, request, framed, sending, result, Reply, readOf, namesOne}
@@ -50,15 +51,15 @@ isRequest (framed requester message frame) = true
 isRequest (sending now number buffer) = false
 isRequest (result now number kind) = false
 
--- of a single call c over a table, that got the reply a and left the table `after`: it has ended h's hold of k
-pub record HoldEnded (list : List ℕ) (h : Msisdn) (k : ℕ) (c : Call) (table : List ℕ) (a : Reply) (after : List ℕ) : Type 0 where
+-- of a single call c over a state, that got the reply a and left the state `after`: it has ended h's hold of k
+pub record HoldEnded (list : List ℕ) (h : Msisdn) (k : ℕ) (c : Call) (state : State) (a : Reply) (after : State) : Type 0 where
   pub named : namesOne list c k ≡ true
-  pub erasure : mayEndHold list h (noNotice (recordOf table k)) c ≡ true
+  pub erasure : mayEndHold list h (noNotice (recordFor state k)) c ≡ true
   pub answered : isOutcome 2 (a .answer) ≡ true
   pub nobody : holderOf after k ≡ 0
 
 -- it has given k to its requester
-pub record HoldBegun (list : List ℕ) (k : ℕ) (c : Call) (a : Reply) (after : List ℕ) : Type 0 where
+pub record HoldBegun (list : List ℕ) (k : ℕ) (c : Call) (a : Reply) (after : State) : Type 0 where
   pub named : namesOne list c k ≡ true
   pub registration : registers c ≡ true
   pub answered : isOutcome 1 (a .answer) ≡ true
@@ -82,7 +83,7 @@ pub record Stood (test : Call × Reply → Bool) (entries : List (Call × Reply)
 
 -- ---- the controller
 
--- a request over a sound table that no refusal and no error stops: its string reads as f
+-- a request over a sound state that no refusal and no error stops: its string reads as f
 pub record WellFormed (list : List ℕ) (requester : Msisdn) (scheme : ℕ) (string reply : List ℕ) (f : Request) : Type 0 where
   pub room : bufferRoom ≤ length reply
   pub sound : listSound list ≡ true

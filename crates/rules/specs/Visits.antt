@@ -26,8 +26,8 @@ use Rattle.records.specs.declared.Sending.the-variants as launches
 use Rattle.records.specs.declared.Resulted.{Resulted}
 use Rattle.records.specs.declared.Resulted.the-variants.{Refused, Delivered, Dropped, Again}
 use Rattle.records.specs.Steps as steps
-use Rattle.rows.specs.Rows.{recordAt, stored}
 use Rattle.tables.specs.Tables.{flagsOf}
+use Rattle.states.specs.States.{State, beside, recordIn, storedIn}
 use Rattle.rules.specs.Answers.{Answer, refusal, error, outcome, holderIs, sentTo, delivered, dropped, again, Outcome, made, bufferRoom, holderText, packedOver, octetCount}
 use Rattle.rules.specs.Requests.{hasFollowMe, isSupervisor, isForced, Stepping, comesTo, says, tells}
 use Rattle.rules.specs.Frames.{answeredIn, Inside, insideOf, ownReply}
@@ -42,12 +42,12 @@ abbrev pub visited : Answer → List ℕ → Record → Visited
 visited a buffer r = record { reply = record { answer = a; buffer = buffer }; next = r }
 
 -- what a visit to row i comes to: the record that it leaves is stored there
-abbrev pub storing : List ℕ → ℕ → Visited → Outcome
-storing table i v = made (v .reply .answer) (stored table i (v .next)) (v .reply .buffer)
+abbrev pub storing : State → ℕ → Visited → Outcome
+storing state i v = made (v .reply .answer) (storedIn state i (v .next)) (v .reply .buffer)
 
--- a reply, with the table as it was
-abbrev pub leaving : List ℕ → Reply → Outcome
-leaving table r = made (r .answer) table (r .buffer)
+-- a reply, with table and figures as they were
+abbrev pub leaving : State → Reply → Outcome
+leaving state r = made (r .answer) state (r .buffer)
 
 -- ---- requests
 
@@ -78,19 +78,19 @@ unfoldable pub decided : Request → Msisdn → List ℕ → Record → Visited
 decided f requester reply r = decides (f .operation) (f .erasing) (f .number) requester reply r
 
 -- a step where the number is in row i: that row's record decides
-abbrev pub stepAt : List ℕ → ℕ → ℕ → Step → Stepping
+abbrev pub stepAt : State → ℕ → ℕ → Step → Stepping
 stepAt t i n (step.Stays m) = comesTo (says m) t
-stepAt t i n (step.Becomes next) = comesTo (says n) (stored t i next)
+stepAt t i n (step.Becomes next) = comesTo (says n) (storedIn t i next)
 
-abbrev pub tellAt : List ℕ → Holder → Stepping
+abbrev pub tellAt : State → Holder → Stepping
 tellAt t (holds.Stays m) = comesTo (says m) t
 tellAt t (holds.Held msisdn) = comesTo (tells (msisdn .0)) t
 
 -- what the record of row i makes of a step, by the operation
-abbrev pub decidesAt : Operation → Erasing → FunctionalNumber → Msisdn → List ℕ → ℕ → Stepping
-decidesAt Register e number requester t i = stepAt t i 1 (steps.registered number requester (recordAt t i))
-decidesAt Erase e number requester t i = stepAt t i 2 (erases e requester (recordAt t i))
-decidesAt Interrogate e number requester t i = tellAt t (steps.interrogated (recordAt t i))
+abbrev pub decidesAt : Operation → Erasing → FunctionalNumber → Msisdn → State → ℕ → Stepping
+decidesAt Register e number requester t i = stepAt t i 1 (steps.registered number requester (recordIn t i))
+decidesAt Erase e number requester t i = stepAt t i 2 (erases e requester (recordIn t i))
+decidesAt Interrogate e number requester t i = tellAt t (steps.interrogated (recordIn t i))
 
 -- ---- sendings and results
 
@@ -125,7 +125,7 @@ visitRequest flags requester reply (some f) r =
 
 -- what the request inside gets, in its frame; a message without one names no number
 abbrev pub enveloped : Inside → List ℕ → Reply → Reply
-enveloped i frame r = replied (answeredIn (i .first) (i .number) frame [] (r .buffer) (r .answer)) .0
+enveloped i frame r = replied (answeredIn (i .first) (i .number) frame (beside [] []) (r .buffer) (r .answer)) .0
 
 abbrev pub visitInside : ℕ → Msisdn → List ℕ → Option Inside → Record → Visited
 visitInside flags requester frame none r = visited (refusal unreadMessage) frame r

@@ -30,11 +30,12 @@ pub fn ask(
     words: &[u64; MOST_WORDS],
     message: &[u8],
     table: &mut [u64],
+    figures: &mut [u64],
     list: &[u64],
     frame: &mut [u8],
 ) -> Said {
     let requester = Msisdn(words[0]);
-    of_answer(exchange::framed_request(table, list, frame, requester, message))
+    of_answer(exchange::framed_request(table, figures, list, frame, requester, message))
 }
 
 pub fn write(words: &[u64; MOST_WORDS], count: usize, additional: &[u8], frame: &mut [u8]) -> Said {

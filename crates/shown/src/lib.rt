@@ -9,6 +9,7 @@ pub use made::FRAMED;
 pub use made::NUMBER;
 pub use made::PACK;
 pub use made::READ;
+pub use made::RECOUNT;
 pub use made::REGISTER;
 pub use made::REGISTERED;
 pub use made::RELEASED;
@@ -27,6 +28,7 @@ use strings::Erasing;
 use strings::Fields;
 use strings::Operation;
 use strings::Reading;
+use tables::Recounted;
 use texts::VALUES;
 use visits::FindingAnswer;
 use visits::RequestAnswer;
@@ -78,6 +80,8 @@ const A_RESULT: usize = 17;
 const AN_ERROR: usize = 18;
 
 const A_PROBLEM: usize = 19;
+
+const RECOUNTED: usize = 20;
 
 pub struct Said {
     pub form: usize,
@@ -148,6 +152,17 @@ pub fn of_finding(answer: FindingAnswer) -> Said {
     }
 }
 
+pub fn of_recount(recounted: Recounted) -> Said {
+    match recounted {
+        Recounted::Unsound => plain(REFUSED, 2),
+        Recounted::Counted(figures) => Said {
+            form: RECOUNTED,
+            values: [figures.held, figures.waiting, figures.flying, 0, 0],
+            count: 0,
+        },
+    }
+}
+
 pub fn of_writing(written: Written) -> Said {
     match written {
         Written::Count(n) => counted(COUNT, n as u64, n),
@@ -166,7 +181,7 @@ pub fn of_number(is_number: bool) -> Said {
 fn put(said: Said) {
     let values = said.values;
     texts::put_form(
-        b"refused %;error %;outcome %%, % octets;outcome 03, holder %, % octets;sent to %, % octets;delivered;dropped;again;due %;none due;%;a number;no number;;return error %, % octets;reject %, % octets;first %, invoke %, scheme %, string from %, % octets;first %, invoke %, result from %, % octets;first %, invoke %, error %;first %, invoke %, problem %;",
+        b"refused %;error %;outcome %%, % octets;outcome 03, holder %, % octets;sent to %, % octets;delivered;dropped;again;due %;none due;%;a number;no number;;return error %, % octets;reject %, % octets;first %, invoke %, scheme %, string from %, % octets;first %, invoke %, result from %, % octets;first %, invoke %, error %;first %, invoke %, problem %;recounted % % %;",
         said.form,
         &values,
     );
@@ -265,11 +280,12 @@ fn show_on(
     fields: texts::Fields,
     octets: &[u8],
     table: &mut [u64],
+    figures: &mut [u64],
     list: &[u64],
     buffer: &mut [u8],
     filling: u8,
 ) {
-    let said = make_call(call, fields, octets, table, list, buffer);
+    let said = make_call(call, fields, octets, table, figures, list, buffer);
     put_answer(call, said, buffer, filling);
 }
 
@@ -279,6 +295,7 @@ pub fn show_call(
     fields: texts::Fields,
     octets: &[u8],
     table: &mut [u64],
+    figures: &mut [u64],
     list: &[u64],
     room: usize,
     filling: u8,
@@ -290,6 +307,7 @@ pub fn show_call(
         fields,
         octets,
         table,
+        figures,
         list,
         &mut buffer[..room],
         filling,

@@ -9,31 +9,33 @@ use texts::Fields;
 use texts::MOST_WORDS;
 
 // The calls, by their place among the names of lines.
-pub const REQUEST: usize = 7;
+pub const REQUEST: usize = 8;
 
-pub const SENDING: usize = 8;
+pub const SENDING: usize = 9;
 
-pub const RESULT: usize = 9;
+pub const RESULT: usize = 10;
 
-pub const FINDING: usize = 10;
+pub const FINDING: usize = 11;
 
-pub const FRAMED: usize = 11;
+pub const FRAMED: usize = 12;
 
-pub const PACK: usize = 12;
+pub const PACK: usize = 13;
 
-pub const UNPACK: usize = 13;
+pub const UNPACK: usize = 14;
 
-pub const WRITE: usize = 14;
+pub const WRITE: usize = 15;
 
-pub const READ: usize = 15;
+pub const READ: usize = 16;
 
-pub const NUMBER: usize = 16;
+pub const NUMBER: usize = 17;
 
-pub const REGISTER: usize = 17;
+pub const REGISTER: usize = 18;
 
-pub const REGISTERED: usize = 18;
+pub const REGISTERED: usize = 19;
 
-pub const RELEASED: usize = 19;
+pub const RELEASED: usize = 20;
+
+pub const RECOUNT: usize = 21;
 
 // Delays, clocks and kinds have 32 bits; coding schemes, fillings, transaction identifiers and invoke numbers 8.
 pub const TWO_TO_THE_32: u64 = 4_294_967_296;
@@ -91,24 +93,32 @@ fn ask(
     words: &[u64; MOST_WORDS],
     string: &[u8],
     table: &mut [u64],
+    figures: &mut [u64],
     list: &[u64],
     reply: &mut [u8],
 ) -> Said {
     let requester = Msisdn(words[0]);
     let scheme = low_8(words[1]);
-    let answer = node::request(table, list, reply, requester, scheme, string);
+    let answer = node::request(table, figures, list, reply, requester, scheme, string);
     crate::of_request(answer)
 }
 
-fn send(words: &[u64; MOST_WORDS], table: &mut [u64], buffer: &mut [u8]) -> Said {
+fn send(
+    words: &[u64; MOST_WORDS],
+    table: &mut [u64],
+    figures: &mut [u64],
+    buffer: &mut [u8],
+) -> Said {
     let number = FunctionalNumber(words[0]);
-    let answer = node::sending(table, buffer, number, low_32(words[1]), low_32(words[2]));
+    let delay = low_32(words[1]);
+    let clock = low_32(words[2]);
+    let answer = node::sending(table, figures, buffer, number, delay, clock);
     crate::of_sending(answer)
 }
 
-fn report(words: &[u64; MOST_WORDS], table: &mut [u64]) -> Said {
+fn report(words: &[u64; MOST_WORDS], table: &mut [u64], figures: &mut [u64]) -> Said {
     let number = FunctionalNumber(words[0]);
-    let answer = node::result(table, number, low_32(words[1]), low_32(words[2]));
+    let answer = node::result(table, figures, number, low_32(words[1]), low_32(words[2]));
     crate::of_result(answer)
 }
 
@@ -153,16 +163,18 @@ pub fn make_call(
     fields: Fields,
     octets: &[u8],
     table: &mut [u64],
+    figures: &mut [u64],
     list: &[u64],
     buffer: &mut [u8],
 ) -> Said {
     let words = fields.words;
     match call {
-        REQUEST => ask(&words, octets, table, list, buffer),
-        SENDING => send(&words, table, buffer),
-        RESULT => report(&words, table),
+        REQUEST => ask(&words, octets, table, figures, list, buffer),
+        SENDING => send(&words, table, figures, buffer),
+        RESULT => report(&words, table, figures),
         FINDING => look(&words, table),
-        FRAMED => framed::ask(&words, octets, table, list, buffer),
+        RECOUNT => crate::of_recount(tables::recount(table)),
+        FRAMED => framed::ask(&words, octets, table, figures, list, buffer),
         REGISTER..=RELEASED => call_frames(call, &words, fields.count, octets, buffer),
         _ => call_strings(call, &words, fields.count, octets, buffer),
     }

@@ -11,6 +11,7 @@ use strings::CODING_SCHEME;
 use strings::Erasing;
 use strings::Fields;
 use strings::Operation;
+use tables::Recounted;
 use visits::FindingAnswer;
 use visits::RequestAnswer;
 use visits::ResultAnswer;
@@ -19,9 +20,11 @@ ghost use mathlib.Core.Path.{_≡_};
 ghost use Rattle.answers.specs.Writing.{said};
 ghost use Rattle.frames.specs.Messages.{registerOf, releaseOf};
 ghost use Rattle.frames.specs.Read.{toldRegister, toldRelease};
+ghost use Rattle.tables.specs.Figures.{saidRecount};
 ghost use Rattle.visits.specs.Said.{saidRequest, saidSending, saidResult, saidFinding};
 ghost use Rattle.exchange.specs.Said.{saidFramed};
 ghost use Rattle.structs.specs.Numbers.{ofSaid, ofAnswer, ofOperation, ofErasing, ofCrew, codeCount, ofFields, structOf, operationOf, erasingOf};
+ghost use Rattle.structs.specs.Figures.{ofFigures};
 ghost use Rattle.structs.specs.Frames.{stringless, stringAt, ofRegister, ofRelease};
 
 // The classes of an answer.
@@ -46,6 +49,11 @@ const READ: u32 = 8;
 const RETURN_ERROR: u32 = 9;
 
 const REJECT: u32 = 10;
+
+const COUNTED: u32 = 11;
+
+// The refusal of an unsound table.
+const UNSOUND_TABLE: u32 = 2;
 
 // The refusal of a message.
 const WRONG_MESSAGE: u8 = 11;
@@ -86,6 +94,16 @@ pub struct FrameRead {
     pub scheme: u32,
     pub start: usize,
     pub length: usize,
+}
+
+// What a recount answers: the class; the number of a refusal; the numbers held, the notices waiting and the notices in flight.
+#[repr(C)]
+pub struct FiguresRead {
+    pub class: u32,
+    pub number: u32,
+    pub held: u64,
+    pub waiting: u64,
+    pub in_flight: u64,
 }
 
 // The operation that a number stands for.
@@ -226,6 +244,28 @@ pub fn operation_of(n: u32) -> Operating
         1 => Operating::Known(Operation::Erase),
         2 => Operating::Known(Operation::Interrogate),
         _ => Operating::Unknown,
+    }
+}
+
+// A recount's answer.
+pub fn of_recount(recounted: Recounted) -> FiguresRead
+    ensures { λ r. ⌜ r ≡ ofFigures (saidRecount recounted) ⌝ }
+{
+    match recounted {
+        Recounted::Unsound => FiguresRead {
+            class: REFUSAL,
+            number: UNSOUND_TABLE,
+            held: 0,
+            waiting: 0,
+            in_flight: 0,
+        },
+        Recounted::Counted(figures) => FiguresRead {
+            class: COUNTED,
+            number: 0,
+            held: figures.held,
+            waiting: figures.waiting,
+            in_flight: figures.flying,
+        },
     }
 }
 

@@ -10,7 +10,7 @@ use lib.ListN.{length, getD, take, drop, length-take, length-drop}
 use lib.Seq.{getD-take, getD-drop}
 use borrow.Author.Tests.{eq-eqb, lt-ltb}
 use Rattle.numbers.proofs.Lengths.{number-some}
-use Rattle.rows.specs.Rows.{rowWords, numberAt, recordAt}
+use Rattle.rows.specs.Rows.{rowWords, numberAt, rowSound, recordAt}
 use Rattle.rows.proofs.Rows.{SameWords, same-record, same-row, sound-row}
 use Rattle.tables.specs.declared.Found.the-variants.{At}
 use Rattle.tables.specs.Keys.{placeOf}
@@ -29,14 +29,17 @@ module _ (t : List ℕ) (i : ℕ) where
   pub alone-number : numberAt (alone t i) 0 ≡ numberAt t i
   alone-number = alone-at 0 (omega arith) ∙ ap (λ (n : ℕ). getD t n 0) (add-zero (rowWords * i))
 
-  alone-words : SameWords (alone t i) 0 t i
+  pub alone-words : SameWords (alone t i) 0 t i
   alone-words place h l = ap (λ (n : ℕ). getD (alone t i) n 0) (zero-add place) ∙ alone-at place l
+
+  pub alone-row-sound : rowSound (alone t i) 0 ≡ rowSound t i
+  alone-row-sound = same-row (alone t i) 0 t i alone-words alone-number
 
   pub alone-record : recordAt (alone t i) 0 ≡ recordAt t i
   alone-record = same-record (alone t i) 0 t i alone-words
 
   module _ (within : i < rowsIn t) where
-    alone-length : length (alone t i) ≡ rowWords
+    pub alone-length : length (alone t i) ≡ rowWords
     alone-length = simp (length-take, length-drop) (omega arith)
 
     pub alone-sound : tableSound t ≡ true → tableSound (alone t i) ≡ true
@@ -44,7 +47,7 @@ module _ (t : List ℕ) (i : ℕ) where
     alone-sound sound =
         let row = table-row t sound i within in
         let positive : 0 < numberAt (alone t i) 0 = rw alone-number (above (numberAt t i) (number-some (numberAt t i) (sound-row t i row .number))) in
-        simp (alone-length, lt-ltb 0 (numberAt (alone t i) 0) positive, same-row (alone t i) 0 t i alone-words alone-number ∙ row)
+        simp (alone-length, lt-ltb 0 (numberAt (alone t i) 0) positive, alone-row-sound ∙ row)
       where
         above : (n : ℕ) → (n ≡ 0 → ⊥) → 0 < n
         above n h = omega arith

@@ -1,8 +1,10 @@
-// The lent table and the lent list: whether they are sound, and where a number or a subscriber stands in them.
+// The lent table and the lent list: whether they are sound, what the figures of a table are, and where a number or a subscriber stands in them.
 use numbers::FunctionalNumber;
 use numbers::Msisdn;
 use numbers::is_number;
 use numbers::least_numbers;
+use rows::HOLDER;
+use rows::PHASE;
 use rows::ROW_WORDS;
 use rows::holder_start;
 use rows::is_near;
@@ -14,13 +16,27 @@ ghost use lib.ListN.{length};
 ghost use lib.Dec.{leb};
 ghost use Rattle.numbers.specs.Numbers.{isNumber, digitsOf};
 ghost use Rattle.tables.specs.Keys.{key, every, ascends, placeOf};
-ghost use Rattle.tables.specs.Tables.{tableSound, rowOf, mostFlags, listSound, flagsOf};
+ghost use Rattle.tables.specs.Tables.{mostNumbers, rowsIn, tableSound, rowOf, mostFlags, listSound, flagsOf};
 ghost use Rattle.tables.specs.Ends.{lengthEnd, endFor, within, pairWithin};
+ghost use Rattle.tables.specs.Figures.{one, Few, withRow, saidRecount, recounted};
 
 // Where a number stands among the rows.
 pub enum Found {
     At(usize),
     Nothing,
+}
+
+// M-103: "numbers held, notices waiting and notices in flight".
+pub struct Figures {
+    pub held: u64,
+    pub waiting: u64,
+    pub flying: u64,
+}
+
+// What a recount finds: the three figures of a sound table.
+pub enum Recounted {
+    Unsound,
+    Counted(Figures),
 }
 
 // "at most 1,024 numbers".
@@ -72,36 +88,92 @@ fn end_for(word: u64, end: u64) -> u64
     length_end(word)
 }
 
-// Whether the table is sound: whole rows, few enough, each sound and above the one before it.
-pub fn table_sound(table: &[u64]) -> bool
-    ensures { λ r. ⌜ r ≡ tableSound (now (table .entry)) ⌝ }
+// 1 where it is so, else 0.
+pub fn one_if(so: bool) -> u64
+    ensures { λ r. ⌜ r ≡ one so ⌝ }
+{
+    so as u64
+}
+
+// Counts the row that the words begin with; a row without a notice, as most are, takes one branch.
+fn count_row(figures: Figures, words: &[u64]) -> Figures
+    requires { ⌜ 0 < rowsIn (now words) ⌝ }
+    requires { ⌜ Few figures mostNumbers ⌝ }
+    ensures { λ r. ⌜ r ≡ withRow figures (now (words .entry)) 0 ⌝ }
+{
+    let held = figures.held + one_if(words[HOLDER] != 0);
+    let waiting = figures.waiting;
+    let flying = figures.flying;
+    let phase = words[PHASE];
+    if phase == 0 {
+        return Figures {
+            held,
+            waiting,
+            flying,
+        };
+    }
+    if phase % 2 == 1 {
+        return Figures {
+            held,
+            waiting: waiting + 1,
+            flying,
+        };
+    }
+    Figures {
+        held,
+        waiting,
+        flying: flying + 1,
+    }
+}
+
+// The figures of a sound table: whole rows, few enough, each sound and above the one before it; tested and counted in one pass.
+pub fn recount(table: &[u64]) -> Recounted
+    ensures { λ r. ⌜ saidRecount r ≡ recounted (now (table .entry)) ⌝ }
 {
     if table.len() % ROW_WORDS != 0 {
-        return false;
+        return Recounted::Unsound;
     }
-    let rows = table.len() / ROW_WORDS;
-    if MOST_NUMBERS < rows {
-        return false;
+    if MOST_NUMBERS < table.len() / ROW_WORDS {
+        return Recounted::Unsound;
     }
     let least = least_numbers();
+    let mut figures = Figures {
+        held: 0,
+        waiting: 0,
+        flying: 0,
+    };
     let mut before = 0;
     let mut end = 0;
     let mut near = 0;
-    let mut row = 0;
-    while row < rows {
-        let number = table[ROW_WORDS * row];
-        if !((before < number) & ((number < end) & is_near(table, row, near))) {
+    let mut at = 0;
+    while at < table.len() {
+        let next = at + ROW_WORDS;
+        // A row by itself: its words stand at fixed places, and no index is multiplied.
+        let words = &table[at..next];
+        let number = words[0];
+        if !((before < number) & ((number < end) & is_near(words, 0, near))) {
             end = end_for(number, end);
-            near = holder_start(table, row, near, &least);
-            let rest = rest_sound(table, row, near, &least);
+            near = holder_start(words, 0, near, &least);
+            let rest = rest_sound(words, 0, near, &least);
             if !((before < number) & ((number < end) & rest)) {
-                return false;
+                return Recounted::Unsound;
             }
         }
+        figures = count_row(figures, words);
         before = number;
-        row += 1;
+        at = next;
     }
-    true
+    Recounted::Counted(figures)
+}
+
+// Whether the table is sound.
+pub fn table_sound(table: &[u64]) -> bool
+    ensures { λ r. ⌜ r ≡ tableSound (now (table .entry)) ⌝ }
+{
+    match recount(table) {
+        Recounted::Unsound => false,
+        Recounted::Counted(_) => true,
+    }
 }
 
 // Whether a subscriber follows the one before her, below an end, with flags 0 to 3.

@@ -105,7 +105,7 @@ pub fn put_octets(octets: &[u8], count: usize, filling: u8) {
 }
 
 // Prints the words from an index to another, each behind a space.
-pub(crate) fn put_words(words: &[u64], from: usize, end: usize) {
+pub fn put_words(words: &[u64], from: usize, end: usize) {
     let end = least(end, words.len());
     let mut i = from;
     while i < end {

@@ -1,7 +1,8 @@
--- For each of the four calls and for each visit to a row, two outcomes that its contract allows are equal: answer, table and every octet. Assumes nothing.
+-- For each of the four calls and for each visit to a row, two outcomes that its contract allows are equal: answer, table, figures and every octet. Assumes nothing.
 use mathlib.Core.Path.{_≡_, refl, sym, ap, _∙_}
 use mathlib.Core.List.{List}
 use Prim.Native.Nat.{ℕ}
+use Rattle.states.specs.States.{State}
 use Rattle.rules.specs.Answers.{Answer, refusal, error, outcome, holderIs, returnError, reject, sentTo, delivered, dropped, again, found, noneDue, Outcome, made}
 use Rattle.visits.specs.Said.{saidRequest, saidSending, saidResult, saidFinding}
 use Rattle.visits.specs.declared.RequestAnswer.{RequestAnswer}
@@ -18,12 +19,12 @@ module _ {X : Type 0} (said : X → Answer) (unsaid : Answer → X) (back : (x :
   told-apart : (v w : X) → said v ≡ said w → v ≡ w
   told-apart v w e = sym (back v) ∙ ap unsaid e ∙ back w
 
-  -- the answer, the table and the buffer of one outcome
-  pub no-choice : (v w : X) (t u b d : List ℕ) (o : Outcome) → made (said v) t b ≡ o → made (said w) u d ≡ o → (v ≡ w) × (t ≡ u) × (b ≡ d)
+  -- the answer, table and figures, and the buffer of one outcome
+  pub no-choice : (v w : X) (t u : State) (b d : List ℕ) (o : Outcome) → made (said v) t b ≡ o → made (said w) u d ≡ o → (v ≡ w) × (t ≡ u) × (b ≡ d)
   no-choice v w t u b d o p q =
       let e = p ∙ sym q in (
         told-apart v w (ap (λ (x : Outcome). x .answer) e),
-        ap (λ (x : Outcome). x .table) e,
+        ap (λ (x : Outcome). x .state) e,
         ap (λ (x : Outcome). x .buffer) e,
       )
 
@@ -58,7 +59,7 @@ request-back (request.Outcome n octets) = refl
 request-back (request.Held msisdn octets) = refl
 
 pub request-choice :
-    (v w : RequestAnswer) (t u b d : List ℕ) (o : Outcome) → made (saidRequest v) t b ≡ o → made (saidRequest w) u d ≡ o → (v ≡ w) × (t ≡ u) × (b ≡ d)
+    (v w : RequestAnswer) (t u : State) (b d : List ℕ) (o : Outcome) → made (saidRequest v) t b ≡ o → made (saidRequest w) u d ≡ o → (v ≡ w) × (t ≡ u) × (b ≡ d)
 request-choice = no-choice saidRequest unsaidRequest request-back
 
 -- where an outcome is only said
@@ -79,7 +80,7 @@ sending-back (sending.Refused n) = refl
 sending-back (sending.Sent addressee octets) = refl
 
 pub sending-choice :
-    (v w : SendingAnswer) (t u b d : List ℕ) (o : Outcome) → made (saidSending v) t b ≡ o → made (saidSending w) u d ≡ o → (v ≡ w) × (t ≡ u) × (b ≡ d)
+    (v w : SendingAnswer) (t u : State) (b d : List ℕ) (o : Outcome) → made (saidSending v) t b ≡ o → made (saidSending w) u d ≡ o → (v ≡ w) × (t ≡ u) × (b ≡ d)
 sending-choice = no-choice saidSending unsaidSending sending-back
 
 -- ---- a result
@@ -97,7 +98,7 @@ result-back result.Dropped = refl
 result-back result.Again = refl
 
 pub result-choice :
-    (v w : ResultAnswer) (t u b d : List ℕ) (o : Outcome) → made (saidResult v) t b ≡ o → made (saidResult w) u d ≡ o → (v ≡ w) × (t ≡ u) × (b ≡ d)
+    (v w : ResultAnswer) (t u : State) (b d : List ℕ) (o : Outcome) → made (saidResult v) t b ≡ o → made (saidResult w) u d ≡ o → (v ≡ w) × (t ≡ u) × (b ≡ d)
 result-choice = no-choice saidResult unsaidResult result-back
 
 -- ---- a finding

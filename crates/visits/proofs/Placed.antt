@@ -1,8 +1,8 @@
 -- A step of a row's record, answered and stored; what the record decides, by the operation. Assumes nothing.
-use mathlib.Core.Path.{_≡_, refl, ap}
+use mathlib.Core.Path.{_≡_, refl, sym, ap, _∙_}
 use mathlib.Core.Bool.{Bool, true, false, not, cond}
 use mathlib.Core.List.{List, [], _∷_}
-use Prim.Native.Nat.{ℕ}
+use Prim.Native.Nat.{ℕ, _<_}
 use native.Mathlib.Omega.{arith}
 use Rattle.numbers.specs.Numbers.{isNumber, twoDigits}
 use Rattle.numbers.specs.declared.FunctionalNumber.{FunctionalNumber}
@@ -20,17 +20,19 @@ use Rattle.records.specs.declared.Holder.{Holder}
 use Rattle.records.specs.declared.Holder.the-variants as holder
 use Rattle.records.specs.declared.Resulted.{Resulted}
 use Rattle.records.specs.declared.Resulted.the-variants.{Refused, Delivered, Dropped, Again}
-use Rattle.rows.specs.Rows.{rowSound, recordSound, recordAt, stored}
+use Rattle.rows.specs.Rows.{recordSound}
 use Rattle.records.specs.Steps.{isAbsent, isWaiting, isDue, isNobody, withNotice, launched, delayAllowed, interrogated, sent}
-use Rattle.rows.proofs.Rows.{words-stored}
 use Rattle.rows.proofs.Kept.{holder-number, pending-words}
+use Rattle.tables.specs.Tables.{rowsIn}
+use Rattle.states.specs.States.{State, stateSound, recordIn, storedIn}
+use Rattle.states.proofs.States.{stored-back}
 use Rattle.rules.specs.Answers.{Answer, outcome, refusal, sentTo, delivered, dropped, again, made, packedOver, octetCount}
 use Rattle.rules.specs.Requests.{Stepping, comesTo, says, replying}
 use Rattle.rules.specs.Visits.{Visited, visited, storing, tellAt, holderAnswered, sentStep, resultStep}
 
 -- what a step comes to, said in the reply
 pub said-placed :
-    (new b after : List ℕ) (n : ℕ) (said : Answer) (s : Stepping) → comesTo (says n) new ≡ s → said ≡ outcome n (octetCount (twoDigits n)) → after ≡ packedOver (twoDigits n) b
+    (new : State) (b after : List ℕ) (n : ℕ) (said : Answer) (s : Stepping) → comesTo (says n) new ≡ s → said ≡ outcome n (octetCount (twoDigits n)) → after ≡ packedOver (twoDigits n) b
     → made said new after ≡ replying b s
 said-placed new b after n said s e f g = rw (f, g) (ap (replying b) e)
 
@@ -43,25 +45,25 @@ holder-found r m sound e = go (isNobody (r .holder)) refl e
     go true q f = absurd (let z : _≡_ {A = ℕ} 0 1 = cc in omega arith)
     go false q f = let same : r .holder ≡ m = cc in rw (← same) (holder-number r sound q)
 
--- what an interrogation of a row's record answers leaves the table
+-- what an interrogation of a row's record answers leaves table and figures
 pub told-placed :
-    (t b after : List ℕ) (said : Answer) (r : Record) (h : Holder) → visited said after r ≡ holderAnswered b r h → made said t after ≡ replying b (tellAt t h)
+    (t : State) (b after : List ℕ) (said : Answer) (r : Record) (h : Holder) → visited said after r ≡ holderAnswered b r h → made said t after ≡ replying b (tellAt t h)
 told-placed t b after said r (holder.Stays n) g = ap (λ (v : Visited). made (v .reply .answer) t (v .reply .buffer)) g
 told-placed t b after said r (holder.Held m) g = ap (λ (v : Visited). made (v .reply .answer) t (v .reply .buffer)) g
 
 -- a result's step, returned and stored
-module _ (t : List ℕ) (i : ℕ) (step : Resulted) where
-  pub result-refused : (n : ℕ) → rowSound t i ≡ true → step ≡ Refused n → made (refusal n) t [] ≡ storing t i (resultStep (recordAt t i) step)
-  result-refused n sound e = rw (e, words-stored t i sound)
+module _ (t : State) (i : ℕ) (step : Resulted) where
+  pub result-refused : (n : ℕ) → stateSound t ≡ true → i < rowsIn (t .table) → step ≡ Refused n → made (refusal n) t [] ≡ storing t i (resultStep (recordIn t i) step)
+  result-refused n sound within e = rw e (ap (λ s. made (refusal n) s []) (sym (stored-back t i sound within)))
 
-  module _ (next : Record) (new : List ℕ) (stores : new ≡ stored t i next) where
-    pub result-delivered : step ≡ Delivered next → made delivered new [] ≡ storing t i (resultStep (recordAt t i) step)
+  module _ (next : Record) (new : State) (stores : new ≡ storedIn t i next) where
+    pub result-delivered : step ≡ Delivered next → made delivered new [] ≡ storing t i (resultStep (recordIn t i) step)
     result-delivered e = rw (e, stores)
 
-    pub result-dropped : step ≡ Dropped next → made dropped new [] ≡ storing t i (resultStep (recordAt t i) step)
+    pub result-dropped : step ≡ Dropped next → made dropped new [] ≡ storing t i (resultStep (recordIn t i) step)
     result-dropped e = rw (e, stores)
 
-    pub result-again : step ≡ Again next → made again new [] ≡ storing t i (resultStep (recordAt t i) step)
+    pub result-again : step ≡ Again next → made again new [] ≡ storing t i (resultStep (recordIn t i) step)
     result-again e = rw (e, stores)
 
 -- a notice that is sent has a supervisor
@@ -78,12 +80,17 @@ sent-supervisor delay clock r next sound e = pending-words r sound (go (delayAll
     go true (InFlight k) f = refl
 
 -- a sending's step, returned and stored
-module _ (t : List ℕ) (i : ℕ) (b : List ℕ) (number : FunctionalNumber) (step : Sending) where
-  pub sending-refused : (n : ℕ) → rowSound t i ≡ true → step ≡ launches.Refused n → made (refusal n) t b ≡ storing t i (sentStep number b (recordAt t i) step)
-  sending-refused n sound e = rw (e, words-stored t i sound)
+module _ (t : State) (i : ℕ) (b : List ℕ) (number : FunctionalNumber) (step : Sending) where
+  pub sending-refused : (n : ℕ) → stateSound t ≡ true → i < rowsIn (t .table) → step ≡ launches.Refused n → made (refusal n) t b ≡ storing t i (sentStep number b (recordIn t i) step)
+  sending-refused n sound within e = rw e (ap (λ s. made (refusal n) s b) (sym (stored-back t i sound within)))
 
   pub sending-placed :
-      (next r : Record) (new after : List ℕ) (octets : ℕ) → step ≡ launches.Launched next → r ≡ recordAt t i → new ≡ stored t i next
+      (next r : Record) (new : State) (after : List ℕ) (octets : ℕ) → step ≡ launches.Launched next → r ≡ recordIn t i → new ≡ storedIn t i next
       → Stands (packed (textOf (noticeFields number (r .supervisor)))) b octets after
-      → made (sentTo (r .addressee .0) octets) new after ≡ storing t i (sentStep number b (recordAt t i) step)
-  sending-placed next r new after octets e same stores w = rw (e, ← same, stores, w .buffer, w .count)
+      → made (sentTo (r .addressee .0) octets) new after ≡ storing t i (sentStep number b (recordIn t i) step)
+  sending-placed next r new after octets e same stores w = rw (e, w .buffer, w .count)
+      (ap (λ u. made (sent r .0) u (sent r .1)) stores ∙ ap (λ x. made (sent x .0) (storedIn t i next) (sent x .1)) same)
+    where
+      -- what a record's notice gets
+      sent : Record → Answer × List ℕ
+      sent x = let text = textOf (noticeFields number (x .supervisor)) in (sentTo (x .addressee .0) (octetCount text), packedOver text b)

@@ -20,6 +20,7 @@ ghost use Rattle.numbers.specs.Numbers.{isNumber, twoDigits};
 ghost use Rattle.records.specs.Steps.{interrogated, sent, isDue};
 ghost use Rattle.rows.specs.Rows.{recordAt, rowSound, recordSound};
 ghost use Rattle.tables.specs.Tables.{tableSound, rowsIn};
+ghost use Rattle.states.specs.States.{beside, stateSound};
 ghost use Rattle.rules.specs.Answers.{made, outcome, holderIs, bufferRoom, packedOver, octetCount, holderText};
 ghost use Rattle.rules.specs.Requests.{says, comesTo, replying};
 ghost use Rattle.rules.specs.Notices as notices;
@@ -95,14 +96,14 @@ fn tell(msisdn: Msisdn, reply: &mut [u8]) -> RequestAnswer
 }
 
 // A step of the record of a row, stored where the record becomes the next one: the outcome's number, `success` there.
-pub fn settle(table: &mut [u64], row: usize, success: u8, step: Step) -> u8
-    requires { ⌜ row < rowsIn (now table) ⌝ }
-    ensures { λ r. ⌜ comesTo (says r) (now (table .exit)) ≡ stepAt (now (table .entry)) row success step ⌝ }
+pub fn settle(table: &mut [u64], figures: &mut [u64], row: usize, success: u8, step: Step) -> u8
+    requires { ⌜ (stateSound (beside (now table) (now figures)) ≡ true) × (row < rowsIn (now table)) ⌝ }
+    ensures { λ r. ⌜ comesTo (says r) (beside (now (table .exit)) (now (figures .exit))) ≡ stepAt (beside (now (table .entry)) (now (figures .entry))) row success step ⌝ }
 {
     match step {
         Step::Stays(n) => n,
         Step::Becomes(next) => {
-            rows::store(table, row, next);
+            states::store(table, figures, row, next);
             success
         }
     }
@@ -133,13 +134,14 @@ fn answer_holder(held: Record, reply: &mut [u8]) -> RequestAnswer
 // What the record of a row decides, by the operation.
 pub fn decide_at(
     table: &mut [u64],
+    figures: &mut [u64],
     row: usize,
     reply: &mut [u8],
     requester: Msisdn,
     fields: Fields,
 ) -> RequestAnswer
-    requires { ⌜ (row < rowsIn (now table)) × (rowSound (now table) row ≡ true) × (bufferRoom ≤ length (now reply)) ⌝ }
-    ensures { λ r. ⌜ made (saidRequest r) (now (table .exit)) (now (reply .exit)) ≡ replying (now (reply .entry)) (decidesAt (fields .operation) (fields .erasing) (fields .number) requester (now (table .entry)) row) ⌝ }
+    requires { ⌜ (stateSound (beside (now table) (now figures)) ≡ true) × (row < rowsIn (now table)) × (bufferRoom ≤ length (now reply)) ⌝ }
+    ensures { λ r. ⌜ made (saidRequest r) (beside (now (table .exit)) (now (figures .exit))) (now (reply .exit)) ≡ replying (now (reply .entry)) (decidesAt (fields .operation) (fields .erasing) (fields .number) requester (beside (now (table .entry)) (now (figures .entry))) row) ⌝ }
 {
     let record = rows::load(table, row);
     let operation = fields.operation;
@@ -148,12 +150,12 @@ pub fn decide_at(
     match operation {
         Operation::Register => {
             let step = record.register(number, requester);
-            let n = settle(table, row, 1, step);
+            let n = settle(table, figures, row, 1, step);
             say(n, reply)
         }
         Operation::Erase => {
             let step = erasure(record, erasing, requester);
-            let n = settle(table, row, 2, step);
+            let n = settle(table, figures, row, 2, step);
             say(n, reply)
         }
         Operation::Interrogate => answer_holder(record, reply),
@@ -163,22 +165,23 @@ pub fn decide_at(
 // A sending of the notice of the record of a row.
 pub fn send_at(
     table: &mut [u64],
+    figures: &mut [u64],
     row: usize,
     buffer: &mut [u8],
     number: FunctionalNumber,
     delay: u32,
     clock: u32,
 ) -> SendingAnswer
-    requires { ⌜ (row < rowsIn (now table)) × (rowSound (now table) row ≡ true) ⌝ }
+    requires { ⌜ (stateSound (beside (now table) (now figures)) ≡ true) × (row < rowsIn (now table)) ⌝ }
     requires { ⌜ (isNumber (number .0) ≡ true) × (bufferRoom ≤ length (now buffer)) ⌝ }
-    ensures { λ r. ⌜ made (saidSending r) (now (table .exit)) (now (buffer .exit)) ≡ storing (now (table .entry)) row (sentStep number (now (buffer .entry)) (recordAt (now (table .entry)) row) (sent delay clock (recordAt (now (table .entry)) row))) ⌝ }
+    ensures { λ r. ⌜ made (saidSending r) (beside (now (table .exit)) (now (figures .exit))) (now (buffer .exit)) ≡ storing (beside (now (table .entry)) (now (figures .entry))) row (sentStep number (now (buffer .entry)) (recordAt (now (table .entry)) row) (sent delay clock (recordAt (now (table .entry)) row))) ⌝ }
 {
     let held = rows::load(table, row);
     let step = held.send(delay, clock);
     match step {
         Sending::Refused(n) => SendingAnswer::Refused(n),
         Sending::Launched(launched) => {
-            rows::store(table, row, launched);
+            states::store(table, figures, row, launched);
             let addressee = held.addressee;
             let supervisor = held.supervisor;
             let octets = writers::write_notice(number, supervisor, buffer);
@@ -188,24 +191,30 @@ pub fn send_at(
 }
 
 // The result of a sending, for the notice of the record of a row.
-pub fn result_at(table: &mut [u64], row: usize, kind: u32, clock: u32) -> ResultAnswer
-    requires { ⌜ (row < rowsIn (now table)) × (rowSound (now table) row ≡ true) ⌝ }
-    ensures { λ r. ⌜ made (saidResult r) (now (table .exit)) [] ≡ storing (now (table .entry)) row (visitResult kind clock (recordAt (now (table .entry)) row)) ⌝ }
+pub fn result_at(
+    table: &mut [u64],
+    figures: &mut [u64],
+    row: usize,
+    kind: u32,
+    clock: u32,
+) -> ResultAnswer
+    requires { ⌜ (stateSound (beside (now table) (now figures)) ≡ true) × (row < rowsIn (now table)) ⌝ }
+    ensures { λ r. ⌜ made (saidResult r) (beside (now (table .exit)) (now (figures .exit))) [] ≡ storing (beside (now (table .entry)) (now (figures .entry))) row (visitResult kind clock (recordAt (now (table .entry)) row)) ⌝ }
 {
     let held = rows::load(table, row);
     let step = held.result(kind, clock);
     match step {
         Resulted::Refused(n) => ResultAnswer::Refused(n),
         Resulted::Delivered(next) => {
-            rows::store(table, row, next);
+            states::store(table, figures, row, next);
             ResultAnswer::Delivered
         }
         Resulted::Dropped(next) => {
-            rows::store(table, row, next);
+            states::store(table, figures, row, next);
             ResultAnswer::Dropped
         }
         Resulted::Again(next) => {
-            rows::store(table, row, next);
+            states::store(table, figures, row, next);
             ResultAnswer::Again
         }
     }

@@ -14,6 +14,7 @@ use Rattle.numbers.specs.Numbers.{isDigit, areDigits, numeral, twoDigits}
 use Rattle.crews.specs.Crews.{codesText, spacedCodes}
 use Rattle.strings.specs.declared.Operation.{Operation}
 use Rattle.strings.specs.declared.Operation.the-variants.{Register, Erase, Interrogate}
+use Rattle.states.specs.States.{State}
 use Rattle.rules.specs.Answers.{Answer, outcome, made, packedOver, octetCount}
 use Rattle.rules.specs.Crews.{Walk, crewNumber, codesAndSpace, crewReply, crewOutcome}
 use Rattle.writers.proofs.Numerals.{numeral-short}
@@ -64,7 +65,7 @@ joins a e c b d h =
     append-assoc a e (32 ∷ (b ++ d)) ∙ ap (λ (r : List ℕ). a ++ r) h
     ∙ sym (append-assoc a (32 ∷ c) (b ++ d)) ∙ sym (append-assoc (a ++ (32 ∷ c)) b d)
 
-module _ (tally : Tally) (t : List ℕ) (w : Walk) (stands : Tallies tally t w) where
+module _ (tally : Tally) (t : State) (w : Walk) (stands : Tallies tally t w) where
   pub tally-text : (n : ℕ) → numeral n ≡ twoDigits n → tallyText n tally ≡ crewReply n w
   tally-text n two =
       ap (λ (r : List ℕ). (r ++ partOf (tally .successes)) ++ partOf (tally .failures)) two
@@ -88,7 +89,7 @@ takes-part c l few h = ap takes (part-text c l h) ∙ (takes-space (numeral (len
     codes [] d = refl
     codes (x ∷ l) d = takes-space (codesText (x ∷ l)) (each-implies isDigit taken digit-taken (codesText (x ∷ l)) d)
 
-pub takes-tally : (n : ℕ) (tally : Tally) (t : List ℕ) (w : Walk) → n < 256 → stepsCounted tally ≤ mostSteps → Tallies tally t w → takes (tallyText n tally) ≡ true
+pub takes-tally : (n : ℕ) (tally : Tally) (t : State) (w : Walk) → n < 256 → stepsCounted tally ≤ mostSteps → Tallies tally t w → takes (tallyText n tally) ≡ true
 takes-tally n tally t w small few stands =
     takes-both (numeral n ++ partOf (tally .successes)) (partOf (tally .failures))
     (takes-both (numeral n) (partOf (tally .successes)) (takes-numeral n small) (takes-part (tally .successes) (w .successes) (omega arith) (stands .successes)))
@@ -107,11 +108,11 @@ crew-small Erase = omega arith
 crew-small Interrogate = omega arith
 
 pub crew-answered :
-    (o : Operation) (tally : Tally) (t b after : List ℕ) (w : Walk) (n : ℕ) (said : Answer) → Tallies tally t w → n ≡ crewNumber o
+    (o : Operation) (tally : Tally) (t : State) (b after : List ℕ) (w : Walk) (n : ℕ) (said : Answer) → Tallies tally t w → n ≡ crewNumber o
     → said ≡ outcome n (octetCount (tallyText n tally)) → after ≡ packedOver (tallyText n tally) b → made said t after ≡ crewOutcome (crewNumber o) b w
 crew-answered o tally t b after w n said stands e f g =
     ap (λ (a : Answer). made a t after) f
     ∙ ap (λ (r : List ℕ). made (outcome n (octetCount (tallyText n tally))) t r) g
     ∙ ap (λ (m : ℕ). made (outcome m (octetCount (tallyText m tally))) t (packedOver (tallyText m tally) b)) e
     ∙ ap (λ (x : List ℕ). made (outcome (crewNumber o) (octetCount x)) t (packedOver x b)) (tally-text tally t w stands (crewNumber o) (crew-two o))
-    ∙ ap (λ (u : List ℕ). made (outcome (crewNumber o) (octetCount (crewReply (crewNumber o) w))) u (packedOver (crewReply (crewNumber o) w) b)) (stands .left)
+    ∙ ap (λ (u : State). made (outcome (crewNumber o) (octetCount (crewReply (crewNumber o) w))) u (packedOver (crewReply (crewNumber o) w) b)) (stands .left)

@@ -15,9 +15,8 @@ use Rattle.strings.specs.declared.Operation.{Operation}
 use Rattle.strings.specs.declared.Operation.the-variants.{Register, Erase, Interrogate}
 use Rattle.records.specs.declared.Record.{Record}
 use Rattle.records.specs.Steps.{registered, erased}
-use Rattle.rows.specs.Rows.{recordAt}
 use Rattle.tables.specs.declared.Found.the-variants.{At}
-use Rattle.tables.specs.Tables.{rowOf}
+use Rattle.states.specs.States.{State, rowFor, recordIn}
 use Rattle.rules.specs.Requests.{isInterrogate, Stepping, step}
 use Rattle.rules.specs.Visits.{stepAt}
 use Rattle.rules.proofs.Visits.{step-visits}
@@ -29,7 +28,7 @@ erases-only Register h e = absurd (⊎-elim (λ z. omega arith) (λ z. omega ari
 erases-only Erase h e = refl
 erases-only Interrogate h e = no-path (sym e)
 
-module _ (t : List ℕ) (requester : Msisdn) (number : FunctionalNumber) (i : ℕ) (place : rowOf t (number .0) ≡ At i) (r : Record) (read : r ≡ recordAt t i) where
+module _ (t : State) (requester : Msisdn) (number : FunctionalNumber) (i : ℕ) (place : rowFor t (number .0) ≡ At i) (r : Record) (read : r ≡ recordIn t i) where
   pub step-registers : (o : Operation) (s : Stepping) → o ≡ Register → s ≡ stepAt t i 1 (registered number requester r) → s ≡ step t requester (plainly o number)
   step-registers o s e f =
       f ∙ ap (λ (x : Record). stepAt t i 1 (registered number requester x)) read

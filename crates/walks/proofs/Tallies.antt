@@ -15,6 +15,7 @@ use Rattle.crews.specs.Crews.{leadCode, codesText, codeAt, codesIn}
 use Rattle.crews.proofs.Codes.{two-digits}
 use Rattle.crews.proofs.Reading.{codes-from, codes-end}
 use Rattle.strings.specs.declared.Operation.{Operation}
+use Rattle.states.specs.States.{State}
 use Rattle.rules.specs.Requests.{says, comesTo, step}
 use Rattle.rules.specs.Crews.{memberOf, crewCodes, Walk, isSuccess, walkedOn, walked}
 use Rattle.walks.specs.declared.Codes.{Codes}
@@ -54,10 +55,10 @@ one-more c code l few small h = record {
 
 -- ---- one step more
 
-module _ (tally : Tally) (t new : List ℕ) (n : ℕ) (requester : Msisdn) (o : Operation) (lead : FunctionalNumber) (code : ℕ)
+module _ (tally : Tally) (t new : State) (n : ℕ) (requester : Msisdn) (o : Operation) (lead : FunctionalNumber) (code : ℕ)
     (stepped : comesTo (says n) new ≡ step t requester (memberOf (plainly o lead) code)) (w : Walk) (stands : Tallies tally t w) (c : Codes) where
   gone : goneOn requester o lead code w ≡ walkedOn code (comesTo (says n) new) w
-  gone = ap (λ (u : List ℕ). walkedOn code (step u requester (memberOf (plainly o lead) code)) w) (sym (stands .left)) ∙ ap (λ s. walkedOn code s w) (sym stepped)
+  gone = ap (λ (u : State). walkedOn code (step u requester (memberOf (plainly o lead) code)) w) (sym (stands .left)) ∙ ap (λ s. walkedOn code s w) (sym stepped)
 
   pub step-succeeds : isSuccess (says n) ≡ true → Holds c (w .successes ++ (code ∷ [])) → Tallies (record { successes = c; failures = tally .failures }) new (goneOn requester o lead code w)
   step-succeeds e h = rw (gone, e) (record { successes = h; failures = stands .failures; left = refl })

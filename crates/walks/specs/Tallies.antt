@@ -10,6 +10,7 @@ use Rattle.numbers.specs.declared.FunctionalNumber.{FunctionalNumber}
 use Rattle.numbers.specs.declared.Msisdn.{Msisdn}
 use Rattle.crews.specs.Crews.{codesText}
 use Rattle.strings.specs.declared.Operation.{Operation}
+use Rattle.states.specs.States.{State}
 use Rattle.rules.specs.Requests.{step}
 use Rattle.rules.specs.Crews.{mostSteps, memberOf, Walk, walkedOn}
 use Rattle.rules.specs.Singles.{plainly}
@@ -27,11 +28,11 @@ pub record Holds (c : Codes) (l : List ℕ) : Type 0 where
   pub text : take (2 * c .count) (c .digits) ≡ codesText l
   pub digits : areDigits (codesText l) ≡ true
 
--- the walk has these codes, and this table
-pub record Tallies (tally : Tally) (table : List ℕ) (w : Walk) : Type 0 where
+-- the walk has these codes, and this state
+pub record Tallies (tally : Tally) (state : State) (w : Walk) : Type 0 where
   pub successes : Holds (tally .successes) (w .successes)
   pub failures : Holds (tally .failures) (w .failures)
-  pub left : table ≡ w .table
+  pub left : state ≡ w .state
 
 -- how many steps were counted
 abbrev pub stepsCounted : Tally → ℕ
@@ -45,7 +46,7 @@ pub record FitsReply (tally : Tally) : Type 0 where
 
 -- one step more of a walk
 abbrev pub goneOn : Msisdn → Operation → FunctionalNumber → ℕ → Walk → Walk
-goneOn requester o lead code w = walkedOn code (step (w .table) requester (memberOf (plainly o lead) code)) w
+goneOn requester o lead code w = walkedOn code (step (w .state) requester (memberOf (plainly o lead) code)) w
 
 -- a space and the count, and a space and the codes if there are any
 abbrev pub partOf : Codes → List ℕ

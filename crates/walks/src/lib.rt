@@ -1,4 +1,4 @@
-// A crew's request over a sound table: the single steps of its numbers one after the other, what they count, and the reply.
+// A crew's request over a sound table and right figures: the single steps of its numbers one after the other, what they count, and the reply.
 use crews::LEAD_CODE;
 use numbers::FunctionalNumber;
 use numbers::Msisdn;
@@ -14,7 +14,7 @@ ghost use Rattle.answers.specs.Writing.{Stands};
 ghost use Rattle.packing.specs.Packing.{takes};
 ghost use Rattle.numbers.specs.Numbers.{isNumber, areDigits};
 ghost use Rattle.crews.specs.Crews.{codesIn};
-ghost use Rattle.tables.specs.Tables.{tableSound};
+ghost use Rattle.states.specs.States.{beside, stateSound};
 ghost use Rattle.rules.specs.Answers.{outcome, made, bufferRoom, packedOver, octetCount};
 ghost use Rattle.rules.specs.Requests.{isInterrogate, says, comesTo};
 ghost use Rattle.rules.specs.Requests as requests;
@@ -71,9 +71,15 @@ fn with_code(codes: Codes, code: u64) -> Codes
 }
 
 // The step of one number: what its single request comes to, by the outcome's number.
-fn step(table: &mut [u64], requester: Msisdn, operation: Operation, number: FunctionalNumber) -> u8
-    requires { ⌜ (tableSound (now table) ≡ true) × (isInterrogate operation ≡ false) ⌝ }
-    ensures { λ r. ⌜ comesTo (says r) (now (table .exit)) ≡ requests.step (now (table .entry)) requester (plainly operation number) ⌝ }
+fn step(
+    table: &mut [u64],
+    figures: &mut [u64],
+    requester: Msisdn,
+    operation: Operation,
+    number: FunctionalNumber,
+) -> u8
+    requires { ⌜ (stateSound (beside (now table) (now figures)) ≡ true) × (isInterrogate operation ≡ false) ⌝ }
+    ensures { λ r. ⌜ comesTo (says r) (beside (now (table .exit)) (now (figures .exit))) ≡ requests.step (beside (now (table .entry)) (now (figures .entry))) requester (plainly operation number) ⌝ }
 {
     let found = tables::row_of(table, number);
     let Found::At(row) = found else {
@@ -82,27 +88,28 @@ fn step(table: &mut [u64], requester: Msisdn, operation: Operation, number: Func
     let record = rows::load(table, row);
     let Operation::Register = operation else {
         let step = record.erase(requester);
-        return visits::settle(table, row, 2, step);
+        return visits::settle(table, figures, row, 2, step);
     };
     let step = record.register(number, requester);
-    visits::settle(table, row, 1, step)
+    visits::settle(table, figures, row, 1, step)
 }
 
 // One step more: of the number with its last two digits replaced, its code among the successes or among the failures.
 fn step_on(
     table: &mut [u64],
+    figures: &mut [u64],
     requester: Msisdn,
     operation: Operation,
     lead: FunctionalNumber,
     code: u64,
     tally: Tally,
 ) -> Tally
-    requires { ⌜ (tableSound (now table) ≡ true) × (isInterrogate operation ≡ false) × (isNumber (requester .0) ≡ true) ⌝ }
+    requires { ⌜ (stateSound (beside (now table) (now figures)) ≡ true) × (isInterrogate operation ≡ false) × (isNumber (requester .0) ≡ true) ⌝ }
     requires { ⌜ (isNumber (lead .0) ≡ true) × (code < 100) × (stepsCounted tally < mostSteps) ⌝ }
-    ensures { λ r. ⌜ (tableSound (now (table .exit)) ≡ true) × (stepsCounted r ≡ stepsCounted tally + 1) × ((w : Walk) → Tallies tally (now (table .entry)) w → Tallies r (now (table .exit)) (goneOn requester operation lead code w)) ⌝ }
+    ensures { λ r. ⌜ (stateSound (beside (now (table .exit)) (now (figures .exit))) ≡ true) × (stepsCounted r ≡ stepsCounted tally + 1) × ((w : Walk) → Tallies tally (beside (now (table .entry)) (now (figures .entry))) w → Tallies r (beside (now (table .exit)) (now (figures .exit))) (goneOn requester operation lead code w)) ⌝ }
 {
     let number = FunctionalNumber(100 * (lead.0 / 100) + code);
-    let n = step(table, requester, operation, number);
+    let n = step(table, figures, requester, operation, number);
     let successes = tally.successes;
     let failures = tally.failures;
     if (n == 1) | (n == 2) {
@@ -120,14 +127,15 @@ fn step_on(
 // The walk: the lead's step, then each code's, in their order.
 fn walk(
     table: &mut [u64],
+    figures: &mut [u64],
     requester: Msisdn,
     operation: Operation,
     lead: FunctionalNumber,
     digits: &[u8],
 ) -> Tally
-    requires { ⌜ (tableSound (now table) ≡ true) × (isInterrogate operation ≡ false) × (isNumber (requester .0) ≡ true) ⌝ }
+    requires { ⌜ (stateSound (beside (now table) (now figures)) ≡ true) × (isInterrogate operation ≡ false) × (isNumber (requester .0) ≡ true) ⌝ }
     requires { ⌜ (isNumber (lead .0) ≡ true) × (areDigits (now digits) ≡ true) × (length (now digits) < 2 * mostSteps) ⌝ }
-    ensures { λ r. ⌜ (stepsCounted r ≤ mostSteps) × Tallies r (now (table .exit)) (walked requester (plainly operation lead) (crewCodes (codesIn (now (digits .entry)))) (setOut (now (table .entry)))) ⌝ }
+    ensures { λ r. ⌜ (stepsCounted r ≤ mostSteps) × Tallies r (beside (now (table .exit)) (now (figures .exit))) (walked requester (plainly operation lead) (crewCodes (codesIn (now (digits .entry)))) (setOut (beside (now (table .entry)) (now (figures .entry))))) ⌝ }
 {
     let successes = no_codes();
     let failures = no_codes();
@@ -135,12 +143,12 @@ fn walk(
         successes,
         failures,
     };
-    tally = step_on(table, requester, operation, lead, LEAD_CODE, tally);
+    tally = step_on(table, figures, requester, operation, lead, LEAD_CODE, tally);
     let n = digits.len() / 2;
     let mut i = 0;
     while i < n {
         let code = crews::code_at(digits, i);
-        tally = step_on(table, requester, operation, lead, code, tally);
+        tally = step_on(table, figures, requester, operation, lead, code, tally);
         i += 1;
     }
     tally
@@ -206,18 +214,19 @@ fn crew_number(operation: Operation) -> u8
 // The request of a crew: its lead's number and the digits of its codes.
 pub fn request_crew(
     table: &mut [u64],
+    figures: &mut [u64],
     reply: &mut [u8],
     requester: Msisdn,
     operation: Operation,
     lead: FunctionalNumber,
     digits: &[u8],
 ) -> RequestAnswer
-    requires { ⌜ (tableSound (now table) ≡ true) × (isInterrogate operation ≡ false) × (isNumber (requester .0) ≡ true) ⌝ }
+    requires { ⌜ (stateSound (beside (now table) (now figures)) ≡ true) × (isInterrogate operation ≡ false) × (isNumber (requester .0) ≡ true) ⌝ }
     requires { ⌜ (isNumber (lead .0) ≡ true) × (areDigits (now digits) ≡ true) × (length (now digits) < 2 * mostSteps) ⌝ }
     requires { ⌜ bufferRoom ≤ length (now reply) ⌝ }
-    ensures { λ r. ⌜ made (saidRequest r) (now (table .exit)) (now (reply .exit)) ≡ crewOutcome (crewNumber operation) (now (reply .entry)) (walked requester (plainly operation lead) (crewCodes (codesIn (now (digits .entry)))) (setOut (now (table .entry)))) ⌝ }
+    ensures { λ r. ⌜ made (saidRequest r) (beside (now (table .exit)) (now (figures .exit))) (now (reply .exit)) ≡ crewOutcome (crewNumber operation) (now (reply .entry)) (walked requester (plainly operation lead) (crewCodes (codesIn (now (digits .entry)))) (setOut (beside (now (table .entry)) (now (figures .entry))))) ⌝ }
 {
-    let tally = walk(table, requester, operation, lead, digits);
+    let tally = walk(table, figures, requester, operation, lead, digits);
     let n = crew_number(operation);
     answer(n, tally, reply)
 }

@@ -165,6 +165,11 @@ fn list(rows: usize) -> Vec<u64> {
         .collect()
 }
 
+/// The figures of a table that is sound.
+fn figures(table: &[u64]) -> [u64; 3] {
+    oracle::recount(table).unwrap()
+}
+
 fn sum(words: &[u64]) -> u64 {
     words.iter().fold(0, |a, &w| a.wrapping_add(w))
 }
@@ -200,6 +205,7 @@ fn request(
     string: &[u8],
 ) -> [f64; 3] {
     let (mut a, mut b) = ([1u8; 80], [1u8; 80]);
+    let (mut left, mut right) = (figures(ours), figures(theirs));
     let words = ours.to_vec();
     best(
         turns,
@@ -207,6 +213,7 @@ fn request(
             &mut || {
                 black_box(c::request(
                     ours,
+                    &mut left,
                     black_box(people),
                     &mut a,
                     requester,
@@ -217,6 +224,7 @@ fn request(
             &mut || {
                 black_box(oracle::request(
                     theirs,
+                    &mut right,
                     black_box(people),
                     &mut b,
                     requester,
@@ -253,6 +261,13 @@ fn calls(lines: &mut Vec<Line>, numbers: usize, subscribers: usize) {
             t[6 * middle..6 * middle + 6].copy_from_slice(&row(phase));
         }
     };
+    // The figures of a table set so.
+    let counted = |t: &[u64], phase: u64| {
+        let mut t = t.to_vec();
+        set(&mut t, phase);
+        figures(&t)
+    };
+    let (waiting, flying) = (counted(&ours, 1), counted(&ours, 2));
     line(
         lines,
         "sending",
@@ -263,11 +278,13 @@ fn calls(lines: &mut Vec<Line>, numbers: usize, subscribers: usize) {
             &mut [
                 &mut || {
                     set(&mut ours, 1);
-                    black_box(c::sending(&mut ours, &mut a, number, 0, 7));
+                    let mut lent = waiting;
+                    black_box(c::sending(&mut ours, &mut lent, &mut a, number, 0, 7));
                 },
                 &mut || {
                     set(&mut theirs, 1);
-                    black_box(oracle::sending(&mut theirs, &mut b, number, 0, 7));
+                    let (t, mut lent) = (&mut theirs, waiting);
+                    black_box(oracle::sending(t, &mut lent, &mut b, number, 0, 7));
                 },
                 &mut || {
                     black_box(sum(black_box(&words)));
@@ -285,11 +302,13 @@ fn calls(lines: &mut Vec<Line>, numbers: usize, subscribers: usize) {
             &mut [
                 &mut || {
                     set(&mut ours, 2);
-                    black_box(c::result(&mut ours, number, 5, 7));
+                    let mut lent = flying;
+                    black_box(c::result(&mut ours, &mut lent, number, 5, 7));
                 },
                 &mut || {
                     set(&mut theirs, 2);
-                    black_box(oracle::result(&mut theirs, number, 5, 7));
+                    let mut lent = flying;
+                    black_box(oracle::result(&mut theirs, &mut lent, number, 5, 7));
                 },
                 &mut || {
                     black_box(sum(black_box(&words)));
@@ -321,6 +340,27 @@ fn calls(lines: &mut Vec<Line>, numbers: usize, subscribers: usize) {
     );
 }
 
+/// A recount of a full table, as a caller makes it once at the start.
+fn recount() {
+    let words = table(1024);
+    let t = best(
+        50,
+        &mut [
+            &mut || {
+                black_box(c::recount(black_box(&words)));
+            },
+            &mut || {
+                black_box(oracle::recount(black_box(&words)));
+            },
+            &mut || {
+                black_box(sum(black_box(&words)));
+            },
+        ],
+    );
+    println!("\nrecount, full table:");
+    line(&mut Vec::new(), "recount", 1024, 0, t);
+}
+
 /// A crew of one and of ten functions, on full table and list. The requester
 /// holds the numbers that she registers, so each call finds the same table.
 fn crews() {
@@ -335,7 +375,10 @@ fn crews() {
         let count = c::write_request(0, lead, 0, field, &mut string).count;
         let string = &string[..count];
         let (mut said, mut packed) = ([0; 80], [0; 80]);
-        let answer = c::request(&mut ours, &people, &mut said, requester, 15, string);
+        let mut lent = figures(&ours);
+        let answer = c::request(
+            &mut ours, &mut lent, &people, &mut said, requester, 15, string,
+        );
         let octets = c::pack(reply, &mut packed).count;
         assert_eq!((answer.number, answer.count), (11, octets));
         assert_eq!(said, packed, "every function succeeds");
@@ -368,19 +411,21 @@ fn framed_request(
     message: &[u8],
 ) -> [f64; 3] {
     let (mut a, mut b) = ([1u8; 120], [1u8; 120]);
+    let (mut left, mut right) = (figures(ours), figures(theirs));
     let words = ours.to_vec();
     let times = best(
         turns,
         &mut [
             &mut || {
-                let people = black_box(people);
-                black_box(c::framed_request(ours, people, &mut a, requester, message));
+                let (people, frame) = (black_box(people), &mut a);
+                black_box(c::framed_request(
+                    ours, &mut left, people, frame, requester, message,
+                ));
             },
             &mut || {
-                let people = black_box(people);
-                let frame = &mut b;
+                let (people, frame) = (black_box(people), &mut b);
                 black_box(oracle::framed_request(
-                    theirs, people, frame, requester, message,
+                    theirs, &mut right, people, frame, requester, message,
                 ));
             },
             &mut || {
@@ -544,6 +589,7 @@ fn main() {
         }
     }
     growth(&lines);
+    recount();
     crews();
     framed();
     registers();

@@ -20,6 +20,7 @@ type Read = (Fields<Vec<u8>>, Option<usize>);
 #[derive(Clone, Debug, PartialEq, Eq)]
 enum Said {
     Answer(Answer),
+    Figures(Option<[u64; 3]>),
     Count(Result<usize, u8>),
     Fields(Option<Read>),
     IsNumber(bool),
@@ -88,6 +89,7 @@ fn characters(octets: &[u8]) -> usize {
 fn ask_oracle(lent: &mut Lent) -> Said {
     let said = match lent.call.run() {
         Reply::Answer(answer) => Said::Answer(answer),
+        Reply::Figures(figures) => Said::Figures(figures),
         Reply::Count(count) => Said::Count(count),
         Reply::IsNumber(is_number) => Said::IsNumber(is_number),
         Reply::Register(read) => Said::Register(read),
@@ -117,26 +119,32 @@ fn ask_library(lent: &mut Lent) -> Said {
     match &mut lent.call {
         Call::Request {
             table,
+            figures,
             list,
             reply,
             requester,
             scheme,
             string,
-        } => answer(c::request(table, list, reply, *requester, *scheme, string)),
+        } => answer(c::request(
+            table, figures, list, reply, *requester, *scheme, string,
+        )),
         Call::Sending {
             table,
+            figures,
             buffer,
             number,
             delay,
             now,
-        } => answer(c::sending(table, buffer, *number, *delay, *now)),
+        } => answer(c::sending(table, figures, buffer, *number, *delay, *now)),
         Call::Result {
             table,
+            figures,
             number,
             kind,
             now,
-        } => answer(c::result(table, *number, *kind, *now)),
+        } => answer(c::result(table, figures, *number, *kind, *now)),
         Call::Finding { table, delay, now } => answer(c::finding(table, *delay, *now)),
+        Call::Recount { table } => Said::Figures(figures(c::recount(table))),
         Call::Pack { chars, out } => Said::Count(count(c::pack(chars, out))),
         Call::Unpack { octets, out } => Said::Count(count(c::unpack(octets, out))),
         Call::WriteRequest { fields, out } => {
@@ -152,11 +160,14 @@ fn ask_library(lent: &mut Lent) -> Said {
         }
         Call::FramedRequest {
             table,
+            figures,
             list,
             frame,
             requester,
             message,
-        } => answer(c::framed_request(table, list, frame, *requester, message)),
+        } => answer(c::framed_request(
+            table, figures, list, frame, *requester, message,
+        )),
         Call::WriteRegister {
             transaction,
             invoke,
@@ -346,6 +357,16 @@ fn answer(answer: c::Answer) -> Said {
     })
 }
 
+/// What a recount says; all but the number of a refusal is 0.
+fn figures(counted: c::Figures) -> Option<[u64; 3]> {
+    let words = [counted.held, counted.waiting, counted.in_flight];
+    match (counted.class, counted.number, words) {
+        (c::COUNTED, 0, words) => Some(words),
+        (c::REFUSAL, 2, [0, 0, 0]) => None,
+        _ => panic!("{counted:?}"),
+    }
+}
+
 fn octet(number: u32) -> u8 {
     u8::try_from(number).expect("the papers' numbers are below 256")
 }
@@ -357,6 +378,7 @@ fn kind(call: &Call, said: &Said) -> String {
         Call::Sending { .. } => "sending",
         Call::Result { .. } => "result",
         Call::Finding { .. } => "finding",
+        Call::Recount { .. } => "recount",
         Call::Pack { .. } => "pack",
         Call::Unpack { .. } => "unpack",
         Call::WriteRequest { .. } => "write request",
@@ -376,6 +398,8 @@ fn kind(call: &Call, said: &Said) -> String {
         Said::Answer(Answer::Sent { .. }) => "sent".into(),
         Said::Answer(Answer::Found(_)) => "found".into(),
         Said::Answer(answer) => format!("{answer:?}").to_lowercase(),
+        Said::Figures(Some(_)) => "counted".into(),
+        Said::Figures(None) => "refused 2".into(),
         Said::Count(Ok(_)) => "written".into(),
         Said::Fields(Some((_, Some(_)))) => "crew".into(),
         Said::Fields(Some((fields, None))) => format!("{:?}", fields.operation).to_lowercase(),
@@ -409,17 +433,18 @@ mod tests {
                 assert!(counts.contains_key(&kind), "no {kind} in {counts:#?}");
             }
         };
-        expected("request", "refused 1, refused 2, refused 8");
+        expected("request", "refused 1, refused 2, refused 8, refused 10");
         expected("request", "error 35, error 36, error 71");
         expected(
             "request",
             "01, 02, 03, 11, 12, 22, 41, 42, 61, 62, 63, 67, 68",
         );
         expected("sending", "refused 1, refused 2, refused 4, refused 5");
-        expected("sending", "refused 6, refused 7, sent");
+        expected("sending", "refused 6, refused 7, refused 10, sent");
         expected("result", "refused 2, refused 3, refused 4, refused 7");
-        expected("result", "delivered, dropped, again");
+        expected("result", "refused 10, delivered, dropped, again");
         expected("finding", "refused 2, refused 6, found, nonedue");
+        expected("recount", "refused 2, counted");
         for call in ["pack", "unpack", "write request", "write register"] {
             expected(call, "refused 1, refused 9, written");
         }
@@ -430,7 +455,7 @@ mod tests {
         expected("number", "true, false");
         expected(
             "framed request",
-            "refused 1, refused 11, refused 8, refused 2, reject 1, reject 2, \
+            "refused 1, refused 11, refused 8, refused 2, refused 10, reject 1, reject 2, \
              error 35, error 36, error 71, 01, 02, 03, 11, 12, 22, 41, 42, 61, 62, 63",
         );
         expected("read register", "request, problem 1, problem 2, refused 11");

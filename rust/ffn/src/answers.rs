@@ -65,6 +65,7 @@ reason! {
         Number = 7: "the functional number is malformed or not in the table",
         ListUnsound = 8: "the list is unsound",
         Unfit = 9: "the fields break the string's rules, a value is not one that the packer takes, unused bits are not 0, or the transaction identifier is above 15",
+        Figures = 10: "the figures differ from a recount of the table",
         Message = 11: "the message is wrong anywhere up to its invoke number, or is no Release Complete of the node",
     }
 }

@@ -18,6 +18,8 @@ pub const READ: u32 = 8;
 /// Of frames.
 pub const RETURN_ERROR: u32 = 9;
 pub const REJECT: u32 = 10;
+/// Of [`recount`].
+pub const COUNTED: u32 = 11;
 
 /// `struct ffn_answer`. A field that its class does not name is 0.
 #[repr(C)]
@@ -68,8 +70,20 @@ pub struct FrameRead {
     pub length: usize,
 }
 
+/// `struct ffn_figures`. With a refusal all but its number is 0.
+#[repr(C)]
+#[derive(Clone, Copy, Debug, PartialEq, Eq)]
+pub struct Figures {
+    pub class: u32,
+    /// Of a refusal.
+    pub number: u32,
+    pub held: u64,
+    pub waiting: u64,
+    pub in_flight: u64,
+}
+
 mod linked {
-    use super::{Answer, FrameRead, RequestRead};
+    use super::{Answer, Figures, FrameRead, RequestRead};
 
     extern "C" {
         pub fn ffn_pack(
@@ -102,6 +116,8 @@ mod linked {
         pub fn ffn_request(
             table: *mut u64,
             table_words: usize,
+            figures: *mut u64,
+            figure_words: usize,
             list: *const u64,
             list_words: usize,
             reply: *mut u8,
@@ -114,6 +130,8 @@ mod linked {
         pub fn ffn_sending(
             table: *mut u64,
             table_words: usize,
+            figures: *mut u64,
+            figure_words: usize,
             buffer: *mut u8,
             buffer_length: usize,
             functional_number: u64,
@@ -123,14 +141,19 @@ mod linked {
         pub fn ffn_result(
             table: *mut u64,
             table_words: usize,
+            figures: *mut u64,
+            figure_words: usize,
             functional_number: u64,
             kind: u32,
             now: u32,
         ) -> Answer;
         pub fn ffn_finding(table: *const u64, table_words: usize, delay: u32, now: u32) -> Answer;
+        pub fn ffn_recount(table: *const u64, table_words: usize) -> Figures;
         pub fn ffn_framed_request(
             table: *mut u64,
             table_words: usize,
+            figures: *mut u64,
+            figure_words: usize,
             list: *const u64,
             list_words: usize,
             frame: *mut u8,
@@ -195,6 +218,7 @@ pub fn read_request(octets: &[u8], text: &mut [u8]) -> RequestRead {
 
 pub fn request(
     table: &mut [u64],
+    figures: &mut [u64],
     list: &[u64],
     reply: &mut [u8],
     requester: u64,
@@ -205,6 +229,8 @@ pub fn request(
         linked::ffn_request(
             table.as_mut_ptr(),
             table.len(),
+            figures.as_mut_ptr(),
+            figures.len(),
             list.as_ptr(),
             list.len(),
             reply.as_mut_ptr(),
@@ -219,6 +245,7 @@ pub fn request(
 
 pub fn sending(
     table: &mut [u64],
+    figures: &mut [u64],
     buffer: &mut [u8],
     functional_number: u64,
     delay: u32,
@@ -228,6 +255,8 @@ pub fn sending(
         linked::ffn_sending(
             table.as_mut_ptr(),
             table.len(),
+            figures.as_mut_ptr(),
+            figures.len(),
             buffer.as_mut_ptr(),
             buffer.len(),
             functional_number,
@@ -237,11 +266,19 @@ pub fn sending(
     }
 }
 
-pub fn result(table: &mut [u64], functional_number: u64, kind: u32, now: u32) -> Answer {
+pub fn result(
+    table: &mut [u64],
+    figures: &mut [u64],
+    functional_number: u64,
+    kind: u32,
+    now: u32,
+) -> Answer {
     unsafe {
         linked::ffn_result(
             table.as_mut_ptr(),
             table.len(),
+            figures.as_mut_ptr(),
+            figures.len(),
             functional_number,
             kind,
             now,
@@ -253,8 +290,13 @@ pub fn finding(table: &[u64], delay: u32, now: u32) -> Answer {
     unsafe { linked::ffn_finding(table.as_ptr(), table.len(), delay, now) }
 }
 
+pub fn recount(table: &[u64]) -> Figures {
+    unsafe { linked::ffn_recount(table.as_ptr(), table.len()) }
+}
+
 pub fn framed_request(
     table: &mut [u64],
+    figures: &mut [u64],
     list: &[u64],
     frame: &mut [u8],
     requester: u64,
@@ -264,6 +306,8 @@ pub fn framed_request(
         linked::ffn_framed_request(
             table.as_mut_ptr(),
             table.len(),
+            figures.as_mut_ptr(),
+            figures.len(),
             list.as_ptr(),
             list.len(),
             frame.as_mut_ptr(),

@@ -3,7 +3,7 @@
 use crate::answers::{
     Failure, Kind, Operation, Outcome, Refusal, Reply, RequestError, Resulted, Sent,
 };
-use crate::{c, Crew, FunctionalNumber, Msisdn};
+use crate::{c, Crew, Figures, FunctionalNumber, Msisdn};
 
 /// The least room of a reply or a notice.
 pub const BUFFER_ROOM: usize = 80;
@@ -173,16 +173,20 @@ pub fn read_request(octets: &[u8]) -> Result<ReadRequest, RequestError> {
 /// Carries out a request.
 ///
 /// # Errors
-/// A refusal or an error, in document 01's order of checks.
+/// A refusal or an error, in the papers' order of checks:
+/// [`Refusal::Figures`] stands directly behind [`Refusal::TableUnsound`].
 pub fn request(
     table: &mut [u64],
+    figures: &mut Figures,
     list: &[u64],
     reply: &mut [u8],
     requester: Msisdn,
     scheme: u8,
     string: &[u8],
 ) -> Result<Reply, Failure> {
-    let answer = c::request(table, list, reply, requester.word(), scheme, string);
+    let requester = requester.word();
+    let answer =
+        figures.lend(|figures| c::request(table, figures, list, reply, requester, scheme, string));
     match answer.class {
         c::OUTCOME => Ok(Reply {
             outcome: outcome(answer.number, answer.value, &reply[..answer.count]),
@@ -197,16 +201,19 @@ pub fn request(
 /// Sends the notice of a number, if it is due.
 ///
 /// # Errors
-/// [`Refusal::NoRoom`], [`Refusal::TableUnsound`], [`Refusal::Number`],
-/// [`Refusal::Delay`], [`Refusal::Phase`], [`Refusal::NotDue`], in this order.
+/// [`Refusal::NoRoom`], [`Refusal::TableUnsound`], [`Refusal::Figures`],
+/// [`Refusal::Number`], [`Refusal::Delay`], [`Refusal::Phase`],
+/// [`Refusal::NotDue`], in this order.
 pub fn sending(
     table: &mut [u64],
+    figures: &mut Figures,
     buffer: &mut [u8],
     number: FunctionalNumber,
     delay: u32,
     now: u32,
 ) -> Result<Sent, Refusal> {
-    let answer = c::sending(table, buffer, number.word(), delay, now);
+    let answer =
+        figures.lend(|figures| c::sending(table, figures, buffer, number.word(), delay, now));
     match answer.class {
         c::SENT => Ok(Sent {
             addressee: answered(Msisdn::from_word(answer.value)),
@@ -220,15 +227,17 @@ pub fn sending(
 /// Takes in how a sending went.
 ///
 /// # Errors
-/// [`Refusal::TableUnsound`], [`Refusal::Number`], [`Refusal::Phase`], in this
-/// order.
+/// [`Refusal::TableUnsound`], [`Refusal::Figures`], [`Refusal::Number`],
+/// [`Refusal::Phase`], in this order.
 pub fn result(
     table: &mut [u64],
+    figures: &mut Figures,
     number: FunctionalNumber,
     kind: Kind,
     now: u32,
 ) -> Result<Resulted, Refusal> {
-    let answer = c::result(table, number.word(), kind.number(), now);
+    let answer =
+        figures.lend(|figures| c::result(table, figures, number.word(), kind.number(), now));
     match answer.class {
         c::RESULT => Ok(answered(Resulted::from_number(answer.number))),
         c::REFUSAL => Err(refusal(answer.number)),

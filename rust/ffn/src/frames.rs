@@ -3,29 +3,30 @@
 
 use crate::answers::{Answered, FramedReply, Message, Problem, Refusal, Register, Release};
 use crate::calls::{answered, error, outcome, refusal, written, Request};
-use crate::{c, Msisdn};
+use crate::{c, Figures, Msisdn};
 
 /// The least room of a frame.
 pub const FRAME_ROOM: usize = 120;
 
 /// Carries out the request in a Register and writes the Release Complete that
 /// answers it: its invoke number is the message's, its transaction identifier
-/// too but for the flag, which is inverted. An error or a Reject leaves the
-/// table.
+/// too but for the flag, which is inverted. An error or a Reject leaves table
+/// and figures.
 ///
 /// # Errors
 /// [`Refusal::NoRoom`] where `frame` has under 120 octets, then
-/// [`Refusal::Message`], [`Refusal::ListUnsound`], [`Refusal::TableUnsound`], in
-/// this order. Nothing is written then.
+/// [`Refusal::Message`], [`Refusal::ListUnsound`], [`Refusal::TableUnsound`],
+/// [`Refusal::Figures`], in this order. Nothing is written then.
 ///
 /// # Examples
 /// ```
-/// use ffn::{framed_request, read_release, write_register, Answered, FunctionalNumber, Msisdn};
-/// use ffn::{Operation, Outcome, Release, Request, FRAME_ROOM};
+/// use ffn::{framed_request, read_release, write_register, Answered, Figures, FunctionalNumber};
+/// use ffn::{Msisdn, Operation, Outcome, Release, Request, FRAME_ROOM};
 ///
 /// let number: FunctionalNumber = "0492123401".parse()?;
 /// let driver: Msisdn = "4915100001".parse()?;
 /// let mut table = [number.word(), 0, 0, 0, 0, 0];
+/// let mut figures = Figures::recount(&table)?;
 /// let list = [driver.word(), 1];
 /// let (mut register, mut release) = ([0; FRAME_ROOM], [0; FRAME_ROOM]);
 /// let fields = Request {
@@ -35,8 +36,10 @@ pub const FRAME_ROOM: usize = 120;
 ///     additional: b"",
 /// };
 /// let count = write_register(0, 1, &fields, &mut register)?;
-/// let reply = framed_request(&mut table, &list, &mut release, driver, &register[..count])?;
+/// let (frame, message) = (&mut release, &register[..count]);
+/// let reply = framed_request(&mut table, &mut figures, &list, frame, driver, message)?;
 /// assert_eq!(reply.answered, Answered::Result(Outcome::Registered));
+/// assert_eq!(figures.held, 1);
 ///
 /// let read = read_release(&release[..reply.octets])?;
 /// assert_eq!((read.transaction, read.invoke), (8, 1));
@@ -49,12 +52,15 @@ pub const FRAME_ROOM: usize = 120;
 /// ```
 pub fn framed_request(
     table: &mut [u64],
+    figures: &mut Figures,
     list: &[u64],
     frame: &mut [u8],
     requester: Msisdn,
     message: &[u8],
 ) -> Result<FramedReply, Refusal> {
-    let answer = c::framed_request(table, list, frame, requester.word(), message);
+    let requester = requester.word();
+    let answer =
+        figures.lend(|figures| c::framed_request(table, figures, list, frame, requester, message));
     let content = match answer.class {
         c::OUTCOME => {
             let read = c::read_release(&frame[..answer.count]);

@@ -5,8 +5,9 @@
 //! and 02 say. This crate turns its numbers into enums and adds nothing of its own.
 //!
 //! A table has six words a number, a list two words a subscriber, as document
-//! 01 lays them out. Whatever a call refuses or finds in error, it touches no
-//! memory, but that a framed request in error or rejected writes the frame that
+//! 01 lays them out. The [`Figures`] of a table are recounted once, at the start,
+//! and lent with it from then on; each call that is not refused keeps them
+//! right. Whatever a call refuses or finds in error, it touches no memory, but that a framed request in error or rejected writes the frame that
 //! says so; what a call writes stands at the start of the buffer, and
 //! everything beyond its count stays.
 //!
@@ -19,6 +20,7 @@ pub mod c;
 #[cfg(feature = "archive")]
 mod calls;
 mod crews;
+mod figures;
 #[cfg(feature = "archive")]
 mod frames;
 mod number;
@@ -33,6 +35,7 @@ pub use calls::{
     Request, BUFFER_ROOM, CODING_SCHEME, MOST_CHARACTERS, WRITER_ROOM,
 };
 pub use crews::{Codes, Crew, CrewField};
+pub use figures::Figures;
 #[cfg(feature = "archive")]
 pub use frames::{framed_request, read_register, read_release, write_register, FRAME_ROOM};
 pub use number::{FunctionalNumber, Msisdn, NumberError};

@@ -1,9 +1,9 @@
 //! Document 01's examples P5 to P15, the refusals, and what stays untouched.
 
 use ffn::{
-    finding, pack, read_request, request, result, sending, unpack, write_request, Crew, CrewField,
-    Failure, FunctionalNumber, Kind, Msisdn, Operation, Outcome, Refusal, Reply, Request,
-    RequestError, Resulted, Sent, CODING_SCHEME,
+    finding, pack, read_request, unpack, write_request, Crew, CrewField, Failure, Figures,
+    FunctionalNumber, Kind, Msisdn, Operation, Outcome, Refusal, Reply, Request, RequestError,
+    Resulted, Sent, CODING_SCHEME,
 };
 
 const UNTOUCHED: u8 = 0xEE;
@@ -52,6 +52,52 @@ fn packed(text: &str) -> Vec<u8> {
 fn holds(buffer: &[u8], text: &str) -> bool {
     let octets = packed(text);
     buffer.starts_with(&octets) && buffer[octets.len()..].iter().all(|&o| o == UNTOUCHED)
+}
+
+/// Makes a call with the figures of the table, zeros of an unsound one. Checks
+/// that they are those of the table afterwards.
+fn with_figures<T>(table: &mut [u64], call: impl FnOnce(&mut [u64], &mut Figures) -> T) -> T {
+    let mut figures = Figures::recount(table).unwrap_or_default();
+    let said = call(table, &mut figures);
+    assert_eq!(figures, Figures::recount(table).unwrap_or_default());
+    said
+}
+
+/// The calls, with the right figures.
+fn request(
+    table: &mut [u64],
+    list: &[u64],
+    reply: &mut [u8],
+    requester: Msisdn,
+    scheme: u8,
+    string: &[u8],
+) -> Result<Reply, Failure> {
+    with_figures(table, |table, figures| {
+        ffn::request(table, figures, list, reply, requester, scheme, string)
+    })
+}
+
+fn sending(
+    table: &mut [u64],
+    buffer: &mut [u8],
+    number: FunctionalNumber,
+    delay: u32,
+    now: u32,
+) -> Result<Sent, Refusal> {
+    with_figures(table, |table, figures| {
+        ffn::sending(table, figures, buffer, number, delay, now)
+    })
+}
+
+fn result(
+    table: &mut [u64],
+    number: FunctionalNumber,
+    kind: Kind,
+    now: u32,
+) -> Result<Resulted, Refusal> {
+    with_figures(table, |table, figures| {
+        ffn::result(table, figures, number, kind, now)
+    })
 }
 
 /// A request, with the reply's text checked.
@@ -280,7 +326,9 @@ fn refusals_for_notices_in_their_order() {
         result(&mut notice(3, 0), f(), Kind::Delivered, 0),
         Err(Refusal::Phase)
     );
-    assert_eq!(ffn::c::result(&mut table, f().word(), 6, 0).number, 3);
+    let mut figures = Figures::recount(&table).unwrap().words();
+    let above = ffn::c::result(&mut table, &mut figures, f().word(), 6, 0);
+    assert_eq!(above.number, 3);
     assert_eq!(finding(&unsound, 1, 0), Err(Refusal::TableUnsound));
     assert_eq!(finding(&table, 1, 0), Err(Refusal::Delay));
     assert_eq!(table, notice(4, 0));

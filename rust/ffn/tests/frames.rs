@@ -2,7 +2,7 @@
 //! refusals in their order, and what stays untouched.
 
 use ffn::{
-    framed_request, read_register, read_release, write_register, Answered, Crew, FramedReply,
+    read_register, read_release, write_register, Answered, Crew, Figures, FramedReply,
     FunctionalNumber, Message, Msisdn, Operation, Outcome, Problem, Refusal, Register, Release,
     Request, RequestError, CODING_SCHEME,
 };
@@ -62,6 +62,21 @@ fn changed(place: usize, octet: u8) -> [u8; 40] {
     let mut message = REGISTER;
     message[place] = octet;
     message
+}
+
+/// A framed request with the figures of the table, zeros of an unsound one.
+/// Checks that they are those of the table afterwards.
+fn framed_request(
+    table: &mut [u64],
+    list: &[u64],
+    frame: &mut [u8],
+    requester: Msisdn,
+    message: &[u8],
+) -> Result<FramedReply, Refusal> {
+    let mut figures = Figures::recount(table).unwrap_or_default();
+    let reply = ffn::framed_request(table, &mut figures, list, frame, requester, message);
+    assert_eq!(figures, Figures::recount(table).unwrap_or_default());
+    reply
 }
 
 /// A framed request: the answer and its frame. What lies beyond stays.

@@ -3,7 +3,9 @@
 
 use std::error::Error;
 
-use ffn::{Failure, FunctionalNumber, Msisdn, NumberError, Problem, Refusal, RequestError};
+use ffn::{
+    Failure, Figures, FunctionalNumber, Msisdn, NumberError, Problem, Refusal, RequestError,
+};
 
 #[test]
 fn numbers_are_read_with_their_zeros() {
@@ -106,6 +108,7 @@ fn every_refusal_has_its_number_and_words() {
             "refusal 8: the list is unsound",
             "refusal 9: the fields break the string's rules, a value is not one that \
              the packer takes, unused bits are not 0, or the transaction identifier is above 15",
+            "refusal 10: the figures differ from a recount of the table",
             "refusal 11: the message is wrong anywhere up to its invoke number, or is no \
              Release Complete of the node",
         ]
@@ -141,6 +144,18 @@ fn every_problem_has_its_number_and_words() {
             "problem 2: something behind the operation is wrong",
         ]
     );
+}
+
+#[test]
+fn figures_are_three_words() {
+    let figures = Figures {
+        held: 3,
+        waiting: 2,
+        in_flight: 1,
+    };
+    assert_eq!(figures.words(), [3, 2, 1]);
+    assert_eq!(Figures::from_words([3, 2, 1]), figures);
+    assert_eq!(Figures::default().words(), [0, 0, 0]);
 }
 
 #[test]

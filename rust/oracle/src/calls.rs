@@ -8,6 +8,7 @@ use crate::frame::{read_register, read_release, write_register, Invoked, Release
 use crate::node::{finding, framed_request, request, result, sending, Answer};
 use crate::number::is_number;
 use crate::packing::{pack, packed_length, unpack};
+use crate::rows::{recount, FIGURES};
 use crate::string::{read_request, write_request, Fields, Operation};
 
 /// The octets of input that the program has room for.
@@ -21,12 +22,16 @@ const LIST_WORDS: usize = 2 * 4200;
 const MAX_BUFFER: usize = 512;
 const TAIL_ROOM: usize = 1024;
 
-/// The most words of a line.
+/// The most words of a line, and of one that sets figures.
 const MAX_WORDS: usize = 24;
+const MAX_FIGURES: usize = 8;
 
 /// Carries out the lines of `input` and returns what they print.
 pub fn run_calls(input: &[u8]) -> Vec<u8> {
-    let mut calls = Calls::default();
+    let mut calls = Calls {
+        figures: vec![0; FIGURES],
+        ..Calls::default()
+    };
     let lines = input.strip_suffix(b"\n").unwrap_or(input);
     if !input.is_empty() {
         for line in lines.split(|&octet| octet == b'\n') {
@@ -39,6 +44,9 @@ pub fn run_calls(input: &[u8]) -> Vec<u8> {
 #[derive(Default)]
 struct Calls {
     table: Vec<u64>,
+    figures: Vec<u64>,
+    /// Whether a line set the figures since one set the table.
+    shows_figures: bool,
     list: Vec<u64>,
     room: usize,
     filling: u8,
@@ -211,12 +219,18 @@ impl Calls {
         match (name, words.as_slice()) {
             (b"table", words) => {
                 self.table.clear();
-                extend(&mut self.table, TABLE_WORDS, words.iter().copied()).map(silent)
+                self.extend_table(words.iter().copied()).map(silent)
             }
-            (b"table+", words) => {
-                extend(&mut self.table, TABLE_WORDS, words.iter().copied()).map(silent)
+            (b"table+", words) => self.extend_table(words.iter().copied()).map(silent),
+            (b"table*", words) => self.extend_table(rows(words)?).map(silent),
+            (b"figures", words) if words.len() <= MAX_FIGURES => {
+                (self.figures, self.shows_figures) = (words.to_vec(), true);
+                Some(String::new())
             }
-            (b"table*", words) => extend(&mut self.table, TABLE_WORDS, rows(words)?).map(silent),
+            (b"recount", []) => Some(match recount(&self.table) {
+                Some(figures) => format!("recounted{}\n", spaced(&figures)),
+                None => "refused 2\n".into(),
+            }),
             (b"list", words) => {
                 self.list.clear();
                 extend(&mut self.list, LIST_WORDS, words.iter().copied()).map(silent)
@@ -260,6 +274,15 @@ impl Calls {
         }
     }
 
+    /// Puts words behind the table. It gets the figures of a recount, zeros where
+    /// it is unsound.
+    fn extend_table(&mut self, words: impl Iterator<Item = u64>) -> Option<()> {
+        extend(&mut self.table, TABLE_WORDS, words)?;
+        self.figures = recount(&self.table).unwrap_or_default().to_vec();
+        self.shows_figures = false;
+        Some(())
+    }
+
     fn buffer(&mut self, room: u64, filling: u64) -> Option<()> {
         let room = usize::try_from(room).ok().filter(|&n| n <= MAX_BUFFER)?;
         (self.room, self.filling) = (room, u8::try_from(filling).ok()?);
@@ -270,32 +293,34 @@ impl Calls {
         let (scheme, string) = (scheme.try_into().ok()?, tail.string()?);
         let mut reply = vec![self.filling; self.room];
         let before = self.table.clone();
-        let (table, list) = (&mut self.table, &self.list);
-        let answer = request(table, list, &mut reply, requester, scheme, &string);
-        Some(said(answer) + &self.octets(&reply, count(answer)) + &self.table_after(&before))
+        let (table, figures) = (&mut self.table, &mut self.figures);
+        let list = &self.list;
+        let answer = request(table, figures, list, &mut reply, requester, scheme, &string);
+        Some(said(answer) + &self.octets(&reply, count(answer)) + &self.after(&before))
     }
 
     fn framed(&mut self, requester: u64, message: &[u8]) -> Option<String> {
         let mut frame = vec![self.filling; self.room];
         let before = self.table.clone();
-        let (table, list) = (&mut self.table, &self.list);
-        let answer = framed_request(table, list, &mut frame, requester, message);
-        Some(said(answer) + &self.octets(&frame, count(answer)) + &self.table_after(&before))
+        let (table, figures) = (&mut self.table, &mut self.figures);
+        let answer = framed_request(table, figures, &self.list, &mut frame, requester, message);
+        Some(said(answer) + &self.octets(&frame, count(answer)) + &self.after(&before))
     }
 
     fn sending(&mut self, number: u64, delay: u64, now: u64) -> Option<String> {
         let (delay, now) = (small(delay)?, small(now)?);
         let mut buffer = vec![self.filling; self.room];
         let before = self.table.clone();
-        let answer = sending(&mut self.table, &mut buffer, number, delay, now);
-        Some(said(answer) + &self.octets(&buffer, count(answer)) + &self.table_after(&before))
+        let (table, figures) = (&mut self.table, &mut self.figures);
+        let answer = sending(table, figures, &mut buffer, number, delay, now);
+        Some(said(answer) + &self.octets(&buffer, count(answer)) + &self.after(&before))
     }
 
     fn result(&mut self, number: u64, kind: u64, now: u64) -> Option<String> {
         let (kind, now) = (small(kind)?, small(now)?);
         let before = self.table.clone();
-        let answer = result(&mut self.table, number, kind, now);
-        Some(said(answer) + &self.table_after(&before))
+        let answer = result(&mut self.table, &mut self.figures, number, kind, now);
+        Some(said(answer) + &self.after(&before))
     }
 
     /// What a writer answers and writes into a buffer.
@@ -330,21 +355,28 @@ impl Calls {
         text
     }
 
-    /// The rows that are not as before, if there are any.
-    fn table_after(&self, before: &[u64]) -> String {
+    /// The rows that are not as before, if there are any, and the figures where
+    /// they are shown.
+    fn after(&self, before: &[u64]) -> String {
         let mut text = String::new();
         let rows = self.table.chunks(6).zip(before.chunks(6)).enumerate();
         for (place, (row, _)) in rows.filter(|(_, (row, before))| row != before) {
-            write!(text, ", row {place}:").expect("a string takes all");
-            for word in row {
-                write!(text, " {word}").expect("a string takes all");
-            }
+            write!(text, ", row {place}:{}", spaced(row)).expect("a string takes all");
         }
         if text.is_empty() {
             text += ", table stays";
         }
+        if self.shows_figures {
+            text += ", figures";
+            text += &spaced(&self.figures);
+        }
         text + "\n"
     }
+}
+
+/// Each word behind a space.
+fn spaced(words: &[u64]) -> String {
+    words.iter().map(|word| format!(" {word}")).collect()
 }
 
 fn said(answer: Answer) -> String {

@@ -19,8 +19,8 @@ use crate::node::{finding, framed_request, request, result, sending, Answer};
 use crate::number::{digit_count, is_number};
 use crate::packing::{pack, unpack};
 use crate::rows::{
-    Record, ADDRESSEE, FAILURE, HOLDER, LAST_PHASE, MAX_RECORDS, MAX_SUBSCRIBERS, NUMBER, PHASE,
-    SUPERVISOR,
+    figures_of, recount, Record, ADDRESSEE, FAILURE, FIGURES, HOLDER, LAST_PHASE, MAX_RECORDS,
+    MAX_SUBSCRIBERS, NUMBER, PHASE, SUPERVISOR,
 };
 use crate::string::{read_request, write_request, Additional, Fields, Operation};
 use crate::text::Text;
@@ -167,11 +167,38 @@ impl ListDamage {
     ];
 }
 
+/// The ways in which figures can differ from a recount.
+#[derive(Clone, Copy, Debug, PartialEq, Eq)]
+pub enum FiguresDamage {
+    /// One of them is one more or one less.
+    ByOne,
+    /// One of them differs in a high bit alone.
+    ByHighBit,
+    /// Two of them are exchanged.
+    Exchanged,
+    /// The last is missing, there is a fourth, or there are none.
+    Two,
+    Four,
+    None,
+}
+
+impl FiguresDamage {
+    pub const ALL: [Self; 6] = [
+        Self::ByOne,
+        Self::ByHighBit,
+        Self::Exchanged,
+        Self::Two,
+        Self::Four,
+        Self::None,
+    ];
+}
+
 /// A call and all the memory that it is lent.
 #[derive(Clone, Debug, PartialEq, Eq)]
 pub enum Call {
     Request {
         table: Vec<u64>,
+        figures: Vec<u64>,
         list: Vec<u64>,
         reply: Vec<u8>,
         requester: u64,
@@ -180,6 +207,7 @@ pub enum Call {
     },
     Sending {
         table: Vec<u64>,
+        figures: Vec<u64>,
         buffer: Vec<u8>,
         number: u64,
         delay: u32,
@@ -187,6 +215,7 @@ pub enum Call {
     },
     Result {
         table: Vec<u64>,
+        figures: Vec<u64>,
         number: u64,
         kind: u32,
         now: u32,
@@ -195,6 +224,9 @@ pub enum Call {
         table: Vec<u64>,
         delay: u32,
         now: u32,
+    },
+    Recount {
+        table: Vec<u64>,
     },
     Pack {
         chars: Vec<u8>,
@@ -216,6 +248,7 @@ pub enum Call {
     },
     FramedRequest {
         table: Vec<u64>,
+        figures: Vec<u64>,
         list: Vec<u64>,
         frame: Vec<u8>,
         requester: u64,
@@ -240,6 +273,8 @@ pub enum Call {
 pub enum Reply {
     /// Of a request, framed or not, a sending, result or finding.
     Answer(Answer),
+    /// Of a recount.
+    Figures(Option<[u64; FIGURES]>),
     /// Of the packer, the unpacker, or the writer of a request or a Register.
     Count(Result<usize, u8>),
     /// Of the request reader.
@@ -257,26 +292,32 @@ impl Call {
         match self {
             Self::Request {
                 table,
+                figures,
                 list,
                 reply,
                 requester,
                 scheme,
                 string,
-            } => Reply::Answer(request(table, list, reply, *requester, *scheme, string)),
+            } => Reply::Answer(request(
+                table, figures, list, reply, *requester, *scheme, string,
+            )),
             Self::Sending {
                 table,
+                figures,
                 buffer,
                 number,
                 delay,
                 now,
-            } => Reply::Answer(sending(table, buffer, *number, *delay, *now)),
+            } => Reply::Answer(sending(table, figures, buffer, *number, *delay, *now)),
             Self::Result {
                 table,
+                figures,
                 number,
                 kind,
                 now,
-            } => Reply::Answer(result(table, *number, *kind, *now)),
+            } => Reply::Answer(result(table, figures, *number, *kind, *now)),
             Self::Finding { table, delay, now } => Reply::Answer(finding(table, *delay, *now)),
+            Self::Recount { table } => Reply::Figures(recount(table)),
             Self::Pack { chars, out } => Reply::Count(pack(chars, out)),
             Self::Unpack { octets, out } => Reply::Count(unpack(octets, out)),
             Self::WriteRequest { fields, out } => Reply::Count(write_request(fields, out)),
@@ -284,11 +325,14 @@ impl Call {
             Self::IsNumber { word } => Reply::IsNumber(is_number(*word)),
             Self::FramedRequest {
                 table,
+                figures,
                 list,
                 frame,
                 requester,
                 message,
-            } => Reply::Answer(framed_request(table, list, frame, *requester, message)),
+            } => Reply::Answer(framed_request(
+                table, figures, list, frame, *requester, message,
+            )),
             Self::WriteRegister {
                 transaction,
                 invoke,
@@ -587,6 +631,27 @@ impl Generator {
         }
     }
 
+    /// Makes figures, three words, others.
+    pub fn damage_figures(&mut self, figures: &mut Vec<u64>, damage: FiguresDamage) {
+        let place = self.random.index(FIGURES);
+        let word = &mut figures[place];
+        match damage {
+            FiguresDamage::ByOne => *word = word.wrapping_add(self.random.pick(&[1, u64::MAX])),
+            FiguresDamage::ByHighBit => *word ^= self.random.pick(&[1 << 16, 1 << 32, 1 << 63]),
+            FiguresDamage::Exchanged => {
+                let other = (place + 1 + self.random.index(FIGURES - 1)) % FIGURES;
+                // Equal ones cannot be exchanged.
+                if figures[place] == figures[other] {
+                    figures[place] += 1;
+                }
+                figures.swap(place, other);
+            }
+            FiguresDamage::Two => drop(figures.pop()),
+            FiguresDamage::Four => figures.push(self.random.pick(&[0, 1])),
+            FiguresDamage::None => figures.clear(),
+        }
+    }
+
     fn malformed_or_nobody(&mut self) -> u64 {
         if self.random.once_in(3) {
             0
@@ -677,6 +742,18 @@ impl Generator {
             let damage = self.random.pick(&TableDamage::ALL);
             self.damage_table(table, damage);
         }
+    }
+
+    /// The figures of a table, also of one that is unsound; others once in
+    /// `times`.
+    fn figures(&mut self, table: &[u64], times: u64) -> Vec<u64> {
+        let (records, _) = table.as_chunks();
+        let mut figures = figures_of(records).to_vec();
+        if self.random.once_in(times) {
+            let damage = self.random.pick(&FiguresDamage::ALL);
+            self.damage_figures(&mut figures, damage);
+        }
+        figures
     }
 
     /// One of a table's records, if it has any.
@@ -945,7 +1022,7 @@ fn crew_numbers(fields: &Fields<Vec<u8>>) -> Vec<u64> {
 impl Generator {
     /// Any call.
     pub fn call(&mut self) -> Call {
-        match self.random.below(28) {
+        match self.random.below(29) {
             0..=8 => self.request(),
             9..=11 => self.sending(),
             12 | 13 => self.result(),
@@ -958,7 +1035,8 @@ impl Generator {
             20..=24 => self.framed(),
             25 => self.writing_register(),
             26 => self.reading_register(),
-            _ => self.reading_release(),
+            27 => self.reading_release(),
+            _ => self.recount(),
         }
     }
 
@@ -983,6 +1061,7 @@ impl Generator {
             self.damage_list(&mut list, damage);
         }
         Call::Request {
+            figures: self.figures(&table, 16),
             table,
             list,
             reply: self.buffer_around(80),
@@ -1107,6 +1186,7 @@ impl Generator {
         let (table, record, number) = self.table_and_number();
         let delay = self.delay();
         Call::Sending {
+            figures: self.figures(&table, 12),
             table,
             buffer: self.buffer_around(80),
             number,
@@ -1123,6 +1203,7 @@ impl Generator {
             _ => self.random.below(8) as u32,
         };
         Call::Result {
+            figures: self.figures(&table, 12),
             table,
             number,
             kind,
@@ -1138,6 +1219,11 @@ impl Generator {
             delay,
             now: self.now(record, delay),
         }
+    }
+
+    pub fn recount(&mut self) -> Call {
+        let (table, _, _) = self.table_and_number();
+        Call::Recount { table }
     }
 
     pub fn packing(&mut self) -> Call {
@@ -1413,7 +1499,8 @@ impl Generator {
         self.put_line(input, result.into_bytes(), 48);
         let finding = format!("finding {delay} {}", now.wrapping_add(delay));
         self.put_line(input, finding.into_bytes(), 48);
-        3
+        self.put_line(input, b"recount".to_vec(), 48);
+        4
     }
 
     /// A request of a number or a crew, on a table and a list of rows that are
@@ -1430,6 +1517,9 @@ impl Generator {
         ] {
             self.put_line(input, line.into_bytes(), 64);
         }
+        // Every row is free, so the figures are those of no rows.
+        let figures = self.figures(&[], 16);
+        self.put_figures(input, &[], &figures);
         let number = 100_000 + self.random.below(records + 1);
         let fields = match self.random.below(2) {
             0 => self.crew_fields(number),
@@ -1465,6 +1555,7 @@ impl Generator {
         let line = match call {
             Call::Request {
                 table,
+                figures,
                 list,
                 reply,
                 requester,
@@ -1472,32 +1563,41 @@ impl Generator {
                 string,
             } => {
                 self.put_words(input, "table", &table);
+                self.put_figures(input, &table, &figures);
                 self.put_words(input, "list", &list);
                 return self.put_request(input, &reply, requester, scheme, &string);
             }
             Call::Sending {
                 table,
+                figures,
                 buffer,
                 number,
                 delay,
                 now,
             } => {
                 self.put_words(input, "table", &table);
+                self.put_figures(input, &table, &figures);
                 self.put_buffer(input, &buffer);
                 format!("sending {number} {delay} {now}").into_bytes()
             }
             Call::Result {
                 table,
+                figures,
                 number,
                 kind,
                 now,
             } => {
                 self.put_words(input, "table", &table);
+                self.put_figures(input, &table, &figures);
                 format!("result {number} {kind} {now}").into_bytes()
             }
             Call::Finding { table, delay, now } => {
                 self.put_words(input, "table", &table);
                 format!("finding {delay} {now}").into_bytes()
+            }
+            Call::Recount { table } => {
+                self.put_words(input, "table", &table);
+                b"recount".to_vec()
             }
             Call::Pack { chars, out } => {
                 self.put_buffer(input, &out);
@@ -1515,12 +1615,14 @@ impl Generator {
             Call::IsNumber { word } => format!("number {word}").into_bytes(),
             Call::FramedRequest {
                 table,
+                figures,
                 list,
                 frame,
                 requester,
                 message,
             } => {
                 self.put_words(input, "table", &table);
+                self.put_figures(input, &table, &figures);
                 self.put_words(input, "list", &list);
                 self.put_buffer(input, &frame);
                 let words = format!("framed {requester}");
@@ -1564,6 +1666,22 @@ impl Generator {
             let line = format!("{name}+{words}");
             self.put_line(input, line.into_bytes(), 512);
         }
+    }
+
+    /// Appends the line that sets these figures, where they are not those that
+    /// the table has got, and now and then else.
+    fn put_figures(&mut self, input: &mut Vec<u8>, table: &[u64], figures: &[u64]) {
+        if *figures == recount(table).unwrap_or_default() && !self.random.once_in(4) {
+            return;
+        }
+        let mut words = figures.to_vec();
+        if self.random.once_in(32) {
+            // Up to one more than a line may have.
+            words.resize(self.random.index(10), 0);
+        }
+        let words: String = words.iter().map(|word| format!(" {word}")).collect();
+        let line = format!("figures{words}");
+        self.put_line(input, line.into_bytes(), 64);
     }
 
     /// Appends the line that sets a buffer of this length.
@@ -1634,7 +1752,7 @@ mod tests {
     }
 
     #[test]
-    fn tables_and_lists_have_their_sizes_and_are_sound_until_damaged() {
+    fn tables_figures_and_lists_are_right_until_damaged() {
         let mut generator = Generator::new(4);
         for rows in (0..40).chain([1000, 1024]) {
             let list = generator.list(4 * rows);
@@ -1648,6 +1766,14 @@ mod tests {
                     let mut table = table.clone();
                     generator.damage_table(&mut table, damage);
                     assert!(!table_is_sound(&table), "{damage:?} {table:?}");
+                }
+            }
+            let figures = recount(&table).unwrap();
+            for damage in FiguresDamage::ALL {
+                for _ in 0..10 {
+                    let mut others = figures.to_vec();
+                    generator.damage_figures(&mut others, damage);
+                    assert_ne!(figures[..], others, "{damage:?}");
                 }
             }
             for damage in ListDamage::ALL {

@@ -7,7 +7,8 @@
 //! Every call works on lent slices and allocates nothing; only [`run`], the
 //! program of document 01, and the generator of test inputs allocate.
 //! Numbers are taken and given in stored form throughout: the digits with a 1
-//! put in front, read as a decimal.
+//! put in front, read as a decimal. A caller lends the figures of the table
+//! beside it, by [`recount`] at first.
 
 #![forbid(unsafe_code)]
 
@@ -30,5 +31,5 @@ pub use node::{finding, framed_request, request, result, sending, Answer};
 pub use number::{is_number, number_from_digits};
 pub use packing::{pack, unpack};
 pub use program::{run, INPUT_LIMIT};
-pub use rows::{list_is_sound, table_is_sound};
+pub use rows::{list_is_sound, recount, table_is_sound};
 pub use string::{read_request, write_request, Additional, Fields, Operation};

@@ -1,11 +1,12 @@
 //! The calls on a lent table: requests and the three calls for notices.
 
 use crate::crew::{crew_codes, member, Code, Steps, LEAD};
-use crate::frame::{read_register, write_release, Invoked, Released, FRAME_ROOM, SCHEME};
+use crate::frame::{read_register, write_release, Invoked, Message, Released, FRAME_ROOM, SCHEME};
 use crate::number::is_number;
 use crate::rows::{
-    find_flags, find_record, list_is_sound, sound_records, sound_records_mut, Record, ADDRESSEE,
-    FAILURE, HAS_FOLLOW_ME, HOLDER, IS_SUPERVISOR, LAST_PHASE, NUMBER, PHASE, SUPERVISOR,
+    figures_of, find_flags, find_record, list_is_sound, sound_records, sound_records_mut, Record,
+    ADDRESSEE, FAILURE, HAS_FOLLOW_ME, HOLDER, IS_SUPERVISOR, LAST_PHASE, NUMBER, PHASE,
+    SUPERVISOR,
 };
 use crate::string::{read_fields, Fields, Operation, MAX_CHARACTERS};
 use crate::text::Text;
@@ -54,9 +55,28 @@ pub enum Answer {
     NoneDue,
 }
 
+/// Carries out a call on the records of a table that is sound and has these
+/// figures, and recounts them afterwards.
+fn counted(
+    table: &mut [u64],
+    figures: &mut [u64],
+    call: impl FnOnce(&mut [Record]) -> Answer,
+) -> Answer {
+    let Some(records) = sound_records_mut(table) else {
+        return Answer::Refusal(2);
+    };
+    if *figures != figures_of(records) {
+        return Answer::Refusal(10);
+    }
+    let answer = call(records);
+    figures.copy_from_slice(&figures_of(records));
+    answer
+}
+
 /// Carries out a request.
 pub fn request(
     table: &mut [u64],
+    figures: &mut [u64],
     list: &[u64],
     reply: &mut [u8],
     requester: u64,
@@ -69,16 +89,16 @@ pub fn request(
     if !list_is_sound(list) {
         return Answer::Refusal(8);
     }
-    let Some(records) = sound_records_mut(table) else {
-        return Answer::Refusal(2);
-    };
-    behind_refusals(records, list, reply, requester, scheme, string)
+    counted(table, figures, |records| {
+        behind_refusals(records, list, reply, requester, scheme, string)
+    })
 }
 
 /// Carries out a request that a Register holds, and answers it by a Release
 /// Complete: an outcome's `octets` are those of the frame.
 pub fn framed_request(
     table: &mut [u64],
+    figures: &mut [u64],
     list: &[u64],
     frame: &mut [u8],
     requester: u64,
@@ -94,9 +114,20 @@ pub fn framed_request(
     if !list_is_sound(list) {
         return Answer::Refusal(8);
     }
-    let Some(records) = sound_records_mut(table) else {
-        return Answer::Refusal(2);
-    };
+    counted(table, figures, |records| {
+        answered(records, list, frame, requester, message, register)
+    })
+}
+
+/// A framed request behind the refusals.
+fn answered(
+    records: &mut [Record],
+    list: &[u64],
+    frame: &mut [u8],
+    requester: u64,
+    message: &[u8],
+    register: Message<Invoked>,
+) -> Answer {
     let mut release = |content| write_release(register.first, register.invoke, content, frame);
     let (scheme, string) = match register.content {
         Invoked::Request { scheme, string } => (scheme, string.of(message)),
@@ -270,13 +301,24 @@ fn force(record: &mut Record, supervisor: u64, msisdn: u64) -> u8 {
 }
 
 /// Sends the notice of `number`, if it is due.
-pub fn sending(table: &mut [u64], buffer: &mut [u8], number: u64, delay: u32, now: u32) -> Answer {
+pub fn sending(
+    table: &mut [u64],
+    figures: &mut [u64],
+    buffer: &mut [u8],
+    number: u64,
+    delay: u32,
+    now: u32,
+) -> Answer {
     if buffer.len() < ROOM {
         return Answer::Refusal(1);
     }
-    let Some(records) = sound_records_mut(table) else {
-        return Answer::Refusal(2);
-    };
+    counted(table, figures, |records| {
+        send(records, buffer, number, delay, now)
+    })
+}
+
+/// A sending on sound records.
+fn send(records: &mut [Record], buffer: &mut [u8], number: u64, delay: u32, now: u32) -> Answer {
     // A sound table holds no malformed number, so that one is not found.
     let Some(record) = find_record(records, number) else {
         return Answer::Refusal(7);
@@ -307,10 +349,14 @@ pub fn sending(table: &mut [u64], buffer: &mut [u8], number: u64, delay: u32, no
 
 /// Takes in the result of a sending: kind 0 is delivered, 1 to 4 are errors
 /// that end the notice, 5 is any other error.
-pub fn result(table: &mut [u64], number: u64, kind: u32, now: u32) -> Answer {
-    let Some(records) = sound_records_mut(table) else {
-        return Answer::Refusal(2);
-    };
+pub fn result(table: &mut [u64], figures: &mut [u64], number: u64, kind: u32, now: u32) -> Answer {
+    counted(table, figures, |records| {
+        take_result(records, number, kind, now)
+    })
+}
+
+/// A result on sound records.
+fn take_result(records: &mut [Record], number: u64, kind: u32, now: u32) -> Answer {
     let Some(record) = find_record(records, number) else {
         return Answer::Refusal(7);
     };

@@ -3,7 +3,7 @@
 use crate::node::{request, result, sending, Answer};
 use crate::number::number_from_digits;
 use crate::packing::{pack, packed_length, unpack};
-use crate::rows::{MAX_RECORDS, MAX_SUBSCRIBERS};
+use crate::rows::{FIGURES, MAX_RECORDS, MAX_SUBSCRIBERS};
 use crate::text::Text;
 
 /// The octets of input that are read.
@@ -35,6 +35,8 @@ pub fn run(input: &[u8]) -> Vec<u8> {
 #[derive(Default)]
 struct Program {
     table: Vec<u64>,
+    /// Its figures. A number is added free and without a notice.
+    figures: [u64; FIGURES],
     list: Vec<u64>,
     /// Whether an `R`, `T` or `D` was answered, which ends the filling.
     started: bool,
@@ -81,6 +83,7 @@ impl Program {
         let answer = match pack(string, &mut octets) {
             Ok(_) => request(
                 &mut self.table,
+                &mut self.figures,
                 &self.list,
                 &mut reply,
                 requester,
@@ -98,7 +101,8 @@ impl Program {
         let (now, number) = (value(now)?, named(number)?);
         self.started = true;
         let mut buffer = [0; ROOM];
-        let answer = sending(&mut self.table, &mut buffer, number, 0, now);
+        let (table, figures) = (&mut self.table, &mut self.figures);
+        let answer = sending(table, figures, &mut buffer, number, 0, now);
         self.print(b"T", answer, &buffer);
         Some(())
     }
@@ -108,7 +112,7 @@ impl Program {
         let (number, kind) = split_field(rest)?;
         let (now, number, kind) = (value(now)?, named(number)?, value(kind)?);
         self.started = true;
-        let answer = result(&mut self.table, number, kind, now);
+        let answer = result(&mut self.table, &mut self.figures, number, kind, now);
         self.print(b"D", answer, &[]);
         Some(())
     }

@@ -24,6 +24,9 @@ pub(crate) const IS_SUPERVISOR: u64 = 2;
 /// A notice's sendings: one, and five repeats.
 const MAX_SENDINGS: usize = 6;
 
+/// The figures beside a table: numbers held, notices waiting, notices in flight.
+pub(crate) const FIGURES: usize = 3;
+
 /// The phase after the last sending.
 pub(crate) const LAST_PHASE: u64 = 2 * MAX_SENDINGS as u64;
 
@@ -69,6 +72,28 @@ fn record_is_sound(&[_, holder, phase, addressee, supervisor, failure]: &Record)
         && is_number(addressee)
         && is_number(supervisor)
         && addressee != supervisor
+}
+
+/// The figures of `table`, if it is sound.
+pub fn recount(table: &[u64]) -> Option<[u64; FIGURES]> {
+    sound_records(table).map(figures_of)
+}
+
+/// The figures of sound records. A notice waits in an odd phase and is in flight
+/// in an even one above 0.
+pub(crate) fn figures_of(records: &[Record]) -> [u64; FIGURES] {
+    let (mut held, mut waiting, mut in_flight) = (0, 0, 0);
+    for record in records {
+        if record[HOLDER] != 0 {
+            held += 1;
+        }
+        match record[PHASE] {
+            0 => {}
+            phase if phase % 2 == 1 => waiting += 1,
+            _ => in_flight += 1,
+        }
+    }
+    [held, waiting, in_flight]
 }
 
 /// Whether `list` is sound: whole rows, not too many, strictly ascending,
@@ -204,6 +229,36 @@ mod tests {
         let rows: Vec<Record> = (F..F + 1025).map(plain).collect();
         assert!(table_is_sound(rows[..1024].as_flattened()));
         assert!(!table_is_sound(rows.as_flattened()));
+    }
+
+    #[test]
+    fn figures() {
+        assert_eq!(recount(&[]), Some([0, 0, 0]));
+        assert_eq!(recount(&[F, 0, 0, 0, 0, 0]), Some([0, 0, 0]));
+        assert_eq!(recount(&[F, A, 0, 0, 0, 0]), Some([1, 0, 0]));
+        for phase in 1..=12 {
+            let notice = if phase % 2 == 1 { [1, 0] } else { [0, 1] };
+            for (holder, held) in [(0, 0), (A, 1), (B, 1)] {
+                let figures = recount(&[F, holder, phase, A, B, 0]);
+                assert_eq!(figures, Some([held, notice[0], notice[1]]));
+            }
+        }
+        // One of each phase, every third number held.
+        let record = |phase: u64| {
+            let holder = [A, 0, 0][phase as usize % 3];
+            match phase {
+                0 => [F, holder, 0, 0, 0, 0],
+                _ => [F + phase, holder, phase, A, B, 0],
+            }
+        };
+        let mut records: Vec<Record> = (0..=12).map(record).collect();
+        assert_eq!(recount(records.as_flattened()), Some([5, 6, 6]));
+        records[12][PHASE] = 13;
+        assert_eq!(recount(records.as_flattened()), None);
+        assert_eq!(recount(&[F]), None);
+        let rows: Vec<Record> = (F..F + 1025).map(|n| [n, A, 2, A, B, 0]).collect();
+        assert_eq!(recount(rows[1..].as_flattened()), Some([1024, 0, 1024]));
+        assert_eq!(recount(rows.as_flattened()), None);
     }
 
     #[test]

@@ -4,7 +4,7 @@
 mod common;
 
 use common::*;
-use oracle::{finding, request, result, sending, Answer};
+use oracle::{finding, Answer};
 
 /// A table that is unsound: a holder that is no number.
 const UNSOUND: [u64; 6] = [F, 7, 0, 0, 0, 0];

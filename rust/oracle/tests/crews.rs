@@ -3,7 +3,7 @@
 mod common;
 
 use common::*;
-use oracle::{request, Answer};
+use oracle::Answer;
 
 /// The other numbers of F's crew.
 const F2: u64 = F + 1;

@@ -3,7 +3,7 @@
 mod common;
 
 use common::*;
-use oracle::{read_request, result, sending, unpack, Answer};
+use oracle::{read_request, unpack, Answer};
 
 #[test]
 fn p1_to_p4_packing() {

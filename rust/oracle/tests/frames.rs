@@ -5,8 +5,8 @@ mod common;
 
 use common::*;
 use oracle::{
-    framed_request, read_register, read_release, request, write_register, Answer, Fields, Invoked,
-    Message, Operation, Place, Released,
+    read_register, read_release, write_register, Answer, Fields, Invoked, Message, Operation,
+    Place, Released,
 };
 
 /// A registers F: transaction 0, invoke number 1. The string has 18 octets, the

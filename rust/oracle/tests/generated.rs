@@ -8,8 +8,8 @@ use std::collections::BTreeMap;
 use common::{register, release};
 use oracle::generate::{changed_frames, Call, Generator, Reply};
 use oracle::{
-    crew_codes, is_number, read_register, read_release, read_request, request, run, run_calls,
-    table_is_sound, unpack, write_request, Answer, Fields, Invoked, Message, Released,
+    crew_codes, is_number, read_register, read_release, read_request, recount, request, run,
+    run_calls, table_is_sound, unpack, write_request, Answer, Fields, Invoked, Message, Released,
 };
 
 const CALLS: usize = 200_000;
@@ -63,6 +63,8 @@ fn label(before: &Call, after: &Call, reply: &Reply) -> String {
             Answer::Found(_) => "finding: found".into(),
             other => format!("finding: {other:?}"),
         },
+        (Call::Recount { .. }, Reply::Figures(Some(_))) => "recount: figures".into(),
+        (Call::Recount { .. }, Reply::Figures(None)) => "recount: Refusal(2)".into(),
         (Call::Pack { .. }, Reply::Count(Ok(_))) => "pack: count".into(),
         (Call::Pack { .. }, Reply::Count(Err(number))) => format!("pack: refusal {number}"),
         (Call::Unpack { octets, .. }, Reply::Count(Ok(count))) => {
@@ -117,10 +119,11 @@ fn label(before: &Call, after: &Call, reply: &Reply) -> String {
 }
 
 /// What each call must come to at least a hundred times.
-const REACHED: [&str; 111] = [
+const REACHED: [&str; 117] = [
     "request: Refusal(1)",
     "request: Refusal(8)",
     "request: Refusal(2)",
+    "request: Refusal(10)",
     "request: error 35, requester",
     "request: error 35, no octets",
     "request: Error(71)",
@@ -162,6 +165,7 @@ const REACHED: [&str; 111] = [
     "request: 68, forced",
     "sending: Refusal(1)",
     "sending: Refusal(2)",
+    "sending: Refusal(10)",
     "sending: Refusal(7)",
     "sending: Refusal(7), unknown",
     "sending: Refusal(6)",
@@ -169,6 +173,7 @@ const REACHED: [&str; 111] = [
     "sending: Refusal(5)",
     "sending: sent",
     "result: Refusal(2)",
+    "result: Refusal(10)",
     "result: Refusal(7)",
     "result: Refusal(7), unknown",
     "result: Refusal(3)",
@@ -181,6 +186,8 @@ const REACHED: [&str; 111] = [
     "finding: Refusal(6)",
     "finding: found",
     "finding: NoneDue",
+    "recount: figures",
+    "recount: Refusal(2)",
     "pack: count",
     "pack: refusal 1",
     "pack: refusal 9",
@@ -198,6 +205,7 @@ const REACHED: [&str; 111] = [
     "framed: Refusal(11)",
     "framed: Refusal(8)",
     "framed: Refusal(2)",
+    "framed: Refusal(10)",
     "framed: reject 1",
     "framed: reject 2",
     "framed: error 35",
@@ -241,6 +249,7 @@ fn calls_reach_every_answer() {
         let reply = after.run();
         *counts.entry(label(&before, &after, &reply)).or_insert(0) += 1;
         check(&before, &after, &reply);
+        check_figures(&before, &after, &reply);
         for (_, outcome) in steps(&before, &after, &reply) {
             let label = format!("step of a crew: {outcome:02}");
             *counts.entry(label).or_insert(0) += 1;
@@ -272,18 +281,22 @@ fn calls_reach_every_answer() {
 
 /// The codes of a request that is answered 11 or 12, each with the outcome of
 /// its single request. Checks that the single requests, one after the other,
-/// leave the same table, and that the reply says what they came to.
+/// leave the same table and figures, and that the reply says what they came to.
 fn steps(before: &Call, after: &Call, answer: &Reply) -> Vec<(String, u8)> {
     let (
         Call::Request {
             table,
+            figures,
             list,
             requester,
             string,
             ..
         },
         Call::Request {
-            table: new, reply, ..
+            table: new,
+            figures: new_figures,
+            reply,
+            ..
         },
         Reply::Answer(Answer::Outcome {
             number: outcome @ (11 | 12),
@@ -295,7 +308,7 @@ fn steps(before: &Call, after: &Call, answer: &Reply) -> Vec<(String, u8)> {
         return Vec::new();
     };
     let fields = read_request(string).unwrap();
-    let mut table = table.clone();
+    let (mut table, mut figures) = (table.clone(), figures.clone());
     let codes = crew_codes(fields.additional.as_ref()).unwrap();
     let steps: Vec<(String, u8)> = std::iter::once(b"01")
         .chain(codes)
@@ -311,14 +324,15 @@ fn steps(before: &Call, after: &Call, answer: &Reply) -> Vec<(String, u8)> {
             };
             let mut string = [0; 160];
             let count = write_request(&single, &mut string).unwrap();
-            let string = &string[..count];
-            match request(&mut table, list, &mut [0; 80], *requester, 0x0F, string) {
+            let (string, reply) = (&string[..count], &mut [0; 80]);
+            let (table, figures) = (&mut table, &mut figures);
+            match request(table, figures, list, reply, *requester, 0x0F, string) {
                 Answer::Outcome { number, .. } => (code, number),
                 other => panic!("{other:?}"),
             }
         })
         .collect();
-    assert_eq!(table, *new);
+    assert_eq!((&table, &figures), (new, new_figures));
     let mut text = [0; 100];
     let length = unpack(&reply[..*octets], &mut text).unwrap();
     assert_eq!(text[..length], *crew_reply(*outcome, &steps).as_bytes());
@@ -483,6 +497,37 @@ fn check(before: &Call, after: &Call, reply: &Reply) {
     }
 }
 
+/// The table of a call, and the figures that it is lent beside it.
+fn counted(call: &Call) -> Option<(&[u64], &[u64])> {
+    match call {
+        Call::Request { table, figures, .. }
+        | Call::FramedRequest { table, figures, .. }
+        | Call::Sending { table, figures, .. }
+        | Call::Result { table, figures, .. } => Some((table, figures)),
+        _ => None,
+    }
+}
+
+/// Refused 2 is an unsound table, 10 a sound one with other figures than its
+/// own; a call that gets past both keeps the figures those of the table.
+fn check_figures(before: &Call, after: &Call, reply: &Reply) {
+    let (Some((old, old_figures)), Some((new, figures)), Reply::Answer(answer)) =
+        (counted(before), counted(after), reply)
+    else {
+        return;
+    };
+    let is_right = recount(old).map(|counts| counts == old_figures);
+    match answer {
+        Answer::Refusal(1 | 11 | 8) => {}
+        Answer::Refusal(2) => assert_eq!(is_right, None),
+        Answer::Refusal(10) => assert_eq!(is_right, Some(false)),
+        _ => {
+            assert_eq!(is_right, Some(true));
+            assert_eq!(recount(new).unwrap(), figures);
+        }
+    }
+}
+
 /// A message that reads is the one frame of what it reads as.
 fn check_register(read: &Message<Invoked>, message: &[u8]) {
     if let Invoked::Request { scheme, string } = read.content {
@@ -497,6 +542,7 @@ fn check_framed(before: &Call, after: &Call, answer: &Answer) {
     let (
         Call::FramedRequest {
             table,
+            figures,
             list,
             frame: old,
             requester,
@@ -504,6 +550,7 @@ fn check_framed(before: &Call, after: &Call, answer: &Answer) {
         },
         Call::FramedRequest {
             table: new_table,
+            figures: new_figures,
             frame: new,
             ..
         },
@@ -518,17 +565,19 @@ fn check_framed(before: &Call, after: &Call, answer: &Answer) {
         return assert_eq!(before, after);
     };
     let read = read_register(message).unwrap();
-    let (mut table, mut reply) = (table.clone(), [0; 80]);
+    let (mut table, mut figures) = (table.clone(), figures.clone());
+    let mut reply = [0; 80];
     let bare = match read.content {
         Invoked::Problem(_) => None,
         Invoked::Request { scheme, string } => {
-            let string = string.of(message);
+            let (string, reply) = (string.of(message), &mut reply);
+            let (table, figures) = (&mut table, &mut figures);
             Some(request(
-                &mut table, list, &mut reply, *requester, scheme, string,
+                table, figures, list, reply, *requester, scheme, string,
             ))
         }
     };
-    assert_eq!(table, *new_table);
+    assert_eq!((&table, &figures), (new_table, new_figures));
     let content = expected(read.content, bare, answer, &reply);
     let whole = release(read.first ^ 0x80, read.invoke, content);
     assert_eq!(new[..*octets], whole);

@@ -11,6 +11,9 @@ Inv-loop input table₀ list₀ state₀ start₀ table list state start = (leng
 abbrev μ-loop : tie.MeasureT-loop
 μ-loop input table₀ list₀ state₀ start₀ table list state start = length input - start
 
+first-state-requires : tie.Need-first-state-requires Inv-loop μ-loop
+first-state-requires c κs = search needs
+
 loop-holds : tie.Need-loop-holds Inv-loop μ-loop
 loop-holds c = search needs
 
@@ -53,6 +56,7 @@ run-spec =
     (tie.spec
     Inv-loop
     μ-loop
+    first-state-requires
     loop-holds
     find-requires
     sub-do-line

@@ -16,8 +16,8 @@ slice-aggregate-put-answer c = search needs
 
 put-answer-requires : tie.Need-put-answer-requires
 put-answer-requires c κs =
-    let a = c .before .before .before .before .before in
-    let s = a .before .before .before .before .before .before .before in
+    let a = c .before .before .before .before .before .before .before in
+    let s = a .before .before .before .before .before .before .before .before .before in
     (reply-fits _ _ _ (s .args .requester) _ _ _ _ _ (a .ask-string .ensures) (omega arith), s .pre .2)
 
 same-length : tie.Need-same-length
@@ -26,10 +26,13 @@ same-length c = search needs
 same-length-2 : tie.Need-same-length-2
 same-length-2 c = search needs
 
+same-length-3 : tie.Need-same-length-3
+same-length-3 c = search needs
+
 returns : tie.Need-returns
 returns c =
     let p = c .before .before in
-    let a = p .before .before .before .before .before .before in
+    let a = p .before .before .before .before .before .before .before .before in
     answered-inside _ _ _ _ _ _ _ _ _ (a .ask-string .ensures) (p .put-answer .ensures)
 
 pub ask-inside-spec : {M : Type 1} → statement M
@@ -42,4 +45,5 @@ ask-inside-spec =
     put-answer-requires
     same-length
     same-length-2
+    same-length-3
     returns)

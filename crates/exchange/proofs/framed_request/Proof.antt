@@ -12,17 +12,19 @@ use Rattle.numbers.specs.declared.Msisdn.{Msisdn}
 use Rattle.frames.specs.declared.Body.{Body}
 use Rattle.frames.specs.Messages.{frameRoom, version, Register, registerOf}
 use Rattle.frames.specs.Read.{toldBody}
-use Rattle.tables.specs.Tables.{tableSound, listSound}
+use Rattle.tables.specs.Tables.{listSound}
+use Rattle.states.specs.States.{State, beside, stateSound}
+use Rattle.states.proofs.States.{state-passes}
 use Rattle.rules.specs.Crews.{requesting}
 use Rattle.rules.specs.Frames.{inFrame, ownReply}
 use Rattle.frames.proofs.Inside.{version-within, count-within}
-use Rattle.exchange.proofs.Framed.{not-numbered, was-numbered, string-place, refused-1, refused-11, refused-8, refused-2, rejected, asked}
+use Rattle.exchange.proofs.Framed.{not-numbered, was-numbered, string-place, refused-1, refused-11, refused-8, refused-state, rejected, asked}
 use Rattle.exchange.proofs.framed_request.Statement.{statement}
 use Rattle.exchange.proofs.framed_request.Tie as tie
 
 -- what was lent
-abbrev T : tie.Start → List ℕ
-T s = now (s .args .table)
+abbrev T : tie.Start → State
+T s = beside (now (s .args .table)) (now (s .args .figures))
 
 abbrev L : tie.Start → List ℕ
 L s = now (s .args .list)
@@ -37,7 +39,7 @@ abbrev M : tie.Start → List ℕ
 M s = now (s .args .message)
 
 abbrev from1 : tie.Else1 → tie.Start
-from1 c = c .before .before .before .before .before
+from1 c = c .before .before .before .before .before .before
 
 room : (c : tie.Else1) → frameRoom ≤ length (F (from1 c))
 room c = c .if1 .left
@@ -64,16 +66,16 @@ abbrev up2 : tie.Else2 → tie.After-known-told
 up2 c = c .before .before
 
 abbrev up3 : tie.Else3 → tie.Else2
-up3 c = c .before .before .before
+up3 c = c .before .before .before .before
 
 soundList : (c : tie.Else2) → listSound (L (asker (up2 c))) ≡ true
 soundList c = sym (c .before .list-sound .ensures) ∙ not-false _ (c .if2 .left)
 
-soundTable : (c : tie.Else3) → tableSound (T (asker (up2 (up3 c)))) ≡ true
-soundTable c = sym (c .before .table-sound .ensures) ∙ not-false _ (c .if3 .left)
+soundState : (c : tie.Else3) → stateSound (T (asker (up2 (up3 c)))) ≡ true
+soundState c = state-passes _ _ (c .before .refusal .ensures) (c .if3 .left)
 
 returns : tie.Need-returns
-returns c = let s = c .before .before .before .before .before in refused-1 (T s) (L s) (F s) (Q s) (M s) (c .if1 .taken)
+returns c = let s = c .before .before .before .before .before .before in refused-1 (T s) (L s) (F s) (Q s) (M s) (c .if1 .taken)
 
 read-register-requires : tie.Need-read-register-requires
 read-register-requires c κs = search needs
@@ -99,18 +101,21 @@ returns-3 c =
     let s = asker k in
     refused-8 (T s) (L s) (F s) (Q s) (M s) (room (reader k .before)) (R k) (reads k) (sym (c .before .list-sound .ensures) ∙ not-true _ (c .if2 .taken))
 
-table-sound-requires : tie.Need-table-sound-requires
-table-sound-requires c κs = search needs
+refusal-requires : tie.Need-refusal-requires
+refusal-requires c κs = search needs
 
 same-length : tie.Need-same-length
 same-length c = search needs
 
+same-length-2 : tie.Need-same-length-2
+same-length-2 c = search needs
+
 returns-4 : tie.Need-returns-4
 returns-4 c =
-    let e = c .before .before .before in
+    let e = c .before .before .before .before in
     let k = up2 e in
     let s = asker k in
-    refused-2 (T s) (L s) (F s) (Q s) (M s) (room (reader k .before)) (R k) (reads k) (soundList e) (sym (c .before .table-sound .ensures) ∙ not-true _ (c .if3 .taken))
+    refused-state (T s) (L s) (F s) (Q s) (M s) (room (reader k .before)) (R k) (reads k) (soundList e) _ (c .before .refusal .ensures) (c .if3 .taken)
 
 enum-known-body : tie.Need-enum-known-body
 enum-known-body c = search needs
@@ -151,14 +156,17 @@ part-string-end c = search needs
 
 ask-inside-requires : tie.Need-ask-inside-requires
 ask-inside-requires c κs =
-    let e = passed (c .before .before .before) in
-    (soundTable e, soundList (up3 e), room (reader (up2 (up3 e)) .before))
-
-same-length-2 : tie.Need-same-length-2
-same-length-2 c = search needs
+    let e = passed (c .before .before .before .before) in
+    (soundState e, soundList (up3 e), room (reader (up2 (up3 e)) .before))
 
 same-length-3 : tie.Need-same-length-3
 same-length-3 c = search needs
+
+same-length-4 : tie.Need-same-length-4
+same-length-4 c = search needs
+
+same-length-5 : tie.Need-same-length-5
+same-length-5 c = search needs
 
 returns-5 : tie.Need-returns-5
 returns-5 c =
@@ -167,19 +175,22 @@ returns-5 c =
     let e = b .before .before .before in
     let k = up2 (up3 e) in
     let s = asker k in
-    rejected (T s) (L s) (F s) (Q s) (M s) (room (reader k .before)) (R k) (reads k) (soundList (up3 e)) (soundTable e) _ _ _
+    rejected (T s) (L s) (F s) (Q s) (M s) (room (reader k .before)) (R k) (reads k) (soundList (up3 e)) (soundState e) _ _ _
     (ap (λ (x : Body). toldBody x (take (length (M s) - length version) (M s))) (b .before .body .given .1)) (w .write-reject .ensures)
 
-same-length-4 : tie.Need-same-length-4
-same-length-4 c = search needs
+same-length-6 : tie.Need-same-length-6
+same-length-6 c = search needs
 
-same-length-5 : tie.Need-same-length-5
-same-length-5 c = search needs
+same-length-7 : tie.Need-same-length-7
+same-length-7 c = search needs
+
+same-length-8 : tie.Need-same-length-8
+same-length-8 c = search needs
 
 returns-6 : tie.Need-returns-6
 returns-6 c =
-    let a = c .before .before .before .before in
-    let b = a .before .before .before .before in
+    let a = c .before .before .before .before .before .before in
+    let b = a .before .before .before .before .before in
     let e = passed b in
     let k = up2 (up3 e) in
     let s = asker k in
@@ -187,7 +198,7 @@ returns-6 c =
     let place = string-place (M s) _ (reader k .read-register .ensures) _ _ (body k) (k .before .first .given .1) _ _ (g .1) in
     a .ask-inside .ensures
     ∙ ap (λ (x : List ℕ). inFrame (R k .first) (R k .number) (F s) (requesting (T s) (L s) ownReply (Q s) (g .0 .0) x)) place
-    ∙ asked (T s) (L s) (F s) (Q s) (M s) (room (reader k .before)) (R k) (reads k) (soundList (up3 e)) (soundTable e) (g .0 .0) _
+    ∙ asked (T s) (L s) (F s) (Q s) (M s) (room (reader k .before)) (R k) (reads k) (soundList (up3 e)) (soundState e) (g .0 .0) _
     (ap (λ (x : Body). toldBody x (take (length (M s) - length version) (M s))) (g .1))
 
 pub framed-request-spec : {M : Type 1} → statement M
@@ -201,8 +212,9 @@ framed-request-spec =
     returns-2
     list-sound-requires
     returns-3
-    table-sound-requires
+    refusal-requires
     same-length
+    same-length-2
     returns-4
     enum-known-body
     write-reject-requires
@@ -213,9 +225,11 @@ framed-request-spec =
     part-string-start
     part-string-end
     ask-inside-requires
-    same-length-2
     same-length-3
-    returns-5
     same-length-4
     same-length-5
+    returns-5
+    same-length-6
+    same-length-7
+    same-length-8
     returns-6)

@@ -8,6 +8,7 @@ use lib.Seq.{length-take-le}
 use borrow.Author.Needs.{needs}
 use Rattle.frames.specs.Components as components
 use Rattle.frames.specs.Components.{mostResultOctets}
+use Rattle.states.specs.States.{beside}
 use Rattle.rules.specs.Answers.{outcome, holderIs, returnError, numbersOf, Outcome}
 use Rattle.rules.specs.Frames.{answeredIn}
 use Rattle.visits.specs.declared.RequestAnswer.{RequestAnswer}
@@ -18,7 +19,7 @@ use Rattle.exchange.proofs.put_answer.Tie as tie
 
 -- what the answer comes to in its frame
 abbrev framed : tie.Start → RequestAnswer → Outcome
-framed s a = answeredIn (s .args .first) (s .args .number) (s .args .frame .now) [] (s .args .reply .now) (saidRequest a)
+framed s a = answeredIn (s .args .first) (s .args .number) (s .args .frame .now) (beside [] []) (s .args .reply .now) (saidRequest a)
 
 -- the string of the answer, by its case
 abbrev start : tie.After-slice-known → tie.Start
@@ -81,7 +82,7 @@ returns-2 c =
     let k = w .before .before in
     let s = start (k .before .before .before) in
     let n = k .before .answer2 .given .0 .0 in
-    stands-released (returnError n) [] (s .args .frame .now) (s .args .first) (components.error (s .args .number) n) _ _ (w .write-error .ensures)
+    stands-released (returnError n) (beside [] []) (s .args .frame .now) (s .args .first) (components.error (s .args .number) n) _ _ (w .write-error .ensures)
     ∙ ap (framed s) (sym (k .before .answer2 .given .1))
 
 same-length-2 : tie.Need-same-length-2
@@ -93,7 +94,7 @@ returns-3 c =
     let k = w .before .before .before in
     let s = start (k .before .before .before) in
     let a = k .before .answer3 .given .0 in
-    stands-released (outcome (a .0)) [] (s .args .frame .now) (s .args .first) (components.result (s .args .number) (take (a .1 .0) (s .args .reply .now))) _ _
+    stands-released (outcome (a .0)) (beside [] []) (s .args .frame .now) (s .args .first) (components.result (s .args .number) (take (a .1 .0) (s .args .reply .now))) _ _
     (w .write-result .ensures)
     ∙ ap (framed s) (sym (k .before .answer3 .given .1))
 
@@ -106,7 +107,7 @@ returns-4 c =
     let k = w .before .before .before in
     let s = start (k .before .before .before) in
     let a = k .before .answer4 .given .0 in
-    stands-released (holderIs (a .0 .0)) [] (s .args .frame .now) (s .args .first) (components.result (s .args .number) (take (a .1 .0) (s .args .reply .now))) _ _
+    stands-released (holderIs (a .0 .0)) (beside [] []) (s .args .frame .now) (s .args .first) (components.result (s .args .number) (take (a .1 .0) (s .args .reply .now))) _ _
     (w .write-result2 .ensures)
     ∙ ap (framed s) (sym (k .before .answer4 .given .1))
 

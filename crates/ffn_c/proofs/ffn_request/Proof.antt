@@ -17,9 +17,12 @@ same-length c = search needs
 same-length-2 : tie.Need-same-length-2
 same-length-2 c = search needs
 
+same-length-3 : tie.Need-same-length-3
+same-length-3 c = search needs
+
 returns : tie.Need-returns
-returns c = rw (c .of-request .ensures) (ap ofCall (c .before .before .before .before .before .request .ensures))
+returns c = rw (c .of-request .ensures) (ap ofCall (c .before .before .before .before .before .before .before .request .ensures))
 
 pub ffn-request-spec : {M : Type 1} → statement M
 ffn-request-spec =
-    tie.close (tie.spec request-requires of-request-requires same-length same-length-2 returns)
+    tie.close (tie.spec request-requires of-request-requires same-length same-length-2 same-length-3 returns)

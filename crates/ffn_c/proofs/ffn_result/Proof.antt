@@ -14,8 +14,11 @@ of-result-requires c κs = search needs
 same-length : tie.Need-same-length
 same-length c = search needs
 
+same-length-2 : tie.Need-same-length-2
+same-length-2 c = search needs
+
 returns : tie.Need-returns
-returns c = rw (c .of-result .ensures) (ap ofCall (c .before .before .before .result .ensures))
+returns c = rw (c .of-result .ensures) (ap ofCall (c .before .before .before .before .before .result .ensures))
 
 pub ffn-result-spec : {M : Type 1} → statement M
-ffn-result-spec = tie.close (tie.spec result-requires of-result-requires same-length returns)
+ffn-result-spec = tie.close (tie.spec result-requires of-result-requires same-length same-length-2 returns)

@@ -17,9 +17,12 @@ same-length c = search needs
 same-length-2 : tie.Need-same-length-2
 same-length-2 c = search needs
 
+same-length-3 : tie.Need-same-length-3
+same-length-3 c = search needs
+
 returns : tie.Need-returns
-returns c = rw (c .of-sending .ensures) (ap ofCall (c .before .before .before .before .before .sending .ensures))
+returns c = rw (c .of-sending .ensures) (ap ofCall (c .before .before .before .before .before .before .before .sending .ensures))
 
 pub ffn-sending-spec : {M : Type 1} → statement M
 ffn-sending-spec =
-    tie.close (tie.spec sending-requires of-sending-requires same-length same-length-2 returns)
+    tie.close (tie.spec sending-requires of-sending-requires same-length same-length-2 same-length-3 returns)

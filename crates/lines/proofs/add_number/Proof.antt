@@ -10,6 +10,7 @@ use Rattle.rows.specs.Rows.{rowWords}
 use Rattle.tables.specs.Tables.{mostNumbers}
 use Rattle.lines.specs.Program.{mayFollow}
 use Rattle.lines.proofs.Memory.{put-kept, follows-below, put-count, put-nothing, did-as, numbered-late, numbered-over, numbered-in}
+use Rattle.lines.proofs.Figures.{recount-free}
 use borrow.Author.Needs.{needs}
 use Rattle.lines.proofs.add_number.Statement.{statement}
 use Rattle.lines.proofs.add_number.Tie as tie
@@ -75,21 +76,22 @@ slice-aggregate-append c = search needs
 append-requires : tie.Need-append-requires
 append-requires c κs = omega (arith, below (c .before .before))
 
-add-t24 : tie.Need-add-t24
-add-t24 c = search needs
+add-t25 : tie.Need-add-t25
+add-t25 c = search needs
 
 same-length-4 : tie.Need-same-length-4
 same-length-4 c = search needs
 
 returns-3 : tie.Need-returns-3
 returns-3 c = λ list s.
-    let a = c .before .before in
+    let a = c .before .before .before in
     let e = a .before .before .before in
     let f = filling (e .before .before .before) in
     did-as (record {
       numbers = put-count _ (a .append .ensures) (omega arith);
       subscribers = put-kept _ list (s .subscribers);
       filling = sym f;
+      figures = s .figures ∙ sym (recount-free _ _ (length-take-le _ _ (s .numbers)) _);
       printed = put-nothing _;
       moreNumbers = omega arith;
       moreSubscribers = omega arith;
@@ -113,6 +115,6 @@ add-number-spec =
     array-write-row
     slice-aggregate-append
     append-requires
-    add-t24
+    add-t25
     same-length-4
     returns-3)

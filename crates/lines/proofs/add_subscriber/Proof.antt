@@ -71,21 +71,22 @@ slice-aggregate-append c = search needs
 append-requires : tie.Need-append-requires
 append-requires c κs = omega (arith, below (c .before .before))
 
-add-t24 : tie.Need-add-t24
-add-t24 c = search needs
+add-t25 : tie.Need-add-t25
+add-t25 c = search needs
 
 same-length-4 : tie.Need-same-length-4
 same-length-4 c = search needs
 
 returns-3 : tie.Need-returns-3
 returns-3 c = λ table s.
-    let a = c .before .before in
+    let a = c .before .before .before in
     let e = a .before .before .before in
     let f = filling (e .before .before .before) in
     did-as (record {
       numbers = put-kept _ table (s .numbers);
       subscribers = put-count _ (a .append .ensures) (omega arith);
       filling = sym f;
+      figures = s .figures;
       printed = put-nothing _;
       moreNumbers = omega arith;
       moreSubscribers = omega arith;
@@ -108,6 +109,6 @@ add-subscriber-spec =
     returns-2
     slice-aggregate-append
     append-requires
-    add-t24
+    add-t25
     same-length-4
     returns-3)

@@ -1,18 +1,27 @@
 -- `lines::request_line` meets its contract. Assumes nothing.
 use mathlib.Core.Path.{sym, _∙_}
-use Prim.Native.Nat.{_+_, _-_, _<_}
+use Prim.Native.Nat.{_+_, _-_, _*_, _<_}
 use native.Mathlib.Omega.{arith}
-use lib.ListN.{length}
+use lib.ListN.{length, take}
 use lib.Seq.{length-take-le}
 use borrow.Rule.Slice.PartMut.{putMid}
-use Rattle.lines.specs.Program.{requested}
+use Rattle.tables.specs.Tables.{subscriberWords}
+use Rattle.lines.specs.Program.{asked, requested}
 use Rattle.lines.proofs.Memory.{line-room, line-did}
+use Rattle.lines.proofs.Figures.{asked-right}
 use borrow.Author.Needs.{needs}
 use Rattle.lines.proofs.request_line.Statement.{statement}
 use Rattle.lines.proofs.request_line.Tie as tie
 
-room : (c : tie.After-ask) → c .before .before .before .before .before .before .before .put .result + c .ask .result < length (putMid (c .before .before .before .before .before .before .before .put .result) (length (c .before .before .before .before .before .before .before .put .last .1 .0) - c .before .before .before .before .before .before .before .put .result) (c .before .before .before .before .before .before .before .put .last .1 .0) (c .ask .last .1 .1 .1 .1 .1 .0))
-room c = let p = c .before .before .before .before .before .before .before in line-room (p .put .ensures) (c .ask .ensures) (c .ask .kept .1 .1 .1 .1 .1 .0) (omega arith)
+-- the letter and the space are put
+abbrev head : tie.After-ask → tie.After-put
+head c = c .before .before .before .before .before .before .before .before
+
+abbrev start : tie.After-put → tie.Start
+start c = c .before .before .before .before .before .before .before .before .before .before .before
+
+room : (c : tie.After-ask) → head c .put .result + c .ask .result < length (putMid (head c .put .result) (length (head c .put .last .1 .0) - head c .put .result) (head c .put .last .1 .0) (c .ask .last .1 .1 .1 .1 .1 .1 .0))
+room c = line-room (head c .put .ensures) (c .ask .ensures) (c .ask .kept .1 .1 .1 .1 .1 .1 .0) (omega arith)
 
 mul-words : tie.Need-mul-words
 mul-words c = search needs
@@ -30,10 +39,13 @@ slice-relend-prefix-ask : tie.Need-slice-relend-prefix-ask
 slice-relend-prefix-ask c = search needs
 
 slice-aggregate-ask : tie.Need-slice-aggregate-ask
-slice-aggregate-ask c = sym (length-take-le _ _ (c .before .before .before .before .before .before .before .before .before .before .before .before .before .pre .0 .numbers))
+slice-aggregate-ask c = sym (length-take-le _ _ (start (c .before .before .before) .pre .0 .numbers))
 
 slice-aggregate-ask-2 : tie.Need-slice-aggregate-ask-2
-slice-aggregate-ask-2 c = sym (length-take-le _ _ (c .before .before .before .before .before .before .before .before .before .before .before .before .before .before .pre .0 .subscribers))
+slice-aggregate-ask-2 c = search needs
+
+slice-aggregate-ask-3 : tie.Need-slice-aggregate-ask-3
+slice-aggregate-ask-3 c = sym (length-take-le _ _ (start (c .before .before .before .before .before) .pre .0 .subscribers))
 
 sub-ask : tie.Need-sub-ask
 sub-ask c = search needs
@@ -48,10 +60,10 @@ ask-requires : tie.Need-ask-requires
 ask-requires c κs = search needs
 
 add-end-line : tie.Need-add-end-line
-add-end-line c = let a = c .before .before .before .before .before .before in omega (arith, a .ask .ensures .short, a .before .before .before .before .before .before .before .put .ensures .count)
+add-end-line c = let a = c .before .before .before .before .before .before .before in omega (arith, a .ask .ensures .short, head a .put .ensures .count)
 
 end-line-requires : tie.Need-end-line-requires
-end-line-requires c κs = room (c .before .before .before .before .before .before .before)
+end-line-requires c κs = room (c .before .before .before .before .before .before .before .before)
 
 same-length : tie.Need-same-length
 same-length c = search needs
@@ -66,8 +78,10 @@ returns : tie.Need-returns
 unfolding requested
 returns c =
     let e = c .before .before in
-    let r = e .before .before .before .before .before .before .before .before in
-    line-did (r .before .before .before .before .before .before .before .before .before .before .before .before .before .before .before .before .before .pre .0) (r .before .before .before .before .before .before .before .put .ensures) (r .ask .ensures) (r .ask .kept .1 .1 .0 ∙ length-take-le _ _ (r .before .before .before .before .before .before .before .before .before .before .before .before .before .before .before .before .before .pre .0 .numbers)) (room r) (e .end-line .ensures .0) (e .end-line .ensures .1)
+    let r = e .before .before .before .before .before .before .before .before .before in
+    let s = start (head r) in
+    let list = take (subscriberWords * s .args .state .subscribers) (s .args .list .now) in
+    line-did (λ state. asked (s .args .requester) (s .args .string .now) state list) (s .pre .0) (asked-right (s .args .requester) (s .args .string .now) list) (head r .put .ensures) (r .ask .ensures) (r .ask .kept .1 .1 .0 ∙ length-take-le _ _ (s .pre .0 .numbers)) (room r) (e .end-line .ensures .0) (e .end-line .ensures .1)
 
 pub request-line-spec : {M : Type 1} → statement M
 request-line-spec =
@@ -80,6 +94,7 @@ request-line-spec =
     slice-relend-prefix-ask
     slice-aggregate-ask
     slice-aggregate-ask-2
+    slice-aggregate-ask-3
     sub-ask
     part-ask-start
     part-ask-end

@@ -5,14 +5,23 @@ use native.Mathlib.Omega.{arith}
 use lib.ListN.{length}
 use lib.Seq.{length-take-le}
 use borrow.Rule.Slice.PartMut.{putMid}
+use Rattle.rules.specs.Notices as notices
 use Rattle.lines.specs.Program.{reported}
 use Rattle.lines.proofs.Memory.{line-room, line-did}
+use Rattle.lines.proofs.Figures.{result-right}
 use borrow.Author.Needs.{needs}
 use Rattle.lines.proofs.result_line.Statement.{statement}
 use Rattle.lines.proofs.result_line.Tie as tie
 
-room : (c : tie.After-report) → c .before .before .before .before .before .put .result + c .report .result < length (putMid (c .before .before .before .before .before .put .result) (length (c .before .before .before .before .before .put .last .1 .0) - c .before .before .before .before .before .put .result) (c .before .before .before .before .before .put .last .1 .0) (c .report .last .1 .1 .1 .1 .0))
-room c = let p = c .before .before .before .before .before in line-room (p .put .ensures) (c .report .ensures) (c .report .kept .1 .1 .1 .1 .0) (omega arith)
+-- the letter and the space are put
+abbrev head : tie.After-report → tie.After-put
+head c = c .before .before .before .before .before .before
+
+abbrev start : tie.After-put → tie.Start
+start c = c .before .before .before .before .before .before .before
+
+room : (c : tie.After-report) → head c .put .result + c .report .result < length (putMid (head c .put .result) (length (head c .put .last .1 .0) - head c .put .result) (head c .put .last .1 .0) (c .report .last .1 .1 .1 .1 .1 .0))
+room c = line-room (head c .put .ensures) (c .report .ensures) (c .report .kept .1 .1 .1 .1 .1 .0) (omega arith)
 
 mul-words : tie.Need-mul-words
 mul-words c = search needs
@@ -27,7 +36,10 @@ slice-relend-prefix-report : tie.Need-slice-relend-prefix-report
 slice-relend-prefix-report c = search needs
 
 slice-aggregate-report : tie.Need-slice-aggregate-report
-slice-aggregate-report c = sym (length-take-le _ _ (c .before .before .before .before .before .before .before .before .before .pre .0))
+slice-aggregate-report c = sym (length-take-le _ _ (start (c .before .before .before) .pre .0))
+
+slice-aggregate-report-2 : tie.Need-slice-aggregate-report-2
+slice-aggregate-report-2 c = search needs
 
 sub-report : tie.Need-sub-report
 sub-report c = search needs
@@ -45,7 +57,7 @@ add-end-line : tie.Need-add-end-line
 add-end-line c = search needs
 
 end-line-requires : tie.Need-end-line-requires
-end-line-requires c κs = room (c .before .before .before .before .before)
+end-line-requires c κs = room (c .before .before .before .before .before .before)
 
 same-length : tie.Need-same-length
 same-length c = search needs
@@ -57,8 +69,9 @@ returns : tie.Need-returns
 unfolding reported
 returns c = λ list s.
     let e = c .before .before in
-    let r = e .before .before .before .before .before .before in
-    line-did s (r .before .before .before .before .before .put .ensures) (r .report .ensures) (r .report .kept .1 .1 .1 .0 ∙ length-take-le _ _ (s .numbers)) (room r) (e .end-line .ensures .0) (e .end-line .ensures .1)
+    let r = e .before .before .before .before .before .before .before in
+    let a = start (head r) in
+    line-did (λ state. notices.takingResult state (a .args .number) (a .args .kind) (a .args .clock)) s (λ t. result-right (a .args .number) (a .args .clock) (a .good .1 .0 .1) t (a .args .kind)) (head r .put .ensures) (r .report .ensures) (r .report .kept .1 .1 .1 .0 ∙ length-take-le _ _ (s .numbers)) (room r) (e .end-line .ensures .0) (e .end-line .ensures .1)
 
 pub result-line-spec : {M : Type 1} → statement M
 result-line-spec =
@@ -69,6 +82,7 @@ result-line-spec =
     put-requires
     slice-relend-prefix-report
     slice-aggregate-report
+    slice-aggregate-report-2
     sub-report
     part-report-start
     part-report-end

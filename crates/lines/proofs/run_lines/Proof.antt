@@ -9,7 +9,7 @@ use Rattle.bytes.specs.Bytes.{indexOf}
 use Rattle.packing.specs.Packing.{octetsFor}
 use Rattle.forms.specs.Lines.{lineFeed}
 use Rattle.lines.specs.Program.{lineEffect}
-use Rattle.lines.specs.Memory.{programIn, Did}
+use Rattle.lines.specs.Memory.{programIn, Did, mostInput}
 use Rattle.lines.proofs.Running.{Run, run-start, so-far, printed-most, run-step, run-end}
 use borrow.Author.Needs.{needs}
 use Rattle.lines.proofs.run_lines.Statement.{statement}
@@ -50,6 +50,12 @@ printed c =
     let k = c .do-line .kept .1 .1 in
     printed-most (head c .loop .inv .0) (start (head c) .pre .0) (c .before .before .before .before .before .before .before .before .loop-test .taken) (found (c .before .before .before .before .before .before)) (did c) (k .0) (k .1 .0) (k .1 .1 .1 .0)
 
+-- the line ends within the input, which is short
+ends : (c : tie.After-do-line Inv-loop μ-loop) → head c .loop .at + (c .before .before .before .before .before .before .place-of .result + 1) ≤ mostInput + 1
+ends c =
+    let s = start (head c) in
+    omega (arith, c .before .before .before .before .before .before .before .before .loop-test .taken, found (c .before .before .before .before .before .before) .1, length-drop (head c .loop .at) (s .args .input .now), s .pre .0 .short)
+
 loop-holds : tie.Need-loop-holds Inv-loop μ-loop
 loop-holds c = (run-start _ _ _ _ (c .before .before .before .before .before .pre .0), omega arith)
 
@@ -85,17 +91,13 @@ do-line-requires c κs =
     (h .before .loop .inv .0 .stands, (simp (length-take, length-drop) (omega (arith, s .pre .1, h .before .loop .inv .1)), simp (length-take, length-drop) (omega (arith, room h))))
 
 add-n : tie.Need-add-n Inv-loop μ-loop
-add-n c =
-    let d = c .before .before .before .before .before .before .before .before .before .before in
-    let h = head d in
-    let s = start h in
-    omega (arith, printed d, h .loop .inv .0 .most, s .pre .0 .short, d .before .before .before .before .before .before .before .before .loop-test .taken, found (d .before .before .before .before .before .before) .1, length-drop (h .loop .at) (s .args .input .now))
+add-n c = let d = c .before .before .before .before .before .before .before .before .before .before in omega (arith, printed d, head d .loop .inv .0 .most, ends d)
 
 add-at : tie.Need-add-at Inv-loop μ-loop
-add-at c = search needs
+add-at c = omega (arith, ends (c .before .before .before .before .before .before .before .before .before .before))
 
 add-at-2 : tie.Need-add-at-2 Inv-loop μ-loop
-add-at-2 c = search needs
+add-at-2 c = omega (arith, ends (c .before .before .before .before .before .before .before .before .before .before))
 
 loop-less : tie.Need-loop-less Inv-loop μ-loop
 loop-less c = search needs

@@ -1,5 +1,6 @@
 -- `lines::send` meets its contract. Assumes nothing.
 use native.Mathlib.Omega.{arith}
+use Rattle.states.specs.States.{beside}
 use Rattle.lines.specs.Program.{lentBuffer}
 use Rattle.lines.proofs.Printing.{sending-sends}
 use Rattle.lines.proofs.Calls.{printable-by, answered-by}
@@ -18,9 +19,9 @@ slice-aggregate-put-sending-answer c = search needs
 
 put-sending-answer-requires : tie.Need-put-sending-answer-requires
 put-sending-answer-requires c κs =
-    let s = c .before .before .before .before .before in
-    let a = s .before .before .before .before .before .args in
-    (printable-by _ _ _ _ (s .sending .ensures) (sending-sends (a .table .now) lentBuffer (a .number) 0 (a .clock) .0), omega arith)
+    let s = c .before .before .before .before .before .before .before in
+    let a = s .before .before .before .before .before .before .before .args in
+    (printable-by _ _ _ _ (s .sending .ensures) (sending-sends (beside (a .table .now) (a .figures .now)) lentBuffer (a .number) 0 (a .clock) .0), omega arith)
 
 same-length : tie.Need-same-length
 same-length c = search needs
@@ -28,12 +29,15 @@ same-length c = search needs
 same-length-2 : tie.Need-same-length-2
 same-length-2 c = search needs
 
+same-length-3 : tie.Need-same-length-3
+same-length-3 c = search needs
+
 returns : tie.Need-returns
 returns c =
     let p = c .before .before in
-    let s = p .before .before .before .before .before .before in
-    let a = s .before .before .before .before .before .args in
-    answered-by _ _ _ _ (s .sending .ensures) (sending-sends (a .table .now) lentBuffer (a .number) 0 (a .clock) .0) (p .put-sending-answer .ensures)
+    let s = p .before .before .before .before .before .before .before .before in
+    let a = s .before .before .before .before .before .before .before .args in
+    answered-by _ _ _ _ (s .sending .ensures) (sending-sends (beside (a .table .now) (a .figures .now)) lentBuffer (a .number) 0 (a .clock) .0) (p .put-sending-answer .ensures)
 
 pub send-spec : {M : Type 1} → statement M
 send-spec =
@@ -45,4 +49,5 @@ send-spec =
     put-sending-answer-requires
     same-length
     same-length-2
+    same-length-3
     returns)

@@ -5,14 +5,23 @@ use native.Mathlib.Omega.{arith}
 use lib.ListN.{length}
 use lib.Seq.{length-take-le}
 use borrow.Rule.Slice.PartMut.{putMid}
-use Rattle.lines.specs.Program.{dispatched}
+use Rattle.rules.specs.Notices as notices
+use Rattle.lines.specs.Program.{lentBuffer, dispatched}
 use Rattle.lines.proofs.Memory.{line-room, line-did}
+use Rattle.lines.proofs.Figures.{sending-right}
 use borrow.Author.Needs.{needs}
 use Rattle.lines.proofs.sending_line.Statement.{statement}
 use Rattle.lines.proofs.sending_line.Tie as tie
 
-room : (c : tie.After-send) → c .before .before .before .before .before .put .result + c .send .result < length (putMid (c .before .before .before .before .before .put .result) (length (c .before .before .before .before .before .put .last .1 .0) - c .before .before .before .before .before .put .result) (c .before .before .before .before .before .put .last .1 .0) (c .send .last .1 .1 .1 .0))
-room c = let p = c .before .before .before .before .before in line-room (p .put .ensures) (c .send .ensures) (c .send .kept .1 .1 .1 .0) (omega arith)
+-- the letter and the space are put
+abbrev head : tie.After-send → tie.After-put
+head c = c .before .before .before .before .before .before
+
+abbrev start : tie.After-put → tie.Start
+start c = c .before .before .before .before .before .before .before
+
+room : (c : tie.After-send) → head c .put .result + c .send .result < length (putMid (head c .put .result) (length (head c .put .last .1 .0) - head c .put .result) (head c .put .last .1 .0) (c .send .last .1 .1 .1 .1 .0))
+room c = line-room (head c .put .ensures) (c .send .ensures) (c .send .kept .1 .1 .1 .1 .0) (omega arith)
 
 mul-words : tie.Need-mul-words
 mul-words c = search needs
@@ -27,7 +36,10 @@ slice-relend-prefix-send : tie.Need-slice-relend-prefix-send
 slice-relend-prefix-send c = search needs
 
 slice-aggregate-send : tie.Need-slice-aggregate-send
-slice-aggregate-send c = sym (length-take-le _ _ (c .before .before .before .before .before .before .before .before .before .pre .0))
+slice-aggregate-send c = sym (length-take-le _ _ (start (c .before .before .before) .pre .0))
+
+slice-aggregate-send-2 : tie.Need-slice-aggregate-send-2
+slice-aggregate-send-2 c = search needs
 
 sub-send : tie.Need-sub-send
 sub-send c = search needs
@@ -45,7 +57,7 @@ add-end-line : tie.Need-add-end-line
 add-end-line c = search needs
 
 end-line-requires : tie.Need-end-line-requires
-end-line-requires c κs = room (c .before .before .before .before .before)
+end-line-requires c κs = room (c .before .before .before .before .before .before)
 
 same-length : tie.Need-same-length
 same-length c = search needs
@@ -57,8 +69,9 @@ returns : tie.Need-returns
 unfolding dispatched
 returns c = λ list s.
     let e = c .before .before in
-    let r = e .before .before .before .before .before .before in
-    line-did s (r .before .before .before .before .before .put .ensures) (r .send .ensures) (r .send .kept .1 .1 .0 ∙ length-take-le _ _ (s .numbers)) (room r) (e .end-line .ensures .0) (e .end-line .ensures .1)
+    let r = e .before .before .before .before .before .before .before in
+    let a = start (head r) in
+    line-did (λ state. notices.sendingNotice state lentBuffer (a .args .number) 0 (a .args .clock)) s (λ t. sending-right (a .args .number) (a .args .clock) (a .good .1 .0 .1) t) (head r .put .ensures) (r .send .ensures) (r .send .kept .1 .1 .0 ∙ length-take-le _ _ (s .numbers)) (room r) (e .end-line .ensures .0) (e .end-line .ensures .1)
 
 pub sending-line-spec : {M : Type 1} → statement M
 sending-line-spec =
@@ -69,6 +82,7 @@ sending-line-spec =
     put-requires
     slice-relend-prefix-send
     slice-aggregate-send
+    slice-aggregate-send-2
     sub-send
     part-send-start
     part-send-end

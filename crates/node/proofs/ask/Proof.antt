@@ -15,6 +15,7 @@ use Rattle.crews.specs.declared.Crew.the-variants.{Codes}
 use Rattle.strings.specs.Text.{Request}
 use Rattle.strings.proofs.Text.{sound-rules}
 use Rattle.tables.specs.Tables.{flagsOf}
+use Rattle.states.specs.States.{State, beside}
 use Rattle.rules.specs.Requests.{hasFollowMe, isForced, isSupervisor}
 use Rattle.node.specs.Asked.{withAdditional}
 use Rattle.node.proofs.Asked.{says-42, says-22, passes, single-crew, no-broken, single-asked, crew-digits, crew-few, crew-most, crew-within, crew-carried, crew-number, crew-asked}
@@ -22,8 +23,8 @@ use Rattle.node.proofs.ask.Statement.{statement}
 use Rattle.node.proofs.ask.Tie as tie
 
 -- what was lent
-abbrev T : tie.Start → List ℕ
-T c = now (c .args .table)
+abbrev T : tie.Start → State
+T c = beside (now (c .args .table)) (now (c .args .figures))
 
 abbrev B : tie.Start → List ℕ
 B c = now (c .args .reply)
@@ -35,7 +36,7 @@ abbrev F : tie.Start → Request
 F c = withAdditional (c .args .fields) (A c)
 
 abbrev start : tie.After-flags-of → tie.Start
-start c = c .before .before .before .before .before .before
+start c = c .before .before .before .before .before .before .before
 
 abbrev flags : tie.Start → ℕ
 flags c = flagsOf (now (c .args .list)) (c .args .requester .0)
@@ -103,7 +104,7 @@ enum-told c = search needs
 
 ask-single-requires : tie.Need-ask-single-requires
 ask-single-requires c κs =
-    let s = asks (c .before .before .before .before .before) in
+    let s = asks (c .before .before .before .before .before .before) in
     (s .pre .0 .0, s .pre .0 .2, sound-rules (F s) (s .pre .1 .0) .erasing)
 
 enum-known-crew : tie.Need-enum-known-crew
@@ -126,7 +127,7 @@ part-digits-end c = search needs
 
 request-crew-requires : tie.Need-request-crew-requires
 request-crew-requires c κs =
-    let k = c .before .before .before in
+    let k = c .before .before .before .before in
     let s = asks (k .before .before .before .before) in
     let f = s .args .fields in (
       (s .pre .0 .0, crew-carried f (A s) _ (s .pre .1 .0) (codes k), s .pre .0 .3),
@@ -149,26 +150,32 @@ same-length-3 c = search needs
 same-length-4 : tie.Need-same-length-4
 same-length-4 c = search needs
 
+same-length-5 : tie.Need-same-length-5
+same-length-5 c = search needs
+
 returns-3 : tie.Need-returns-3
 returns-3 c =
-    let q = c .before .before .before .before in
-    let e = q .before .before .before in
+    let q = c .before .before .before .before .before .before in
+    let e = q .before .before .before .before in
     let b = e .before .before in
     let s = asks (b .before) in
     q .ask-single .ensures
     ∙ sym (passes (T s) (flags s) (B s) (s .args .requester) (F s) (follow-me (b .before .before)) (permitted b)
     ∙ single-asked (T s) (B s) (s .args .requester) (s .args .fields) (A s) (single-crew (A s) (count s _ (e .enum-told .given .1))))
 
-same-length-5 : tie.Need-same-length-5
-same-length-5 c = search needs
-
 same-length-6 : tie.Need-same-length-6
 same-length-6 c = search needs
 
+same-length-7 : tie.Need-same-length-7
+same-length-7 c = search needs
+
+same-length-8 : tie.Need-same-length-8
+same-length-8 c = search needs
+
 returns-4 : tie.Need-returns-4
 returns-4 c =
-    let q = c .before .before .before .before in
-    let k = q .before .before .before .before in
+    let q = c .before .before .before .before .before .before in
+    let k = q .before .before .before .before .before in
     let b = k .before .before .before in
     let s = asks (b .before) in
     rw rest-of at (q .request-crew .ensures)
@@ -204,8 +211,10 @@ ask-spec =
     enum-told-2
     same-length-3
     same-length-4
-    returns-3
     same-length-5
+    returns-3
     same-length-6
+    same-length-7
+    same-length-8
     returns-4
     returns-5)

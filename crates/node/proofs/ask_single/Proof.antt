@@ -4,29 +4,29 @@ use mathlib.Core.List.{List}
 use Prim.Native.Nat.{ℕ}
 use denote.Ref.{now}
 use borrow.Author.Needs.{needs}
-use Rattle.tables.specs.Tables.{rowOf}
 use Rattle.tables.specs.declared.Found.the-variants.{At}
 use Rattle.tables.proofs.Stored.{row-found}
-use Rattle.rules.proofs.Visits.{found-sound}
+use Rattle.states.specs.States.{State, beside, rowFor}
+use Rattle.states.proofs.States.{state-table}
 use Rattle.node.proofs.Asked.{single-misses, single-visits}
 use Rattle.node.proofs.ask_single.Statement.{statement}
 use Rattle.node.proofs.ask_single.Tie as tie
 
-abbrev T : tie.Start → List ℕ
-T c = now (c .args .table)
+abbrev T : tie.Start → State
+T c = beside (now (c .args .table)) (now (c .args .figures))
 
 abbrev start : tie.After-row-of → tie.Start
-start c = c .before .before .before .before .before
+start c = c .before .before .before .before .before .before
 
 -- where the row was found
 abbrev asks : tie.After-known-told → tie.Start
 asks c = start (c .before .before .before)
 
-place : (c : tie.After-known-told) → rowOf (T (asks c)) (asks c .args .fields .number .0) ≡ At (c .before .found .given .0 .0)
+place : (c : tie.After-known-told) → rowFor (T (asks c)) (asks c .args .fields .number .0) ≡ At (c .before .found .given .0 .0)
 place c = sym (c .before .before .before .row-of .ensures) ∙ c .before .found .given .1
 
 row-of-requires : tie.Need-row-of-requires
-row-of-requires c κs = search needs
+row-of-requires c κs = state-table _ (c .before .before .before .before .before .pre .0)
 
 enum-known-found : tie.Need-enum-known-found
 enum-known-found c = search needs
@@ -53,9 +53,9 @@ returns c =
 
 decide-at-requires : tie.Need-decide-at-requires
 decide-at-requires c κs =
-    let k = c .before .before in
+    let k = c .before .before .before in
     let s = asks k in
-    (row-found (T s) (s .args .fields .number .0) _ (place k) .0, found-sound (T s) (s .args .fields .number .0) _ (s .pre .0) (place k), s .pre .1)
+    (s .pre .0, row-found (T s .table) (s .args .fields .number .0) _ (place k) .0, s .pre .1)
 
 same-length-3 : tie.Need-same-length-3
 same-length-3 c = search needs
@@ -63,10 +63,13 @@ same-length-3 c = search needs
 same-length-4 : tie.Need-same-length-4
 same-length-4 c = search needs
 
+same-length-5 : tie.Need-same-length-5
+same-length-5 c = search needs
+
 returns-2 : tie.Need-returns-2
 returns-2 c =
-    let d = c .before .before .before .before in
-    let k = d .before .before .before in
+    let d = c .before .before .before .before .before .before in
+    let k = d .before .before .before .before in
     let s = asks k in
     single-visits (T s) (now (s .args .reply)) (s .args .requester) (s .args .fields) _ _ (place k) (s .pre .2) (d .decide-at .ensures)
 
@@ -84,4 +87,5 @@ ask-single-spec =
     decide-at-requires
     same-length-3
     same-length-4
+    same-length-5
     returns-2)

@@ -13,6 +13,7 @@ use Rattle.crews.specs.Crews.{countOf}
 use Rattle.strings.specs.declared.Fields.{Fields}
 use Rattle.strings.specs.Text.{requestSound}
 use Rattle.tables.specs.Tables.{flagsOf}
+use Rattle.states.specs.States.{State, beside}
 use Rattle.node.specs.Asked.{withAdditional, askedBy}
 use Rattle.node.proofs.Asked.{not-read, was-read, read-crew, read-sound, read-within, read-short, read-part, request-asked}
 use Rattle.node.proofs.Checks.{error-35-requester, error-71, error-35-empty, error-36-long, error-36-unread, none-refuses}
@@ -20,8 +21,8 @@ use Rattle.node.proofs.ask_string.Statement.{statement}
 use Rattle.node.proofs.ask_string.Tie as tie
 
 -- what was lent
-abbrev T : tie.Start → List ℕ
-T c = now (c .args .table)
+abbrev T : tie.Start → State
+T c = beside (now (c .args .table)) (now (c .args .figures))
 
 abbrev L : tie.Start → List ℕ
 L c = now (c .args .list)
@@ -39,7 +40,7 @@ abbrev S : tie.Start → List ℕ
 S c = now (c .args .string)
 
 abbrev from1 : tie.After-is-number → tie.Start
-from1 c = c .before .before .before .before .before
+from1 c = c .before .before .before .before .before .before
 
 -- the requester is a number
 number : (c : tie.Else1) → isNumber (Q (from1 (c .before)) .0) ≡ true
@@ -110,21 +111,21 @@ add-end c =
     let r = reader k in
     omega (arith, read-short (string k) (r .read-request .result) (r .read-request .ensures) (fields k) (k .before .reading .given .1))
 
-sub-ask : tie.Need-sub-ask
-sub-ask c = search needs
+sub-additional : tie.Need-sub-additional
+sub-additional c = search needs
 
-part-ask-start : tie.Need-part-ask-start
-part-ask-start c = search needs
+part-additional-start : tie.Need-part-additional-start
+part-additional-start c = search needs
 
-part-ask-end : tie.Need-part-ask-end
-part-ask-end c =
-    let k = c .before .before .before .before .before in
+part-additional-end : tie.Need-part-additional-end
+part-additional-end c =
+    let k = c .before .before .before in
     let r = reader k in
     read-within (string k) (r .read-request .result) (r .read-request .ensures) (fields k) (k .before .reading .given .1)
 
 ask-requires : tie.Need-ask-requires
 ask-requires c κs =
-    let k = c .before .before .before .before .before .before in
+    let k = c .before .before .before .before .before .before .before in
     let r = reader k in
     let s = asker r in
     let told = k .before .reading .given .1 in
@@ -142,10 +143,13 @@ same-length c = search needs
 same-length-2 : tie.Need-same-length-2
 same-length-2 c = search needs
 
+same-length-3 : tie.Need-same-length-3
+same-length-3 c = search needs
+
 returns-6 : tie.Need-returns-6
 returns-6 c =
-    let a = c .before .before .before .before in
-    let k = a .before .before .before .before .before .before .before in
+    let a = c .before .before .before .before .before .before in
+    let k = a .before .before .before .before .before .before .before .before in
     let r = reader k in
     let l = r .before in
     let s = asker r in
@@ -170,10 +174,11 @@ ask-string-spec =
     enum-told
     returns-5
     add-end
-    sub-ask
-    part-ask-start
-    part-ask-end
+    sub-additional
+    part-additional-start
+    part-additional-end
     ask-requires
     same-length
     same-length-2
+    same-length-3
     returns-6)

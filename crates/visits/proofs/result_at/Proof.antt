@@ -1,27 +1,27 @@
 use mathlib.Core.Path.{_≡_, sym, ap, _∙_}
-use mathlib.Core.List.{List}
 use Prim.Native.Nat.{ℕ}
 use denote.Ref.{now}
 use Rattle.records.specs.declared.Resulted.{Resulted}
 use Rattle.records.specs.Steps.{resulted}
-use Rattle.rows.specs.Rows.{recordAt}
+use Rattle.states.specs.States.{State, beside, recordIn}
+use Rattle.states.proofs.States.{state-row}
 use Rattle.visits.proofs.Placed.{result-refused, result-delivered, result-dropped, result-again}
 use borrow.Author.Needs.{needs}
 use Rattle.visits.proofs.result_at.Statement.{statement}
 use Rattle.visits.proofs.result_at.Tie as tie
 
-abbrev T : tie.Start → List ℕ
-T c = now (c .args .table)
+abbrev T : tie.Start → State
+T c = beside (now (c .args .table)) (now (c .args .figures))
 
 abbrev start : tie.After-result → tie.Start
-start c = c .before .before .before .before
+start c = c .before .before .before .before .before
 
 -- what the row's record comes to
-step : (c : tie.After-result) (r : Resulted) → c .result .result ≡ r → resulted (start c .args .kind) (start c .args .clock) (recordAt (T (start c)) (start c .args .row)) ≡ r
+step : (c : tie.After-result) (r : Resulted) → c .result .result ≡ r → resulted (start c .args .kind) (start c .args .clock) (recordIn (T (start c)) (start c .args .row)) ≡ r
 step c r e = ap (resulted (start c .args .kind) (start c .args .clock)) (sym (c .before .load .ensures)) ∙ sym (c .result .ensures) ∙ e
 
 load-requires : tie.Need-load-requires
-load-requires c κs = search needs
+load-requires c κs = let s = c .before .before .before in (s .pre .1, state-row (T s) (s .args .row) (s .pre .0) (s .pre .1))
 
 result-requires : tie.Need-result-requires
 result-requires c κs = search needs
@@ -54,37 +54,46 @@ returns : tie.Need-returns
 returns c =
     let r = c .before .before .before in
     let s = start r in
-    result-refused (T s) (s .args .row) _ _ (s .pre .1) (step r _ (c .before .step .given .1))
+    result-refused (T s) (s .args .row) _ _ (s .pre .0) (s .pre .1) (step r _ (c .before .step .given .1))
 
 same-length-2 : tie.Need-same-length-2
 same-length-2 c = search needs
 
+same-length-3 : tie.Need-same-length-3
+same-length-3 c = search needs
+
 returns-2 : tie.Need-returns-2
 returns-2 c =
-    let w = c .before .before in
-    let k = w .before .before .before in
+    let w = c .before .before .before .before in
+    let k = w .before .before .before .before in
     let r = k .before .before in
     let s = start r in
     result-delivered (T s) (s .args .row) _ _ _ (w .store .ensures) (step r _ (k .step2 .given .1))
 
-same-length-3 : tie.Need-same-length-3
-same-length-3 c = search needs
+same-length-4 : tie.Need-same-length-4
+same-length-4 c = search needs
+
+same-length-5 : tie.Need-same-length-5
+same-length-5 c = search needs
 
 returns-3 : tie.Need-returns-3
 returns-3 c =
-    let w = c .before .before in
-    let k = w .before .before .before in
+    let w = c .before .before .before .before in
+    let k = w .before .before .before .before in
     let r = k .before .before in
     let s = start r in
     result-dropped (T s) (s .args .row) _ _ _ (w .store2 .ensures) (step r _ (k .step3 .given .1))
 
-same-length-4 : tie.Need-same-length-4
-same-length-4 c = search needs
+same-length-6 : tie.Need-same-length-6
+same-length-6 c = search needs
+
+same-length-7 : tie.Need-same-length-7
+same-length-7 c = search needs
 
 returns-4 : tie.Need-returns-4
 returns-4 c =
-    let w = c .before .before in
-    let k = w .before .before .before in
+    let w = c .before .before .before .before in
+    let k = w .before .before .before .before in
     let r = k .before .before in
     let s = start r in
     result-again (T s) (s .args .row) _ _ _ (w .store3 .ensures) (step r _ (k .step4 .given .1))
@@ -105,8 +114,11 @@ result-at-spec =
     same-length
     returns
     same-length-2
-    returns-2
     same-length-3
-    returns-3
+    returns-2
     same-length-4
+    same-length-5
+    returns-3
+    same-length-6
+    same-length-7
     returns-4)

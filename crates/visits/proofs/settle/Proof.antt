@@ -1,7 +1,6 @@
 use mathlib.Core.Path.{ap}
-use mathlib.Core.List.{List}
-use Prim.Native.Nat.{ℕ}
 use borrow.Author.Needs.{needs}
+use Rattle.states.specs.States.{State}
 use Rattle.rules.specs.Requests.{comesTo, says}
 use Rattle.visits.proofs.settle.Statement.{statement}
 use Rattle.visits.proofs.settle.Tie as tie
@@ -21,13 +20,16 @@ returns c = rw (c .before .step .given .1)
 same-length : tie.Need-same-length
 same-length c = search needs
 
+same-length-2 : tie.Need-same-length-2
+same-length-2 c = search needs
+
 returns-2 : tie.Need-returns-2
 returns-2 c =
-    let w = c .before .before in
-    let k = w .before .before .before in
-    rw (k .step2 .given .1) (ap (λ (t : List ℕ). comesTo (says (k .before .before .before .args .success)) t) (w .store .ensures))
+    let w = c .before .before .before .before in
+    let k = w .before .before .before .before in
+    rw (k .step2 .given .1) (ap (λ (s : State). comesTo (says (k .before .before .before .before .args .success)) s) (w .store .ensures))
 
 pub settle-spec : {M : Type 1} → statement M
 settle-spec =
     tie.close
-    (tie.spec enum-known-step enum-known-step-2 store-requires returns same-length returns-2)
+    (tie.spec enum-known-step enum-known-step-2 store-requires returns same-length same-length-2 returns-2)

@@ -5,10 +5,10 @@ use Rattle.walks.proofs.request_crew.Statement.{statement}
 use Rattle.walks.proofs.request_crew.Tie as tie
 
 abbrev past : tie.After-crew-number → tie.After-walk
-past c = c .before .before .before
+past c = c .before .before .before .before .before
 
 abbrev start : tie.After-walk → tie.Start
-start c = c .before .before .before .before .before
+start c = c .before .before .before .before .before .before .before
 
 walk-requires : tie.Need-walk-requires
 walk-requires c κs = search needs
@@ -34,6 +34,9 @@ same-length c = search needs
 same-length-2 : tie.Need-same-length-2
 same-length-2 c = search needs
 
+same-length-3 : tie.Need-same-length-3
+same-length-3 c = search needs
+
 returns : tie.Need-returns
 returns c =
     let q = c .before .before in
@@ -44,4 +47,4 @@ returns c =
 pub request-crew-spec : {M : Type 1} → statement M
 request-crew-spec =
     tie.close
-    (tie.spec walk-requires crew-number-requires answer-requires same-length same-length-2 returns)
+    (tie.spec walk-requires crew-number-requires answer-requires same-length same-length-2 same-length-3 returns)

@@ -8,7 +8,7 @@ use denote.Ref.{now}
 use borrow.Author.Needs.{needs}
 use Rattle.crews.specs.Crews.{codesIn}
 use Rattle.crews.proofs.Reading.{pair}
-use Rattle.tables.specs.Tables.{tableSound}
+use Rattle.states.specs.States.{beside, stateSound}
 use Rattle.rules.specs.Crews.{Walk, setOut, walked}
 use Rattle.rules.specs.Singles.{plainly}
 use Rattle.walks.specs.Tallies.{stepsCounted, Tallies}
@@ -17,17 +17,17 @@ use Rattle.walks.proofs.walk.Statement.{statement}
 use Rattle.walks.proofs.walk.Tie as tie
 
 abbrev Inv-loop : tie.InvT-loop
-Inv-loop table₀ requester operation lead digits tally₀ n i₀ table tally i =
-    (i ≤ n) × (length table ≡ length table₀) × (tableSound table ≡ true) × (stepsCounted tally ≡ i + 1)
-    × ((first : Walk) → Tallies tally₀ table₀ first
-    → (w : Walk) × Tallies tally table w
+Inv-loop table₀ figures₀ requester operation lead digits tally₀ n i₀ table figures tally i =
+    (i ≤ n) × (length table ≡ length table₀) × (length figures ≡ length figures₀) × (stateSound (beside table figures) ≡ true) × (stepsCounted tally ≡ i + 1)
+    × ((first : Walk) → Tallies tally₀ (beside table₀ figures₀) first
+    → (w : Walk) × Tallies tally (beside table figures) w
     × (walked requester (plainly operation lead) (codesIn (drop (2 * i) digits)) w ≡ walked requester (plainly operation lead) (codesIn digits) first))
 
 abbrev μ-loop : tie.MeasureT-loop
-μ-loop table₀ requester operation lead digits tally₀ n i₀ table tally i = n - i
+μ-loop table₀ figures₀ requester operation lead digits tally₀ n i₀ table figures tally i = n - i
 
 abbrev start : tie.At-loop Inv-loop μ-loop → tie.Start Inv-loop μ-loop
-start c = c .before .before .before .before .before .before .before .before .before
+start c = c .before .before .before .before .before .before .before .before .before .before .before .before .before
 
 -- a code has two digits
 small : (c : tie.After-code-at Inv-loop μ-loop) → c .code-at .result < 100
@@ -44,64 +44,68 @@ no-codes-requires-2 c κs = search needs
 
 step-on-requires : tie.Need-step-on-requires Inv-loop μ-loop
 step-on-requires c κs =
-    let n = c .before in
-    let s = n .before .before .before .before in
+    let n = c .before .before in
+    let s = n .before .before .before .before .before in
     (s .pre .0, (s .pre .1 .0, omega arith, omega (arith, n .before .no-codes .ensures .count, n .no-codes2 .ensures .count)))
 
 loop-holds : tie.Need-loop-holds Inv-loop μ-loop
 loop-holds c =
-    let q = c .before .before in
-    let n = q .before .before in
-    (omega arith, refl, q .step-on .ensures .0, omega (arith, q .step-on .ensures .1, n .before .no-codes .ensures .count, n .no-codes2 .ensures .count), λ first stands. (first, stands, refl))
+    let q = c .before .before .before .before in
+    let n = q .before .before .before in
+    (omega arith, refl, refl, q .step-on .ensures .0, omega (arith, q .step-on .ensures .1, n .before .no-codes .ensures .count, n .no-codes2 .ensures .count), λ first stands. (first, stands, refl))
 
 code-at-requires : tie.Need-code-at-requires Inv-loop μ-loop
 code-at-requires c κs = let s = start (c .before) in (s .pre .1 .1, omega arith)
 
 step-on-requires-2 : tie.Need-step-on-requires-2 Inv-loop μ-loop
 step-on-requires-2 c κs =
-    let a = c .before in
+    let a = c .before .before in
     let l = a .before .before in
     let s = start l in (
-      (l .loop .inv .2, s .pre .0 .1, s .pre .0 .2),
-      (s .pre .1 .0, small a, omega (arith, s .pre .1 .2, l .loop .inv .3)),
+      (l .loop .inv .3, s .pre .0 .1, s .pre .0 .2),
+      (s .pre .1 .0, small a, omega (arith, s .pre .1 .2, l .loop .inv .4)),
     )
 
 add-i : tie.Need-add-i Inv-loop μ-loop
-add-i c = omega (arith, start (c .before .before .before .before .before .before) .pre .1 .2)
+add-i c = omega (arith, start (c .before .before .before .before .before .before .before .before .before) .pre .1 .2)
 
 loop-less : tie.Need-loop-less Inv-loop μ-loop
 loop-less c = omega arith
 
 loop-again : tie.Need-loop-again Inv-loop μ-loop
 loop-again c =
-    let q = c .before .before in
-    let a = q .before .before in
+    let q = c .before .before .before .before in
+    let a = q .before .before .before in
     let l = a .before .before in
     let s = start l in
     let done = q .step-on2 .ensures in (
       omega arith,
       omega arith,
+      omega arith,
       done .0,
-      omega (arith, done .1, l .loop .inv .3),
+      omega (arith, done .1, l .loop .inv .4),
       λ first stands.
-          let (w, t, e) = l .loop .inv .4 first stands in
+          let (w, t, e) = l .loop .inv .5 first stands in
           (_, done .2 w t, walk-on (s .args .requester) (s .args .operation) (s .args .lead) (now (s .args .digits)) (l .loop .i) w (a .code-at .result) (omega arith) (a .code-at .ensures) ∙ e),
     )
 
 same-length : tie.Need-same-length Inv-loop μ-loop
 same-length c = search needs
 
+same-length-2 : tie.Need-same-length-2 Inv-loop μ-loop
+same-length-2 c = search needs
+
 returns : tie.Need-returns Inv-loop μ-loop
 returns c =
     let l = c .before in
-    let q = l .before .before .before in
+    let q = l .before .before .before .before .before in
     let s = start l in
     let a = s .args in
-    let n = q .before .before in
-    let none : Tallies (record { successes = n .before .no-codes .result; failures = n .no-codes2 .result }) (now (a .table)) (setOut (now (a .table))) = record { successes = n .before .no-codes .ensures; failures = n .no-codes2 .ensures; left = refl } in
-    let (w, t, e) = l .loop .inv .4 _ (q .step-on .ensures .2 (setOut (now (a .table))) none) in (
-      omega (arith, l .loop .inv .3, s .pre .1 .2),
-      rw (walk-starts (a .requester) (a .operation) (a .lead) (codesIn (now (a .digits))) (setOut (now (a .table))), ← e, walk-ends (a .requester) (a .operation) (a .lead) (now (a .digits)) (l .loop .i) w (omega arith)) t,
+    let n = q .before .before .before in
+    let none : Tallies (record { successes = n .before .no-codes .result; failures = n .no-codes2 .result }) (beside (now (a .table)) (now (a .figures))) (setOut (beside (now (a .table)) (now (a .figures)))) = record { successes = n .before .no-codes .ensures; failures = n .no-codes2 .ensures; left = refl } in
+    let (w, t, e) = l .loop .inv .5 _ (q .step-on .ensures .2 (setOut (beside (now (a .table)) (now (a .figures)))) none) in (
+      omega (arith, l .loop .inv .4, s .pre .1 .2),
+      rw (walk-starts (a .requester) (a .operation) (a .lead) (codesIn (now (a .digits))) (setOut (beside (now (a .table)) (now (a .figures)))), ← e, walk-ends (a .requester) (a .operation) (a .lead) (now (a .digits)) (l .loop .i) w (omega arith)) t,
     )
 
 pub walk-spec : {M : Type 1} → statement M
@@ -120,4 +124,5 @@ walk-spec =
     loop-less
     loop-again
     same-length
+    same-length-2
     returns)

@@ -60,7 +60,7 @@ fn count(output: &[u8], counts: &mut BTreeMap<String, u64>) {
         let end = line.find([',', '[', '\'']).unwrap_or(line.len());
         let kind: String = line[..end].trim_end().into();
         let kind = match kind.split_once(' ') {
-            Some((kind @ ("due" | "sent"), _)) => kind.into(),
+            Some((kind @ ("due" | "sent" | "recounted"), _)) => kind.into(),
             // Of a reading, what it says last: a string, an error or a problem.
             Some(("first", _)) => match line.rsplit_once(", ") {
                 Some((_, last)) if last.ends_with("octets") => "read".into(),

@@ -40,6 +40,7 @@ impl Generator {
     pub fn framed(&mut self) -> Call {
         let Call::Request {
             table,
+            figures,
             list,
             requester,
             scheme,
@@ -51,6 +52,7 @@ impl Generator {
         };
         Call::FramedRequest {
             table,
+            figures,
             list,
             frame: self.buffer_around(120),
             requester,

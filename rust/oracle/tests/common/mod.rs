@@ -4,7 +4,7 @@
 // Each test file is built by itself and uses a part of this.
 #![allow(dead_code)]
 
-use oracle::{number_from_digits, pack, request, unpack, Answer, Released};
+use oracle::{number_from_digits, pack, recount, unpack, Answer, Released};
 
 /// F, the functional number of the examples.
 pub const F: u64 = 10_492_123_401;
@@ -40,6 +40,53 @@ pub fn unpacked(octets: &[u8]) -> String {
     let count = unpack(octets, &mut out).unwrap();
     out.truncate(count);
     String::from_utf8(out).unwrap()
+}
+
+/// Makes a call with the figures of the table, zeros of an unsound one. Checks
+/// that they are those of the table afterwards.
+fn with_figures(table: &mut [u64], call: impl FnOnce(&mut [u64], &mut [u64]) -> Answer) -> Answer {
+    let mut figures = recount(table).unwrap_or_default();
+    let answer = call(table, &mut figures);
+    assert_eq!(figures, recount(table).unwrap_or_default());
+    answer
+}
+
+/// The calls, with the right figures.
+pub fn request(
+    table: &mut [u64],
+    list: &[u64],
+    reply: &mut [u8],
+    requester: u64,
+    scheme: u8,
+    string: &[u8],
+) -> Answer {
+    with_figures(table, |table, figures| {
+        oracle::request(table, figures, list, reply, requester, scheme, string)
+    })
+}
+
+pub fn framed_request(
+    table: &mut [u64],
+    list: &[u64],
+    frame: &mut [u8],
+    requester: u64,
+    message: &[u8],
+) -> Answer {
+    with_figures(table, |table, figures| {
+        oracle::framed_request(table, figures, list, frame, requester, message)
+    })
+}
+
+pub fn sending(table: &mut [u64], buffer: &mut [u8], number: u64, delay: u32, now: u32) -> Answer {
+    with_figures(table, |table, figures| {
+        oracle::sending(table, figures, buffer, number, delay, now)
+    })
+}
+
+pub fn result(table: &mut [u64], number: u64, kind: u32, now: u32) -> Answer {
+    with_figures(table, |table, figures| {
+        oracle::result(table, figures, number, kind, now)
+    })
 }
 
 /// Makes a request with a good buffer and scheme and returns the reply text,
