@@ -1,6 +1,6 @@
 -- Demand 1 holds of every call, over any words and octets: each check's answer and what is done where none holds. Assumes nothing.
 use mathlib.Core.Path.{_≡_, refl, sym, ap, _∙_}
-use mathlib.Core.Bool.{Bool, true, false, cond, _||_}
+use mathlib.Core.Bool.{Bool, true, false, _||_}
 use mathlib.Core.Option.{none, some}
 use mathlib.Core.List.{List, [], map}
 use Prim.Native.Nat.{ℕ}
@@ -20,7 +20,7 @@ use Rattle.tables.specs.declared.Found.the-variants.{At, Nothing}
 use Rattle.tables.specs.Tables.{tableSound, flagsOf}
 use Rattle.tables.proofs.Stored.{record-found}
 use Rattle.states.specs.States.{State, figuresRight, stateSound, rowFor, recordFor, recordIn, storedIn}
-use Rattle.rules.specs.Answers.{Answer, delivered, dropped, again as sendAgain, Outcome, isNegativeNumber, interrogationNumber, crewRegistered, crewErased, refusing}
+use Rattle.rules.specs.Answers.{Answer, Outcome, isNegativeNumber, interrogationNumber, crewRegistered, crewErased, refusing}
 use Rattle.rules.specs.Requests as requests
 use Rattle.rules.specs.Frames.{ownReply}
 use Rattle.rules.specs.Requests.{Verdict, says, tells, Stepping}

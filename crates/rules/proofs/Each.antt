@@ -18,7 +18,7 @@ use Rattle.records.specs.declared.Notice.{Notice}
 use Rattle.tables.specs.declared.Found.{Found}
 use Rattle.tables.specs.declared.Found.the-variants.{At, Nothing}
 use Rattle.tables.specs.Tables.{tableSound, flagsOf}
-use Rattle.states.specs.States.{State, figuresRight, stateSound, rowFor, recordFor}
+use Rattle.states.specs.States.{State, figuresRight, rowFor, recordFor}
 use Rattle.rules.specs.Answers.{Answer, refusal, error, delivered, dropped, again, Outcome, made, isNegativeNumber, refusing}
 use Rattle.rules.specs.Requests.{saying, refusalChecks, rightChecks, stepChecks, Stepping, tells, staying, carriedOut, carriedOutAt, step, negative, answered, replying, once, askingBy, requestingBy}
 use Rattle.rules.specs.Crews.{crewCodes, crewNumber, Walk, walked, setOut, crewOutcome, carriedOutFor, requesting}

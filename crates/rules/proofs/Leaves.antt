@@ -1,11 +1,10 @@
 -- What each answer that a call can get says of the memory that it was lent: demand 1, answer by answer. Assumes nothing.
 use mathlib.Core.Path.{_≡_, refl, sym, _∙_}
-use mathlib.Core.Bool.{Bool, true, false, cond, _||_}
+use mathlib.Core.Bool.{true, false, _||_}
 use mathlib.Core.Option.{Option, none, some}
 use mathlib.Core.List.{List, []}
 use Prim.Native.Nat.{ℕ}
 use lib.ListN.{take}
-use lib.Dec.{eqb}
 use Rattle.answers.proofs.Tests.{no-path, and-left, or-neither}
 use Rattle.answers.proofs.Decide.{decide-each}
 use Rattle.answers.specs.Writing.{over}
@@ -22,8 +21,8 @@ use Rattle.frames.specs.Messages as messages
 use Rattle.tables.specs.declared.Found.{Found}
 use Rattle.tables.specs.declared.Found.the-variants.{At, Nothing}
 use Rattle.tables.specs.Tables.{tableSound}
-use Rattle.states.specs.States.{State, figuresRight, stateSound, rowFor, recordFor, recordIn, storedIn}
-use Rattle.rules.specs.Answers.{Answer, refusal, error, outcome, holderIs, returnError, reject, delivered, dropped, again as sendAgain, Outcome, made, outcomeClass, numbersOf, isOf, isRefusal, isError, isReturnError, isReject, isNegativeNumber, isNegative, crewRegistered, crewErased, packedOver, octetCount, refusing}
+use Rattle.states.specs.States.{State, figuresRight, rowFor, recordFor, recordIn, storedIn}
+use Rattle.rules.specs.Answers.{Answer, refusal, error, outcome, holderIs, returnError, reject, Outcome, made, outcomeClass, numbersOf, isOf, isRefusal, isError, isReturnError, isReject, isNegativeNumber, isNegative, crewRegistered, crewErased, packedOver, octetCount, refusing}
 use Rattle.rules.specs.Crews.{crewNumber, requesting}
 use Rattle.rules.specs.Frames.{framedChecks, inFrame, ownReply, bodied, registered, framedRequest}
 use Rattle.rules.specs.Notices as notices

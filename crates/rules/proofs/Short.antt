@@ -16,7 +16,7 @@ use Rattle.frames.specs.Components as components
 use Rattle.frames.specs.Messages.{Register, registerOf, release, inverted}
 use Rattle.frames.proofs.Lengths.{release-length, result-length, error-length, reject-length}
 use Rattle.tables.specs.Tables.{tableSound}
-use Rattle.states.specs.States.{State, figuresRight, stateSound}
+use Rattle.states.specs.States.{State, figuresRight}
 use Rattle.rules.specs.Answers.{Answer, refusal, error, outcome, holderIs, returnError, reject, sentTo, delivered, dropped, again, found, noneDue, numbersOf, Outcome, mostReplyOctets, holderText, octetCount, refusing}
 use Rattle.rules.specs.Crews.{crewNumber, crewReply, requesting}
 use Rattle.rules.specs.Frames.{framedChecks, answeredIn, ownReply, bodied, registered, framedRequest}

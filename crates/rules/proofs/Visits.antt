@@ -40,7 +40,7 @@ use Rattle.tables.specs.declared.Found.the-variants.{At, Nothing}
 use Rattle.tables.specs.Tables.{recordOf, flagsOf}
 use Rattle.tables.proofs.Sound.{table-row}
 use Rattle.tables.proofs.Stored.{row-found}
-use Rattle.states.specs.States.{State, stateSound, rowFor, recordWhere, recordFor, recordIn, storedIn}
+use Rattle.states.specs.States.{State, stateSound, rowFor, recordWhere, recordIn, storedIn}
 use Rattle.states.proofs.States.{state-table, state-right, stored-back}
 use Rattle.rules.specs.Answers.{Answer, refusal, error, delivered, dropped, again, Outcome, made, bufferRoom, refusing}
 use Rattle.rules.specs.Requests as requests

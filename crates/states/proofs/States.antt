@@ -2,13 +2,12 @@
 use mathlib.Core.Path.{_≡_, refl, sym, ap, _∙_}
 use mathlib.Core.Bool.{Bool, true, false, not, _&&_}
 use mathlib.Core.List.{List, [], _∷_}
-use Prim.Native.Nat.{ℕ, zero, suc, _+_, _-_, _^_, _≤_, _<_}
+use Prim.Native.Nat.{ℕ, zero, suc, _+_, _-_, _≤_, _<_}
 use native.Mathlib.Omega.{arith}
 use lib.ListN.{length}
-use lib.Dec.{eqb}
-use borrow.Author.Tests.{eq-eqb, eqb-true}
+use borrow.Author.Tests.{eq-eqb}
 use Rattle.answers.specs.Checks.{decide}
-use Rattle.answers.proofs.Tests.{no-path, and-left, and-right, and-both}
+use Rattle.answers.proofs.Tests.{and-left, and-right, and-both}
 use Rattle.records.specs.declared.Record.{Record}
 use Rattle.records.specs.Steps.{isNobody, isWaiting, isInFlight}
 use Rattle.rows.specs.Rows.{rowSound, recordAt, stored, recordSound}

@@ -2,7 +2,7 @@
 use mathlib.Core.Path.{_≡_, sym, ap, _∙_}
 use mathlib.Core.Bool.{true}
 use mathlib.Core.List.{List, [], _∷_, _++_, append-nil}
-use Prim.Native.Nat.{ℕ, _+_, _/_, _%_, _≤_, _<_}
+use Prim.Native.Nat.{ℕ, _+_, _≤_}
 use native.Mathlib.Omega.{arith}
 use mathlib.Core.Logic.{⊎-elim}
 use denote.Enum.Declared.{tagOf}
@@ -10,14 +10,13 @@ use types.Run.{OneOf}
 use lib.ListN.{length, take}
 use lib.Seq.{take-append-add, take-at}
 use native.Mathlib.Nat.{add-comm}
-use borrow.Author.Tests.{lt-ltb, ne-eqb}
 use Rattle.answers.specs.Leading.{each}
 use Rattle.answers.proofs.Leading.{each-implies}
 use Rattle.answers.proofs.Written.{the-type}
 use Rattle.answers.specs.declared.Written.{Written}
 use Rattle.answers.specs.declared.Written.the-variants.{Count}
 use Rattle.packing.specs.Packing.{taken, takes, octetsFor}
-use Rattle.numbers.specs.Numbers.{isDigit, isNumber, digitsOf, twoDigits}
+use Rattle.numbers.specs.Numbers.{isDigit, isNumber, digitsOf}
 use Rattle.numbers.proofs.Digits.{digit-range, digits-are, digits-most}
 use Rattle.rules.specs.Answers.{holderText, bufferRoom}
 use Rattle.rules.proofs.Taken.{taken-low}

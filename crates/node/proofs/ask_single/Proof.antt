@@ -1,7 +1,5 @@
 -- `node::ask_single` meets its contract: the row's record decides, or there is none. Assumes nothing.
 use mathlib.Core.Path.{_≡_, sym, _∙_}
-use mathlib.Core.List.{List}
-use Prim.Native.Nat.{ℕ}
 use denote.Ref.{now}
 use borrow.Author.Needs.{needs}
 use Rattle.tables.specs.declared.Found.the-variants.{At}

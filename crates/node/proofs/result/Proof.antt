@@ -1,9 +1,7 @@
 use mathlib.Core.Path.{_≡_, sym, _∙_}
 use mathlib.Core.Bool.{true}
-use mathlib.Core.List.{List}
-use Prim.Native.Nat.{ℕ}
 use denote.Ref.{now}
-use borrow.Author.Tests.{not-true, not-false}
+use borrow.Author.Tests.{not-true}
 use Rattle.tables.specs.declared.Found.the-variants.{At}
 use Rattle.tables.proofs.Stored.{row-found}
 use Rattle.states.specs.States.{State, beside, stateSound, rowFor}

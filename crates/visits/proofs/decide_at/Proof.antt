@@ -1,4 +1,4 @@
-use mathlib.Core.Path.{sym, ap, _∙_}
+use mathlib.Core.Path.{ap, _∙_}
 use mathlib.Core.List.{List}
 use Prim.Native.Nat.{ℕ}
 use borrow.Author.Needs.{needs}
@@ -6,7 +6,6 @@ use denote.Ref.{now}
 use Rattle.records.specs.declared.Record.{Record}
 use Rattle.records.specs.declared.Step.{Step}
 use Rattle.records.specs.Steps.{registered, interrogated}
-use Rattle.rows.specs.Rows.{recordAt}
 use Rattle.rows.proofs.Rows.{record-sound}
 use Rattle.states.specs.States.{State, beside}
 use Rattle.states.proofs.States.{state-row}

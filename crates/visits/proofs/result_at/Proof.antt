@@ -1,5 +1,4 @@
 use mathlib.Core.Path.{_≡_, sym, ap, _∙_}
-use Prim.Native.Nat.{ℕ}
 use denote.Ref.{now}
 use Rattle.records.specs.declared.Resulted.{Resulted}
 use Rattle.records.specs.Steps.{resulted}

@@ -1,6 +1,6 @@
 -- `walks::step` meets its contract: the row's record decides, or there is none. Assumes nothing.
 use mathlib.Core.Path.{_≡_, sym, _∙_}
-use Prim.Native.Nat.{ℕ, _<_}
+use Prim.Native.Nat.{_<_}
 use denote.Ref.{now}
 use borrow.Author.Needs.{needs}
 use Rattle.tables.specs.Tables.{rowsIn}
