@@ -46,7 +46,7 @@ static const uint64_t A = 14915100001, B = 14915100002, C = 14915100003, F = 104
 static const uint64_t LIST[6] = {14915100001, 1, 14915100002, 3, 14915100003, 0};
 
 /* What no function writes here: it shows which octets stayed. */
-enum { UNTOUCHED = 0xEE, ROOM = 200 };
+enum { UNTOUCHED = 0xEE, ROOM = 200, MOST_CHARS = 160 };
 
 static uint8_t reply[ROOM];
 static uint64_t table[6], figures[3];
@@ -151,6 +151,48 @@ static void packing(void)
     HOLDS(is(ffn_unpack((const uint8_t *)"\x31\xD9\x8C\x56\xB3\xDD\x1A", 7, out, 7), FFN_REFUSAL, 1, 0, 0)); /* room before any drop */
     HOLDS(untouched(out, 0, sizeof out));
     HOLDS(is(ffn_pack(out, 0, out + 1, 0), FFN_WRITTEN, 0, 0, 0));
+}
+
+/* n characters, packed bit by bit into an output that was 0. */
+static void pack_bits(const uint8_t *chars, size_t n, uint8_t *out)
+{
+    for (size_t bit = 0; bit < 7 * n; bit++)
+        out[bit / 8] |= (uint8_t)((chars[bit / 7] >> bit % 7 & 1) << bit % 8);
+    if (n % 8 == 7)
+        out[n - n / 8 - 1] |= '\r' << 1;
+}
+
+/* n characters are packed as bit by bit, into an output just as long, and read back. */
+static int as_by_bits(size_t n)
+{
+    uint8_t chars[MOST_CHARS], bits[MOST_CHARS] = {0}, out[MOST_CHARS + 1], back[MOST_CHARS + 1];
+    const size_t count = (7 * n + 7) / 8, room = 8 * count / 7;
+    for (size_t i = 0; i < n; i++)
+        chars[i] = (uint8_t)((37 * i + 11 * n) % 128 == '\r' ? 127 : (37 * i + 11 * n) % 128);
+    pack_bits(chars, n, bits);
+    memset(out, UNTOUCHED, sizeof out);
+    memset(back, UNTOUCHED, sizeof back);
+    return is(ffn_pack(chars, n, out, count), FFN_WRITTEN, 0, count, 0) && memcmp(out, bits, count) == 0
+        && untouched(out, count, sizeof out)
+        && is(ffn_unpack(out, count, back, room), FFN_WRITTEN, 0, n, 0) && memcmp(back, chars, n) == 0
+        && untouched(back, n, sizeof back);
+}
+
+/* A character behind the first group is not taken: refused before anything is stored. */
+static int refused_whole(size_t n)
+{
+    uint8_t chars[MOST_CHARS], out[MOST_CHARS];
+    memset(chars, '1', sizeof chars);
+    chars[n - 1] = '\r';
+    memset(out, UNTOUCHED, sizeof out);
+    return is(ffn_pack(chars, n, out, sizeof out), FFN_REFUSAL, 9, 0, 0) && untouched(out, 0, sizeof out);
+}
+
+static void groups(void)
+{
+    for (size_t n = 0; n <= MOST_CHARS; n++)
+        HOLDS(as_by_bits(n));
+    HOLDS(refused_whole(9) && refused_whole(16) && refused_whole(MOST_CHARS));
 }
 
 static void requests(void)
@@ -563,6 +605,7 @@ static void releases(void)
 int main(void)
 {
     packing();
+    groups();
     requests();
     request_checks();
     notices();

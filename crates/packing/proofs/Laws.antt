@@ -3,19 +3,19 @@ use mathlib.Core.Path.{_≡_, refl, sym, ap, _∙_}
 use mathlib.Core.Logic.{_⊎_, inl, inr}
 use mathlib.Core.Bool.{Bool, true, false, not, _&&_, and-assoc, and-true}
 use Prim.Native.Nat.{ℕ, zero, suc, _+_, _-_, _*_, _/_, _%_, _^_, _≤_, _<_}
-use native.Mathlib.Nat.{mul-zero, add-zero, zero-div, mul-add-mod-self-left, mod-eq-of-lt, div-div-eq-div-mul, zero-lt-suc}
+use native.Mathlib.Nat.{mul-zero, add-zero, zero-div, mod-eq-of-lt, div-div-eq-div-mul, zero-lt-suc}
 use native.Mathlib.Numerals.{add-one}
 use native.Mathlib.Omega.{arith}
-use mathlib.Core.List.{List, [], _∷_, _++_}
-use lib.ListN.{length, drop, getD, List·getD-append, drop-of-length-le}
-use lib.Seq.{drop-cons, drop-append-seam}
+use mathlib.Core.List.{List, [], _∷_}
+use lib.ListN.{length, take, drop, getD, drop-of-length-le}
+use lib.Seq.{drop-cons}
 use lib.Pow.{pow-add}
 use lib.Dec.{ltb, eqb}
-use borrow.Author.Tests.{lt-ltb, eq-eqb, ne-eqb, ltb-true}
+use borrow.Author.Tests.{lt-ltb, ne-eqb, ltb-true}
 use Rattle.answers.specs.Leading.{each}
 use Rattle.answers.proofs.Tests.{and-left, and-right, no-path, same-or-not}
 use Rattle.packing.specs.Packing.{valueOf, digits, octetsFor, charsIn, taken, takes, return-if, padded, packed, characters, readable, filled, kept-if, kept, unpacked}
-use Rattle.packing.proofs.Digits.{Below, pow-mul, number-head, number-drop, length-digits, getD-digits, take-digits}
+use Rattle.packing.proofs.Digits.{Below, Below-one, Below-append, pow-mul, number-head, number-drop, length-digits, getD-digits, take-digits}
 
 -- ---- counts and lengths
 
@@ -80,45 +80,22 @@ takes-below [] e (suc k) = omega arith
 takes-below (c ∷ cs) e zero = ltb-true c 128 (and-left (ltb c 128) (not (eqb c 13)) (and-left (taken c) (takes cs) e))
 takes-below (c ∷ cs) e (suc k) = takes-below cs (and-right (taken c) (takes cs) e) k
 
+pub takes-take : (k : ℕ) (cs : List ℕ) → takes cs ≡ true → takes (take k cs) ≡ true
+unfolding each
+takes-take zero cs e = refl
+takes-take (suc k) [] e = e
+takes-take (suc k) (c ∷ cs) e = rw (and-left (taken c) (takes cs) e, takes-take k cs (and-right (taken c) (takes cs) e))
+
 -- ---- the carriage return behind the characters
 
-Below-append : (b : ℕ) (xs ys : List ℕ) → Below b xs → Below b ys → Below b (xs ++ ys)
-Below-append b [] ys h g k = g k
-Below-append b (x ∷ xs) ys h g zero = h 0
-Below-append b (x ∷ xs) ys h g (suc k) = Below-append b xs ys (λ i. h (suc i)) g k
-
 return-below : (t : Bool) → Below 128 (return-if t)
-return-below true zero = omega arith
-return-below true (suc zero) = omega arith
-return-below true (suc (suc k)) = omega arith
+return-below true k = Below-one 128 13 (omega arith) k
 return-below false zero = omega arith
 return-below false (suc k) = omega arith
 
 pub padded-below : (cs : List ℕ) → takes cs ≡ true → Below 128 (padded cs)
 unfolding padded
 padded-below cs e = Below-append 128 cs (return-if (eqb (length cs % 8) 7)) (takes-below cs e) (return-below (eqb (length cs % 8) 7))
-
-pub padded-at : (cs : List ℕ) (i : ℕ) → i < length cs → getD cs i 0 ≡ getD (padded cs) i 0
-unfolding padded
-padded-at cs i h = sym (List·getD-append cs (return-if (eqb (length cs % 8) 7)) 0 i h)
-
--- behind the last character stands a carriage return where one bit of an octet is used,
-pub above-return : (cs : List ℕ) (j : ℕ) → 7 * length cs ≡ 8 * j + 1 → valueOf 128 (drop (length cs) (padded cs)) ≡ 13
-unfolding padded valueOf
-above-return cs j e =
-    let more : j < length cs = omega arith in
-    let whole : length cs ≡ 8 * (length cs - (j + 1)) + 7 = omega arith in
-    let seven : length cs % 8 ≡ 7 = ap (λ (n : ℕ). n % 8) whole ∙ mul-add-mod-self-left 8 (length cs - (j + 1)) 7 in
-    rw (drop-append-seam cs (return-if (eqb (length cs % 8) 7)), eq-eqb (length cs % 8) 7 seven)
-
--- and nothing where another number is
-pub above-none : (cs : List ℕ) (j bits : ℕ) → 7 * length cs ≡ 8 * j + bits → bits < 8 → (bits ≡ 1 → ⊥) → valueOf 128 (drop (length cs) (padded cs)) ≡ 0
-unfolding padded valueOf
-above-none cs j bits e h f =
-    rw (drop-append-seam cs (return-if (eqb (length cs % 8) 7)), ne-eqb (length cs % 8) 7 (λ s. f (one (length cs / 8) (omega arith))))
-  where
-    one : (q : ℕ) → length cs ≡ 8 * q + 7 → bits ≡ 1
-    one q w = let place : j ≡ 7 * q + 6 = omega arith in omega arith
 
 -- ---- what the last octet tells
 

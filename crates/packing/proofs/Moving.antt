@@ -1,16 +1,16 @@
--- Digits moved from one base to another through a few held bits, as both writers do it. Assumes nothing.
-use mathlib.Core.Path.{_≡_, refl, sym, ap, _∙_}
-use Prim.Native.Nat.{ℕ, suc, _+_, _-_, _*_, _/_, _%_, _^_, _≤_, _<_}
+-- Digits moved from one base to another through a few held bits, as the unpacker does it. Assumes nothing.
+use mathlib.Core.Path.{_≡_, refl, sym, _∙_}
+use Prim.Native.Nat.{ℕ, _+_, _-_, _*_, _/_, _%_, _^_, _≤_, _<_}
 use native.Mathlib.Nat.{mul-zero, zero-add, mul-suc, mul-comm, mul-assoc, mul-add, pow-zero, pow-suc, div-one, div-div-eq-div-mul, add-mul-div-left, add-mul-mod-self-left, one-mul}
 use native.Mathlib.Numerals.{add-one}
 use native.Mathlib.Omega.{arith}
 use mathlib.Core.List.{List, _++_}
 use lib.ListN.{length, drop, getD, set, length-set}
-use lib.Seq.{drop-cons, set-at, append-snoc}
 use lib.Arith.{digits-lt}
 use lib.Pow.{pow-add, pow-pos, shl-exact, shr-lt}
 use Rattle.packing.specs.Packing.{valueOf, digits}
-use Rattle.packing.proofs.Digits.{number-head, length-digits, digits-snoc}
+use Rattle.packing.proofs.Digits.{number-head}
+use Rattle.packing.proofs.Groups.{one-more}
 
 -- `new` was `old`: of ds, digits to the base 2 ^ a, the first i are read, j digits to the base 2 ^ b are written, and the bits between are held
 pub record Moved (a b : ℕ) (ds old new : List ℕ) (i j held bits : ℕ) : Type 0 where
@@ -23,16 +23,6 @@ pub record Moved (a b : ℕ) (ds old new : List ℕ) (i j held bits : ℕ) : Typ
 pub nothing-moved : (a b : ℕ) (ds old : List ℕ) → Moved a b ds old old 0 0 0 0
 unfolding digits
 nothing-moved a b ds old = record { place = simp mul-zero; small = omega arith; rest = simp (pow-zero, div-one, one-mul, zero-add); done = refl; room = refl }
-
--- the digit at j is written behind those before it
-pub one-more :
-    (b n j d : ℕ) (old new : List ℕ) → j < length old → new ≡ digits b j n ++ drop j old → d ≡ n / b ^ j % b
-    → set new j d ≡ digits b (j + 1) n ++ drop (j + 1) old
-one-more b n j d old new h e f =
-    rw (add-one, e, drop-cons old j 0 h, f)
-    (set-at (digits b j n) (getD old j 0) (drop (suc j) old) (n / b ^ j % b) j (length-digits b j n)
-    ∙ sym (append-snoc (digits b j n) (n / b ^ j % b) (drop (suc j) old))
-    ∙ ap (λ (l : List ℕ). l ++ drop (suc j) old) (sym (digits-snoc b j n)))
 
 module _ {a b : ℕ} {ds old new : List ℕ} {i j held bits : ℕ} (m : Moved a b ds old new i j held bits) where
   -- the digit at i is held too, above the other bits

@@ -1,189 +1,186 @@
--- `write_octets` meets its contract: the loop moves the characters, and what it still holds at the end is the last octet. Assumes nothing.
-use mathlib.Core.Path.{_≡_, sym}
+-- `write_octets` meets its contract: the loop moves groups of eight characters, and what is left over is moved at the end. Assumes nothing.
+use mathlib.Core.Path.{_≡_, refl, sym, ap, _∙_}
 use mathlib.Core.Bool.{true}
-use Prim.Native.Nat.{ℕ, _+_, _-_, _*_, _/_, _%_, _^_, _≤_, _<_}
-use native.Mathlib.Nat.{le-antisymm, mod-eq-of-lt, mul-zero, add-zero}
+use mathlib.Core.List.{List, [], _∷_, _++_}
+use Prim.Native.Nat.{ℕ, _+_, _-_, _*_, _%_, _≤_, _<_}
+use native.Mathlib.Nat.{mul-add-mod-self-left, mod-eq-of-lt}
 use native.Mathlib.Omega.{arith}
-use mathlib.Core.List.{List, _++_}
-use lib.ListN.{length, drop, getD, set, length-set}
-use lib.Pow.{pow-mono}
+use lib.ListN.{length, take, drop, length-append, length-drop}
+use lib.Seq.{take-append-le, drop-append-le, length-take-le}
+use lib.Dec.{eqb}
 use borrow.Author.Needs.{needs}
-use Rattle.packing.specs.Packing.{valueOf, octetsFor, takes, padded, packed}
-use Rattle.packing.proofs.Moving.{Moved, nothing-moved, one-more, take-in, put-out}
-use Rattle.packing.proofs.Laws.{takes-below, padded-at, above-return, above-none}
 use Rattle.packing.proofs.write_octets.Statement.{statement}
 use Rattle.packing.proofs.write_octets.Tie as tie
+use Rattle.packing.specs.Packing.{valueOf, digits, octetsFor, taken, takes, return-if, padded, packed}
+use Rattle.answers.proofs.Leading.{each-drop}
+use Rattle.packing.proofs.Digits.{digits-number}
+use Rattle.packing.proofs.Laws.{takes-below, takes-take, padded-below, length-packed}
+use Rattle.packing.proofs.Groups.{Grouped, no-group, one-group, last-group, from, length-from, number-above}
 
 -- what holds at the head of the loop
-record State (cs old new : List ℕ) (i j held bits : ℕ) : Type 0 where
+record Head (cs old new : List ℕ) (i j : ℕ) : Type 0 where
   within : i ≤ length cs
-  few : bits < 8
-  moved : Moved 7 8 (padded cs) old new i j held bits
+  moved : Grouped 7 8 (padded cs) old new i j
+
+module _ (cs : List ℕ) (t : takes cs ≡ true) (i : ℕ) where
+  next-takes : takes (take 8 (drop i cs)) ≡ true
+  next-takes = takes-take 8 (drop i cs) (each-drop taken cs i t)
+
+  -- the number of the next eight characters, to the base 256, has them as its digits
+  next-eight : i + 8 ≤ length cs → (r : ℕ) → r ≡ valueOf 256 (take 8 (take (length cs - i) (drop i cs))) → digits 256 8 r ≡ take 8 (drop i cs)
+  next-eight h r e =
+      let d = take 8 (drop i cs) in
+      let len : length d ≡ 8 = length-take-le 8 (drop i cs) (simp length-drop (omega arith)) in
+      rw (e, from i cs) (ap (λ (k : ℕ). digits 256 k (valueOf 256 d)) (sym len) ∙ digits-number 256 (omega arith) d (λ k. omega (arith, takes-below d next-takes k)))
+
+next-padded : (cs : List ℕ) (i : ℕ) → i + 8 ≤ length cs → take 8 (drop i cs) ≡ take 8 (drop i (padded cs))
+unfolding padded
+next-padded cs i h =
+    let r = return-if (eqb (length cs % 8) 7) in
+    rw (drop-append-le i cs r (omega arith), take-append-le 8 (drop i cs) r (simp length-drop (omega arith)))
+
+-- the number of what is left over, with a carriage return above seven characters
+left-padded : (cs : List ℕ) (i j x : ℕ) → 7 * i ≡ 8 * j → i ≤ length cs → length cs - i < 8 → x ≡ valueOf 128 (return-if (eqb (length cs - i) 7)) → valueOf 128 (drop i cs ++ (x ∷ [])) ≡ valueOf 128 (drop i (padded cs))
+unfolding padded
+left-padded cs i j x p w h e =
+    let eights : length cs ≡ 8 * (i - j) + (length cs - i) = omega arith in
+    let left : length cs % 8 ≡ length cs - i = ap (λ (n : ℕ). n % 8) eights ∙ mul-add-mod-self-left 8 (i - j) (length cs - i) ∙ mod-eq-of-lt h in
+    rw (left, e, drop-append-le i cs (return-if (eqb (length cs - i) 7)) w) (number-above 128 (drop i cs) (return-if (eqb (length cs - i) 7)))
+
+module _ {cs old new : List ℕ} {i j : ℕ} (s : Head cs old new i j) (t : takes cs ≡ true) (o : octetsFor (length cs) ≤ length old) where
+  octets-room : 8 ≤ length cs - i → j + 7 ≤ length old
+  unfolding octetsFor
+  octets-room h = omega (arith, o, s .moved .place)
+
+  count : length cs - i < 8 → octetsFor (length cs) ≡ j + (length cs - i)
+  unfolding octetsFor
+  count h = omega (arith, s .within, s .moved .place)
+
+  -- the seven octets of the next eight characters
+  seven-more :
+      8 ≤ length cs - i → (r h : ℕ) → r ≡ valueOf 256 (take 8 (take (length cs - i) (drop i cs))) → h ≡ valueOf 128 (digits 256 8 r)
+      → (ys : List ℕ) → ys ≡ digits 256 7 h ++ drop 7 (take (length new - j) (drop j new))
+      → Head cs old (take j new ++ (ys ++ drop (length new - j) (drop j new))) (i + 8) (j + 7)
+  seven-more w r h er eh ys put =
+      record {
+        within = omega arith;
+        moved =
+            one-group (s .moved) (padded-below cs t) 7 (octets-room w) (digits 256 7 h) ys put 8 refl
+            (ap (λ (n : ℕ). digits 256 7 n) (eh ∙ ap (λ (xs : List ℕ). valueOf 128 xs) (next-eight cs t i (omega arith) r er ∙ next-padded cs i (omega arith))));
+      }
+
+  -- the octets of what is left over
+  all-written :
+      length cs - i < 8 → (x h : ℕ) → x ≡ valueOf 128 (return-if (eqb (length cs - i) 7)) → h ≡ valueOf 128 (take (length cs - i) (drop i cs) ++ (x ∷ []))
+      → (ys : List ℕ) → ys ≡ digits 256 (length cs - i) h ++ drop (length cs - i) (take (length new - j) (drop j new))
+      → take j new ++ (ys ++ drop (length new - j) (drop j new)) ≡ packed cs ++ drop (octetsFor (length cs)) old
+  unfolding packed
+  all-written w x h ex eh ys put =
+      rw (count w)
+      (last-group (s .moved) (padded-below cs t) (length cs - i) (omega (arith, count w)) (digits 256 (length cs - i) h) ys put
+      (ap (λ (n : ℕ). digits 256 (length cs - i) n) (eh ∙ ap (λ (xs : List ℕ). valueOf 128 (xs ++ (x ∷ []))) (from i cs) ∙ left-padded cs i j x (s .moved .place) (s .within) w ex)))
 
 abbrev Inv-loop : tie.InvT-loop
-Inv-loop chars out₀ held₀ bits₀ i₀ j₀ out held bits i j = State chars out₀ out i j held bits
+Inv-loop chars out₀ n i₀ j₀ out i j = Head chars out₀ out i j
 
 abbrev μ-loop : tie.MeasureT-loop
-μ-loop chars out₀ held₀ bits₀ i₀ j₀ out held bits i j = length chars - i
-
-module _ {cs old new : List ℕ} {i j held bits : ℕ} (s : State cs old new i j held bits) where
-  next-character : takes cs ≡ true → i < length cs → Moved 7 8 (padded cs) old new (i + 1) j (held + getD cs i 0 * 2 ^ bits % 2 ^ 32) (bits + 7)
-  next-character t h = take-in (s .moved) (getD cs i 0) (padded-at cs i h) (takes-below cs t i) (omega arith)
-
-  held-small : held < 128
-  held-small = omega (arith, s .moved .small, pow-mono {i = bits} {j = 7} (omega arith))
-
-  -- where a bit is held, an octet is still to be written
-  octet-room : octetsFor (length cs) ≤ length old → 0 < bits → j < length old
-  unfolding octetsFor
-  octet-room r b = omega (arith, s .moved .place)
-
-  -- at the end, the octet that the held bits make with what is above them
-  module _ (end : length cs ≤ i) where
-    at-end : Moved 7 8 (padded cs) old new (length cs) j held bits
-    at-end = rw (le-antisymm end (s .within)) (s .moved)
-
-    none-held : bits ≤ 0 → new ≡ packed cs ++ drop (octetsFor (length cs)) old
-    unfolding packed octetsFor
-    none-held z =
-        let count : (7 * length cs + 7) / 8 ≡ j = omega (arith, at-end .place) in
-        rw count (at-end .done)
-
-    module _ (room : octetsFor (length cs) ≤ length old) (some : 0 < bits) (d : ℕ) where
-      last-octet :
-          (above : ℕ) → valueOf 128 (drop (length cs) (padded cs)) ≡ above → d ≡ held + 2 ^ bits * above → d < 256
-          → set new j d ≡ packed cs ++ drop (octetsFor (length cs)) old
-      unfolding packed octetsFor
-      last-octet above e f small =
-          let count : (7 * length cs + 7) / 8 ≡ j + 1 = omega (arith, at-end .place) in
-          rw count
-          (one-more 256 (valueOf 128 (padded cs)) j d old new (octet-room room some) (at-end .done)
-          (sym (rw (at-end .rest, e, ← f) (mod-eq-of-lt small))))
-
-      with-return : bits ≡ 1 → d ≡ held + 13 * 2 → set new j d ≡ packed cs ++ drop (octetsFor (length cs)) old
-      with-return e f =
-          last-octet 13 (above-return cs j (omega (arith, at-end .place))) (rw e (omega (arith, f))) (omega (arith, held-small))
-
-      with-zeros : (bits ≡ 1 → ⊥) → d ≡ held → set new j d ≡ packed cs ++ drop (octetsFor (length cs)) old
-      with-zeros n f =
-          last-octet 0 (above-none cs j bits (at-end .place) (s .few) n) (simp (mul-zero, add-zero) f) (omega (arith, held-small))
-
--- ---- the loop
+μ-loop chars out₀ n i₀ j₀ out i j = length chars - i
 
 loop-holds : tie.Need-loop-holds Inv-loop μ-loop
-loop-holds c = record { within = omega arith; few = omega arith; moved = nothing-moved 7 8 _ _ }
+loop-holds c = record { within = omega arith; moved = no-group 7 8 _ _ }
 
-shared-slice-read-held : tie.Need-shared-slice-read-held Inv-loop μ-loop
-shared-slice-read-held c = search needs
+sub-loop : tie.Need-sub-loop Inv-loop μ-loop
+sub-loop c = omega arith
 
-cast-held : tie.Need-cast-held Inv-loop μ-loop
-cast-held c = omega (arith, c .shared-slice-known .given (c .before .before .loop .i))
+sub-eight : tie.Need-sub-eight Inv-loop μ-loop
+sub-eight c = omega arith
 
-shl-held : tie.Need-shl-held Inv-loop μ-loop
-shl-held c = omega arith
+part-eight-start : tie.Need-part-eight-start Inv-loop μ-loop
+part-eight-start c = search needs
 
-add-held : tie.Need-add-held Inv-loop μ-loop
-add-held c =
-    let h = c .before .before in
-    let m = next-character (h .loop .inv) (h .before .pre .0) (c .before .loop-test .taken) in
-    omega (arith, m .small, pow-mono {i = h .loop .bits + 7} {j = 14} (omega arith))
+part-eight-end : tie.Need-part-eight-end Inv-loop μ-loop
+part-eight-end c = search needs
 
-add-bits : tie.Need-add-bits Inv-loop μ-loop
-add-bits c = omega arith
+eight-requires : tie.Need-eight-requires Inv-loop μ-loop
+eight-requires c κs = omega (arith, length-from (c .before .before .loop .i) (c .before .before .before .before .before .args .chars .now))
+
+squeezed-requires : tie.Need-squeezed-requires Inv-loop μ-loop
+squeezed-requires c κs =
+    let h = c .before .before .before in
+    let t = h .before .before .before .pre .0 in
+    rw (next-eight _ t (h .loop .i) (omega arith) (c .eight .result) (c .eight .ensures)) (next-takes _ t (h .loop .i))
+
+sub-store-seven : tie.Need-sub-store-seven Inv-loop μ-loop
+sub-store-seven c = omega arith
+
+part-store-seven-start : tie.Need-part-store-seven-start Inv-loop μ-loop
+part-store-seven-start c = search needs
+
+part-store-seven-end : tie.Need-part-store-seven-end Inv-loop μ-loop
+part-store-seven-end c = search needs
+
+store-seven-requires : tie.Need-store-seven-requires Inv-loop μ-loop
+store-seven-requires c κs =
+    let h = c .before .before .before .before .before in
+    let st = h .before .before .before in
+    omega (arith, length-from (h .loop .j) (h .loop .out), octets-room (h .loop .inv) (st .pre .0) (st .pre .1) (c .before .before .before .before .loop-test .taken), h .loop .inv .moved .room)
 
 add-i : tie.Need-add-i Inv-loop μ-loop
-add-i c = search needs
-
-cast-out : tie.Need-cast-out Inv-loop μ-loop
-cast-out c = search needs
-
-slice-write-out : tie.Need-slice-write-out Inv-loop μ-loop
-slice-write-out c =
-    let h = c .before .before .before in
-    omega (arith, octet-room (h .loop .inv) (h .before .pre .1) (omega arith), h .loop .inv .moved .room)
+add-i c = omega arith
 
 add-j : tie.Need-add-j Inv-loop μ-loop
-add-j c =
-    let h = c .before .before .before in
-    omega (arith, octet-room (h .loop .inv) (h .before .pre .1) (omega arith))
+add-j c = omega arith
 
 loop-less : tie.Need-loop-less Inv-loop μ-loop
 loop-less c = omega arith
 
 loop-again : tie.Need-loop-again Inv-loop μ-loop
 loop-again c =
-    let h = c .before .before .before in
-    let m = next-character (h .loop .inv) (h .before .pre .0) (c .before .before .loop-test .taken) in
-    record {
-      within = omega arith;
-      few = omega arith;
-      moved = put-out m (omega arith) (octet-room (h .loop .inv) (h .before .pre .1) (omega arith));
-    }
+    let h = c .before .before .before .before .before .before .before .before in
+    let st = h .before .before .before in
+    seven-more (h .loop .inv) (st .pre .0) (st .pre .1) (c .before .before .before .before .before .before .before .loop-test .taken) (c .before .before .before .before .before .eight .result) (c .before .before .before .before .squeezed .result) (c .before .before .before .before .before .eight .ensures) (c .before .before .before .before .squeezed .ensures) (c .before .before .store-seven .last .0) (c .before .before .store-seven .ensures)
 
-loop-less-2 : tie.Need-loop-less-2 Inv-loop μ-loop
-loop-less-2 c = omega arith
+sub-left : tie.Need-sub-left Inv-loop μ-loop
+sub-left c = omega arith
 
-loop-again-2 : tie.Need-loop-again-2 Inv-loop μ-loop
-loop-again-2 c =
-    let h = c .before .before .before in
-    record {
-      within = omega arith;
-      few = omega arith;
-      moved = next-character (h .loop .inv) (h .before .pre .0) (c .before .before .loop-test .taken);
-    }
+sub-few : tie.Need-sub-few Inv-loop μ-loop
+sub-few c = omega arith
 
--- ---- one bit is held, and a carriage return
+part-few-start : tie.Need-part-few-start Inv-loop μ-loop
+part-few-start c = search needs
 
-cast-out-2 : tie.Need-cast-out-2 Inv-loop μ-loop
-cast-out-2 c = search needs
+part-few-end : tie.Need-part-few-end Inv-loop μ-loop
+part-few-end c = search needs
 
-mul-out : tie.Need-mul-out Inv-loop μ-loop
-mul-out c = search needs
+filler-requires : tie.Need-filler-requires Inv-loop μ-loop
+filler-requires c κs = search needs
 
-add-out : tie.Need-add-out Inv-loop μ-loop
-add-out c = omega (arith, held-small (c .before .before .loop .inv))
+few-requires : tie.Need-few-requires Inv-loop μ-loop
+few-requires c κs = (omega (arith, length-from (c .before .before .before .loop .i) (c .before .before .before .before .before .before .args .chars .now)), omega arith, omega arith)
 
-cast-out-3 : tie.Need-cast-out-3 Inv-loop μ-loop
-cast-out-3 c = omega (arith, held-small (c .before .before .loop .inv))
+sub-store-few : tie.Need-sub-store-few Inv-loop μ-loop
+sub-store-few c = omega arith
 
-slice-write-out-2 : tie.Need-slice-write-out-2 Inv-loop μ-loop
-slice-write-out-2 c =
-    let h = c .before .before in
-    omega (arith, octet-room (h .loop .inv) (h .before .pre .1) (omega arith), h .loop .inv .moved .room)
+part-store-few-start : tie.Need-part-store-few-start Inv-loop μ-loop
+part-store-few-start c = search needs
 
-same-length : tie.Need-same-length Inv-loop μ-loop
-same-length c = simp length-set (c .before .before .loop .inv .moved .room)
+part-store-few-end : tie.Need-part-store-few-end Inv-loop μ-loop
+part-store-few-end c = search needs
+
+store-few-requires : tie.Need-store-few-requires Inv-loop μ-loop
+store-few-requires c κs =
+    let h = c .before .before .before .before .before in
+    let st = h .before .before .before in
+    (omega (arith, length-from (h .loop .j) (h .loop .out), count (h .loop .inv) (st .pre .0) (st .pre .1) (omega arith), h .loop .inv .moved .room), omega arith, omega arith)
 
 returns : tie.Need-returns Inv-loop μ-loop
 returns c =
-    let h = c .before .before in
-    with-return (h .loop .inv) (c .before .loop-test .left) (h .before .pre .1) (omega arith) _ (c .if2 .taken) (omega arith)
+    let h = c .before .before .before .before .before .before .before .before in
+    let st = h .before .before .before in
+    all-written (h .loop .inv) (st .pre .0) (st .pre .1) (omega arith) (c .before .before .before .before .before .filler .result) (c .before .before .before .before .few .result) (c .before .before .before .before .before .filler .ensures .0) (c .before .before .before .before .few .ensures) (c .before .before .store-few .last .0) (c .before .before .store-few .ensures)
 
--- ---- more than one bit is held
-
-cast-out-4 : tie.Need-cast-out-4 Inv-loop μ-loop
-cast-out-4 c = omega (arith, held-small (c .before .before .before .loop .inv))
-
-slice-write-out-3 : tie.Need-slice-write-out-3 Inv-loop μ-loop
-slice-write-out-3 c =
-    let h = c .before .before .before in
-    omega (arith, octet-room (h .loop .inv) (h .before .pre .1) (omega arith), h .loop .inv .moved .room)
-
-same-length-2 : tie.Need-same-length-2 Inv-loop μ-loop
-same-length-2 c = simp length-set (c .before .before .before .loop .inv .moved .room)
-
-returns-2 : tie.Need-returns-2 Inv-loop μ-loop
-returns-2 c =
-    let h = c .before .before .before in
-    with-zeros (h .loop .inv) (c .before .before .loop-test .left) (h .before .pre .1) (c .if3 .taken) _ (c .before .if2 .left) (omega arith)
-
--- ---- no bit is held
-
-same-length-3 : tie.Need-same-length-3 Inv-loop μ-loop
-same-length-3 c = c .before .before .before .loop .inv .moved .room
-
-returns-3 : tie.Need-returns-3 Inv-loop μ-loop
-returns-3 c = none-held (c .before .before .before .loop .inv) (c .before .before .loop-test .left) (c .if3 .left)
+same-length : tie.Need-same-length Inv-loop μ-loop
+same-length c = ap length (returns c) ∙ simp (length-append, length-packed, length-drop) (omega (arith, c .before .before .before .before .before .before .before .before .before .before .before .pre .1))
 
 pub write-octets-spec : {M : Type 1} → statement M
 write-octets-spec =
@@ -192,29 +189,29 @@ write-octets-spec =
     Inv-loop
     μ-loop
     loop-holds
-    shared-slice-read-held
-    cast-held
-    shl-held
-    add-held
-    add-bits
+    sub-loop
+    sub-eight
+    part-eight-start
+    part-eight-end
+    eight-requires
+    squeezed-requires
+    sub-store-seven
+    part-store-seven-start
+    part-store-seven-end
+    store-seven-requires
     add-i
-    cast-out
-    slice-write-out
     add-j
     loop-less
     loop-again
-    loop-less-2
-    loop-again-2
-    cast-out-2
-    mul-out
-    add-out
-    cast-out-3
-    slice-write-out-2
-    cast-out-4
-    slice-write-out-3
+    sub-left
+    sub-few
+    part-few-start
+    part-few-end
+    filler-requires
+    few-requires
+    sub-store-few
+    part-store-few-start
+    part-store-few-end
+    store-few-requires
     same-length
-    returns
-    same-length-2
-    returns-2
-    same-length-3
-    returns-3)
+    returns)
