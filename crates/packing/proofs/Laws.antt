@@ -46,6 +46,14 @@ kept-le os = go (filled os)
     go true = omega arith
     go false = omega arith
 
+pub kept-ge : (os : List ℕ) → charsIn (length os) ≤ kept os + 1
+unfolding kept
+kept-ge os = go (filled os)
+  where
+    go : (t : Bool) → charsIn (length os) ≤ kept-if t (charsIn (length os)) + 1
+    go true = omega arith
+    go false = omega arith
+
 pub unpacked-is : (os : List ℕ) → unpacked os ≡ digits 128 (kept os) (valueOf 256 os)
 unfolding unpacked characters
 unpacked-is os = take-digits 128 (charsIn (length os)) (valueOf 256 os) (kept os) (kept-le os)

@@ -143,6 +143,14 @@ module _ (w v gap n : ℕ) (g : 2 ^ w ≡ 2 ^ v + gap) (ds : List ℕ) (len : le
       let p : bitAnd (x / 2 ^ w) m ≡ valueOf (2 ^ (w + w)) (highs ds) = ap (λ (t : ℕ). bitAnd (t / 2 ^ w) m) (e ∙ sym whole) ∙ picked (w + w) w (omega arith) ds n len f in
       ap (λ (t : ℕ). x - t * gap) p ∙ omega (arith, between, e)
 
+  apart :
+      v ≤ w → Below (2 ^ v) ds → (x : ℕ) → x ≡ valueOf (2 ^ (w + w)) (pairs (2 ^ v) ds)
+      → x + bitAnd (x / 2 ^ v) (valueOf (2 ^ (w + w)) (masks (2 ^ v - 1) n)) * gap ≡ valueOf (2 ^ w) ds
+  apart h f x e =
+      let m = valueOf (2 ^ (w + w)) (masks (2 ^ v - 1) n) in
+      let p : bitAnd (x / 2 ^ v) m ≡ valueOf (2 ^ (w + w)) (highs ds) = ap (λ (t : ℕ). bitAnd (t / 2 ^ v) m) e ∙ picked (w + w) v (omega arith) ds n len f in
+      ap (λ (t : ℕ). x + t * gap) p ∙ omega (arith, between, e)
+
 -- ---- eight digits below 128
 
 -- the two lower steps from eight bits to seven
@@ -151,6 +159,13 @@ twos-squeezed x = x - bitAnd (x / 256) 0x00ff00ff00ff00ff * 128
 
 abbrev pub fours-squeezed : ℕ → ℕ
 fours-squeezed x = twos-squeezed x - bitAnd (twos-squeezed x / 2 ^ 16) 0x0000ffff0000ffff * 0xc000
+
+-- and from seven to eight
+abbrev pub fours-spread : ℕ → ℕ
+fours-spread x = x + bitAnd (x / 2 ^ 28) 0x0fffffff * 0xf0000000
+
+abbrev pub twos-spread : ℕ → ℕ
+twos-spread x = fours-spread x + bitAnd (fours-spread x / 2 ^ 14) 0x00003fff00003fff * 0xc000
 
 abbrev twos-of : List ℕ → List ℕ
 twos-of ds = pairs 128 ds
@@ -184,3 +199,11 @@ module _ (ds : List ℕ) (len : length ds ≡ 8) (f : Below 128 ds) where
       let two : twos-squeezed x ≡ valueOf (2 ^ 16) (twos-of ds) = nearer 8 7 128 4 refl ds len (λ k. omega (arith, f k)) x e in
       let four : fours-squeezed x ≡ valueOf (2 ^ 32) (fours-of ds) = nearer 16 14 0xc000 2 refl (twos-of ds) length-twos (λ k. omega (arith, below-twos k)) (twos-squeezed x) two in
       nearer 32 28 0xf0000000 1 refl (fours-of ds) length-fours (λ k. omega (arith, below-fours k)) (fours-squeezed x) four ∙ all
+
+  -- from seven bits to eight
+  pub widen : (x : ℕ) → x ≡ valueOf 128 ds → twos-spread x + bitAnd (twos-spread x / 128) 0x007f007f007f007f * 128 ≡ valueOf 256 ds
+  unfolding valueOf
+  widen x e =
+      let four : fours-spread x ≡ valueOf (2 ^ 32) (fours-of ds) = apart 32 28 0xf0000000 1 refl (fours-of ds) length-fours (omega arith) below-fours x (e ∙ sym all) in
+      let two : twos-spread x ≡ valueOf (2 ^ 16) (twos-of ds) = apart 16 14 0xc000 2 refl (twos-of ds) length-twos (omega arith) below-twos (fours-spread x) four in
+      apart 8 7 128 4 refl ds len (omega arith) f (twos-spread x) two

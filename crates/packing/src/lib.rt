@@ -1,5 +1,5 @@
 // TS 23.038's packed characters, as USSD has them: characters to octets and back.
-// Eight characters and their seven octets are one number: the packer writes by such groups, and fewer are left over at the end. The unpacker holds the bits that it has read and not yet written in one number, the earliest lowest, and counts them.
+// Eight characters and their seven octets are one number: both writers go by such groups, and fewer are left over at the end.
 use answers::Written;
 ghost use mathlib.Core.Path.{_≡_};
 ghost use mathlib.Core.Bool.{true};
@@ -46,6 +46,16 @@ fn eight(bytes: &[u8]) -> u64
     low + 0x1_0000_0000 * high
 }
 
+// The number of the first seven bytes, to the base 256.
+fn seven(bytes: &[u8]) -> u64
+    requires { ⌜ 7 ≤ length (now bytes) ⌝ }
+    ensures { λ r. ⌜ (r ≡ valueOf 256 (take 7 (now (bytes .entry)))) × (r < 2 ^ 56) ⌝ }
+{
+    let low = four(bytes[0], bytes[1], bytes[2], bytes[3]);
+    let high = four(bytes[4], bytes[5], bytes[6], 0);
+    low + 0x1_0000_0000 * high
+}
+
 // Stores the seven lowest octets of a number.
 fn store_seven(out: &mut [u8], held: u64)
     requires { ⌜ 7 ≤ length (now out) ⌝ }
@@ -66,6 +76,15 @@ fn store_seven(out: &mut [u8], held: u64)
     out[6] = (h6 % 256) as u8;
 }
 
+// Stores the eight octets of a number.
+fn store_eight(out: &mut [u8], held: u64)
+    requires { ⌜ 8 ≤ length (now out) ⌝ }
+    ensures { λ _. ⌜ now (out .exit) ≡ digits 256 8 held ++ drop 8 (now (out .entry)) ⌝ }
+{
+    store_seven(out, held);
+    out[7] = (held / 0x100_0000_0000_0000) as u8;
+}
+
 // From eight bits a character to seven: of each two neighbours the higher moves down, first characters, then pairs, then fours. It moves from 2^8 to 2^7 times its own, then from 2^16 to 2^14, then from 2^32 to 2^28; of the taken characters only their 7 bits count.
 fn squeezed(wide: u64) -> u64
     requires { ⌜ takes (digits 256 8 wide) ≡ true ⌝ }
@@ -74,6 +93,16 @@ fn squeezed(wide: u64) -> u64
     let twos = wide - ((wide / 0x100) & 0x00ff_00ff_00ff_00ff) * 0x80;
     let fours = twos - ((twos / 0x1_0000) & 0x0000_ffff_0000_ffff) * 0xc000;
     fours - ((fours / 0x1_0000_0000) & 0xffff_ffff) * 0xf000_0000
+}
+
+// From seven bits a character to eight: the same steps backwards.
+fn spread(held: u64) -> u64
+    requires { ⌜ held < 2 ^ 56 ⌝ }
+    ensures { λ r. ⌜ r ≡ valueOf 256 (digits 128 8 held) ⌝ }
+{
+    let fours = held + ((held / 0x1000_0000) & 0x0fff_ffff) * 0xf000_0000;
+    let twos = fours + ((fours / 0x4000) & 0x0000_3fff_0000_3fff) * 0xc000;
+    twos + ((twos / 0x80) & 0x007f_007f_007f_007f) * 0x80
 }
 
 // ---- what is left over: fewer than a group
@@ -174,21 +203,16 @@ fn write_chars(octets: &[u8], out: &mut [u8], n: usize)
     requires { ⌜ n ≤ length (now out) ⌝ }
     ensures { λ _. ⌜ now (out .exit) ≡ unpacked (now (octets .entry)) ++ drop n (now (out .entry)) ⌝ }
 {
-    let mut held: u32 = 0;
-    let mut bits: u32 = 0;
     let mut i = 0;
     let mut j = 0;
-    while j < n {
-        if bits < 7 {
-            held += (octets[i] as u32) << bits;
-            bits += 8;
-            i += 1;
-        }
-        out[j] = (held % 128) as u8;
-        held = held / 128;
-        bits -= 7;
-        j += 1;
+    while 8 <= n - j {
+        let wide = spread(seven(&octets[i..]));
+        store_eight(&mut out[j..], wide);
+        i += 7;
+        j += 8;
     }
+    let held = few(&octets[i..], 256, 0);
+    store_few(&mut out[j..], n - j, held, 128);
 }
 
 // Packs the characters into out. All of them are tested first, since a refusal leaves out as it was.
