@@ -1,78 +1,74 @@
--- How the table of least numbers tells a number: a word's leading zero bits leave one length, and a comparison with the least number of
--- that length decides. Assumes nothing.
-use mathlib.Core.Path.{_≡_, refl, _∙_}
+-- How the least number as long as a word tells whether it is a number: the word is not below it, and below twice that. Assumes nothing.
+use mathlib.Core.Path.{_≡_, refl, sym, ap, _∙_}
 use mathlib.Core.Logic.{_⊎_, inl, inr}
-use mathlib.Core.Bool.{Bool, true, false, cond, _||_}
+use mathlib.Core.Bool.{Bool, true, false, cond}
 use Prim.Native.Nat.{ℕ, zero, suc, _+_, _-_, _*_, _%_, _^_, _≤_, _<_, zero-le}
-use native.Mathlib.Nat.{pow-le-pow-right, le-of-suc-le-suc, not-suc-le-zero, add-zero, zero-add, suc-add, add-suc}
+use native.Mathlib.Nat.{pow-le-pow-right, pow-suc, not-suc-le-zero, add-zero, add-suc, lt-of-lt-of-le}
 use native.Mathlib.Omega.{arith}
-use lib.ListN.{getD}
-use lib.Count.{leadingZeros, leading-le, leading-length}
-use lib.Dec.{leb, ltb, eqb, lit<}
-use borrow.Author.Tests.{le-leb, leb-true, lt-ltb, ltb-true, eqb-true}
-use Rattle.answers.proofs.Tests.{same-test, and-left, and-right, and-both, or-cases}
+use lib.Dec.{leb, ltb, lit<}
+use borrow.Author.Tests.{le-leb, lt-leb, leb-true, lt-ltb, ltb-true}
+use Rattle.answers.proofs.Tests.{same-test, and-left, and-right, and-both}
 use Rattle.numbers.specs.Numbers.{fewestDigits, mostDigits, isNumber}
-use Rattle.numbers.specs.Least.{lengths, apart, leastOf, leastFrom, leastNumbers, leastFor, isFrom}
-use Rattle.numbers.proofs.Lengths.{allOf, all-at, HasLength, length-of, is-number, number-below}
+use Rattle.numbers.specs.Least.{lengths, leastOf, leastFor, isFrom}
+use Rattle.numbers.proofs.Lengths.{length-of, is-number}
 
--- ---- the table's entries
-
-from-at : (z n k : ℕ) → k < n → getD (leastFrom z n) k 0 ≡ leastOf (z + k) lengths
-unfolding leastFrom
-from-at z zero k h = absurd (not-suc-le-zero h)
-from-at z (suc n) zero h = rw add-zero
-from-at z (suc n) (suc k) h = from-at (suc z) n k (le-of-suc-le-suc h) ∙ rw (suc-add, add-suc)
-
-entry-at : (w : ℕ) → getD leastNumbers (leadingZeros 64 w) 0 ≡ leastOf (leadingZeros 64 w) lengths
-unfolding leastNumbers
-entry-at w = from-at 0 65 (leadingZeros 64 w) (omega (arith, leading-le 64 w)) ∙ rw zero-add
+-- ---- the least number as long as a word
 
 -- p is 0, or the least number of one of the n shortest lengths
 abbrev Entry : ℕ → ℕ → Type 0
 Entry n p = (p ≡ 0) ⊎ ((d : ℕ) × (fewestDigits ≤ d) × (d < fewestDigits + n) × (p ≡ 10 ^ d))
 
-entry-is : (z n : ℕ) → Entry n (leastOf z n)
+entry-is : (w n : ℕ) → Entry n (leastOf w n)
 unfolding leastOf
-entry-is z zero = inl refl
-entry-is z (suc n) = go (apart z (fewestDigits + n)) (entry-is z n)
+entry-is w zero = inl refl
+entry-is w (suc n) = go (leb (10 ^ (fewestDigits + n)) w) (entry-is w n)
   where
-    go : (b : Bool) → Entry n (leastOf z n) → Entry (suc n) (cond b (leastOf z n) (10 ^ (fewestDigits + n)))
-    go true (inl e) = inl e
-    go true (inr r) = inr (r .0, r .1, omega (arith, r .2), r .3)
-    go false r = inr (fewestDigits + n, omega arith, omega arith, refl)
+    go : (b : Bool) → Entry n (leastOf w n) → Entry (suc n) (cond b (10 ^ (fewestDigits + n)) (leastOf w n))
+    go false (inl e) = inl e
+    go false (inr r) = inr (r .0, r .1, omega (arith, r .2), r .3)
+    go true r = inr (fewestDigits + n, omega arith, omega arith, refl)
 
--- z leading zero bits do not leave the length d, unless the entry is its least number
-onlyEntry : ℕ → ℕ → Bool
-onlyEntry z d = apart z d || eqb (leastOf z lengths) (10 ^ d)
-
--- computed at every count of leading zero bits and every length
-one-length : allOf 0 65 (λ z. allOf fewestDigits lengths (onlyEntry z)) ≡ true
-unfolding allOf apart leastOf onlyEntry
-one-length = refl
-
--- the entry at a number's leading zero bits is the least number of its length
-entry-of : (d w : ℕ) → HasLength d w → w < 2 ^ 64 → leastOf (leadingZeros 64 w) lengths ≡ 10 ^ d
-unfolding apart onlyEntry
-entry-of d w l fits =
-    go
-    (or-cases (apart z d) (eqb (leastOf z lengths) (10 ^ d)) (all-at fewestDigits lengths (onlyEntry z) row d (l .fewest) (omega (arith, l .most))))
+of-le : (w n : ℕ) → leastOf w n ≤ w
+unfolding leastOf
+of-le w zero = zero-le
+of-le w (suc n) = go (leb (10 ^ (fewestDigits + n)) w) refl (of-le w n)
   where
-    z : ℕ
-    z = leadingZeros 64 w
+    go : (b : Bool) → leb (10 ^ (fewestDigits + n)) w ≡ b → leastOf w n ≤ w → cond b (10 ^ (fewestDigits + n)) (leastOf w n) ≤ w
+    go false e h = h
+    go true e h = leb-true (10 ^ (fewestDigits + n)) w e
 
-    row : allOf fewestDigits lengths (onlyEntry z) ≡ true
-    row = all-at 0 65 (λ y. allOf fewestDigits lengths (onlyEntry y)) one-length z zero-le (omega (arith, leading-le 64 w))
+pub least-le : (w : ℕ) → leastFor w ≤ w
+unfolding leastFor
+least-le w = of-le w lengths
 
-    top : (w < 2 ^ (64 - z)) × (2 ^ (64 - z) ≤ 2 * w + 1)
-    top = let m = leading-length 64 w fits in let rest : 64 - z ≡ m .0 = omega (arith, m .1) in rw rest (m .2, m .3)
+-- one that is not above w is taken before all shorter ones,
+here : (w n : ℕ) → 10 ^ (fewestDigits + n) ≤ w → leastOf w (suc n) ≡ 10 ^ (fewestDigits + n)
+unfolding leastOf
+here w n h = rw (le-leb (10 ^ (fewestDigits + n)) w h)
 
-    not-apart : (leb (2 ^ (64 - z)) (10 ^ d) ≡ true) ⊎ (leb (2 * (2 * 10 ^ d)) (2 ^ (64 - z)) ≡ true) → ⊥
-    not-apart (inl e) = omega (arith, leb-true (2 ^ (64 - z)) (10 ^ d) e, top, l)
-    not-apart (inr e) = omega (arith, leb-true (2 * (2 * 10 ^ d)) (2 ^ (64 - z)) e, top, l)
+-- and those above w are passed over
+past : (w n k : ℕ) → w < 10 ^ (fewestDigits + n) → leastOf w (n + k) ≡ leastOf w n
+unfolding leastOf
+past w n zero h = rw add-zero
+past w n (suc k) h =
+    let above : w < 10 ^ (fewestDigits + (n + k)) = lt-of-lt-of-le h (pow-le-pow-right {n = 10} (lit< tt) (omega arith)) in
+    rw (add-suc, lt-leb (10 ^ (fewestDigits + (n + k))) w above) (past w n k h)
 
-    go : (apart z d ≡ true) ⊎ (eqb (leastOf z lengths) (10 ^ d) ≡ true) → leastOf z lengths ≡ 10 ^ d
-    go (inl e) = absurd (not-apart (or-cases (leb (2 ^ (64 - z)) (10 ^ d)) (leb (2 * (2 * 10 ^ d)) (2 ^ (64 - z))) e))
-    go (inr e) = eqb-true (leastOf z lengths) (10 ^ d) e
+pub least-none : (w : ℕ) → w < 10 ^ fewestDigits → leastFor w ≡ 0
+unfolding leastFor leastOf
+least-none w h = past w 0 lengths h
+
+pub least-longest : (w : ℕ) → 10 ^ mostDigits ≤ w → leastFor w ≡ 10 ^ mostDigits
+unfolding leastFor
+least-longest w h = here w (mostDigits - fewestDigits) h
+
+pub least-is : (d w : ℕ) → fewestDigits ≤ d → d ≤ mostDigits → 10 ^ d ≤ w → w < 10 ^ suc d → leastFor w ≡ 10 ^ d
+unfolding leastFor
+least-is d w f m l b =
+    let n = d - fewestDigits in
+    let same : fewestDigits + n ≡ d = omega arith in
+    let all : suc n + (lengths - suc n) ≡ lengths = omega arith in
+    ap (λ (k : ℕ). leastOf w k) (sym all) ∙ past w (suc n) (lengths - suc n) (rw (add-suc, same) b) ∙ here w n (rw same l) ∙ rw same
 
 -- ---- one comparison
 
@@ -86,7 +82,7 @@ starts-none = record { small = zero-le; numbers = λ w e. absurd (not-suc-le-zer
 
 pub starts-for : (w : ℕ) → Starts (leastFor w)
 unfolding leastFor
-starts-for w = rw (entry-at w) (go (entry-is (leadingZeros 64 w) lengths))
+starts-for w = go (entry-is w lengths)
   where
     go : {p : ℕ} → Entry lengths p → Starts p
     go (inl e) = rw e starts-none
@@ -105,16 +101,19 @@ starts-for w = rw (entry-at w) (go (entry-is (leadingZeros 64 w) lengths))
               });
         }
 
--- the least number that a word's leading zero bits leave tells whether it is a number
+-- the least number as long as a word tells whether it is a number
 pub least-tells : (w : ℕ) → isFrom (leastFor w) w ≡ isNumber w
-unfolding leastFor
 least-tells w = same-test (isFrom (leastFor w) w) (isNumber w) (starts-for w .numbers w) (λ n. passes n)
   where
     passes : isNumber w ≡ true → isFrom (leastFor w) w ≡ true
     passes n =
         let l = length-of w n in
-        let e = entry-at w ∙ entry-of (l .0) w (l .1) (omega (arith, number-below w n)) in
+        let e = least-is (l .0) w (l .1 .fewest) (l .1 .most) (l .1 .least) (omega (arith, l .1 .below, pow-suc 10 (l .0))) in
         rw e (and-both (leb (10 ^ l .0) w) (ltb w (2 * 10 ^ l .0)) (le-leb (10 ^ l .0) w (l .1 .least)) (lt-ltb w (2 * 10 ^ l .0) (l .1 .below)))
+
+-- and so does its end alone
+pub end-tells : (w : ℕ) → isNumber w ≡ ltb w (2 * leastFor w)
+end-tells w = sym (least-tells w) ∙ rw (le-leb (leastFor w) w (least-le w))
 
 -- x is w less p, modulo 2 ^ 64: the test whether x is below p
 pub wraps-from :

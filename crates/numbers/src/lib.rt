@@ -6,7 +6,7 @@ ghost use Prim.Native.Nat.{_^_, _≤_, _<_};
 ghost use lib.ListN.{length, drop};
 ghost use Rattle.answers.specs.Writing.{madeWrite};
 ghost use Rattle.numbers.specs.Numbers.{mostDigits, isDigit, areDigits, storedForm, isNumber, digitsUpTo, digitsOf, leadingDigits, leadingNumber, writingDigits};
-ghost use Rattle.numbers.specs.Least.{leastNumbers, leastFor, isFrom};
+ghost use Rattle.numbers.specs.Least.{leastFor, isFrom};
 use answers::Written;
 
 // The "dummy" number of a function on a train, in stored form.
@@ -26,89 +26,60 @@ const FEWEST_DIGITS: usize = 5;
 
 const MOST_DIGITS: usize = 15;
 
-// For each count of leading zero bits, the least number of the one length that they leave; 0 where they leave none.
-const LEAST: [u64; 65] = [
-    0,
-    0,
-    0,
-    0,
-    0,
-    0,
-    0,
-    0,
-    0,
-    0,
-    0,
-    0,
-    0,
-    1_000_000_000_000_000, // 13: 15 digits
-    1_000_000_000_000_000, // 14: 15 digits
-    0,
-    100_000_000_000_000, // 16: 14 digits
-    100_000_000_000_000, // 17: 14 digits
-    0,
-    10_000_000_000_000, // 19: 13 digits
-    10_000_000_000_000, // 20: 13 digits
-    0,
-    0,
-    1_000_000_000_000, // 23: 12 digits
-    1_000_000_000_000, // 24: 12 digits
-    0,
-    100_000_000_000, // 26: 11 digits
-    100_000_000_000, // 27: 11 digits
-    0,
-    10_000_000_000, // 29: 10 digits
-    10_000_000_000, // 30: 10 digits
-    0,
-    0,
-    1_000_000_000, // 33: 9 digits
-    1_000_000_000, // 34: 9 digits
-    0,
-    100_000_000, // 36: 8 digits
-    100_000_000, // 37: 8 digits
-    0,
-    10_000_000, // 39: 7 digits
-    10_000_000, // 40: 7 digits
-    0,
-    0,
-    1_000_000, // 43: 6 digits
-    1_000_000, // 44: 6 digits
-    0,
-    100_000, // 46: 5 digits
-    100_000, // 47: 5 digits
-    0,
-    0,
-    0,
-    0,
-    0,
-    0,
-    0,
-    0,
-    0,
-    0,
-    0,
-    0,
-    0,
-    0,
-    0,
-    0,
-    0,
-];
-
-// The table that `is_number_by` looks into. A call builds it anew, so a scan of many words makes it once and lends it.
-pub fn least_numbers() -> [u64; 65]
-    ensures { λ r. ⌜ r ≡ leastNumbers ⌝ }
-{
-    LEAST
-}
-
-// The least number that a word's leading zero bits leave; 0 where they leave none.
-pub fn least_for(word: u64, least: &[u64; 65]) -> u64
-    requires { ⌜ now least ≡ leastNumbers ⌝ }
+// The least number as long as a word below 10^10; 0 where it is below the least of all.
+fn least_short(word: u64) -> u64
+    requires { ⌜ word < 10 ^ 10 ⌝ }
     ensures { λ r. ⌜ r ≡ leastFor word ⌝ }
 {
-    let zeros = u64::leading_zeros(word) as usize;
-    least[zeros]
+    if word < 10_000_000 {
+        if word < 100_000 {
+            return 0;
+        }
+        if word < 1_000_000 {
+            return 100_000;
+        }
+        return 1_000_000;
+    }
+    if word < 100_000_000 {
+        return 10_000_000;
+    }
+    if word < 1_000_000_000 {
+        return 100_000_000;
+    }
+    1_000_000_000
+}
+
+// The same of a word from there on.
+fn least_long(word: u64) -> u64
+    requires { ⌜ 10 ^ 10 ≤ word ⌝ }
+    ensures { λ r. ⌜ r ≡ leastFor word ⌝ }
+{
+    if word < 1_000_000_000_000 {
+        if word < 100_000_000_000 {
+            return 10_000_000_000;
+        }
+        return 100_000_000_000;
+    }
+    if word < 10_000_000_000_000 {
+        return 1_000_000_000_000;
+    }
+    if word < 100_000_000_000_000 {
+        return 10_000_000_000_000;
+    }
+    if word < 1_000_000_000_000_000 {
+        return 100_000_000_000_000;
+    }
+    1_000_000_000_000_000
+}
+
+// The least number as long as a word, by a few comparisons: a table of them would be built anew for each call.
+pub fn least_for(word: u64) -> u64
+    ensures { λ r. ⌜ r ≡ leastFor word ⌝ }
+{
+    if word < 10_000_000_000 {
+        return least_short(word);
+    }
+    least_long(word)
 }
 
 // Whether word is not below a start, and below twice that: a word below the start wraps to a difference that is above any start.
@@ -119,20 +90,11 @@ pub fn is_from(word: u64, start: u64) -> bool
     std::num::wrapping_sub_u64(word, start) < start
 }
 
-// Whether word is a number in stored form: its leading zero bits leave one length, and it is from the least number of that length on.
-pub fn is_number_by(word: u64, least: &[u64; 65]) -> bool
-    requires { ⌜ now least ≡ leastNumbers ⌝ }
-    ensures { λ r. ⌜ r ≡ isNumber word ⌝ }
-{
-    is_from(word, least_for(word, least))
-}
-
-// Whether word is a number in stored form.
+// Whether word is a number in stored form: it is from the least number as long as it on.
 pub fn is_number(word: u64) -> bool
     ensures { λ r. ⌜ r ≡ isNumber word ⌝ }
 {
-    let least = least_numbers();
-    is_number_by(word, &least)
+    is_from(word, least_for(word))
 }
 
 fn is_digit(c: u8) -> bool

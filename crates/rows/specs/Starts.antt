@@ -8,7 +8,7 @@ use Rattle.numbers.specs.Least.{leastFor, isFrom}
 use Rattle.rows.specs.declared.Words.{Words}
 use Rattle.rows.specs.Rows.{addresseeAt, supervisorAt, wordsAt, noticeBy}
 
--- the start by which a holder is tested: one that was found before, where that tells already, else the least number that her leading zero bits leave
+-- the start by which a holder is tested: one that was found before, where that tells already, else the least number as long as she is
 unfoldable pub holderStart : ℕ → ℕ → ℕ
 holderStart near holder = cond (eqb holder 0 || isFrom near holder) near (leastFor holder)
 

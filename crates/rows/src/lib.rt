@@ -1,7 +1,7 @@
 // The row of words that a record is lent in: when it is sound, the record that it is, and a record put into it.
 use numbers::Msisdn;
 use numbers::is_from;
-use numbers::is_number_by;
+use numbers::is_number;
 use numbers::least_for;
 use records::MOST_SENDINGS;
 use records::Notice;
@@ -10,7 +10,6 @@ ghost use mathlib.Core.Path.{_≡_};
 ghost use mathlib.Core.Bool.{true};
 ghost use Prim.Native.Nat.{_/_, _^_, _≤_, _<_};
 ghost use lib.ListN.{length};
-ghost use Rattle.numbers.specs.Least.{leastNumbers};
 ghost use Rattle.numbers.specs.Numbers.{mostDigits};
 ghost use Rattle.rows.specs.Rows.{rowWords, holderAt, lastPhase, phaseOf, secondOf, noticeOf, wordsAt, noticeBy, rowSound, recordAt, stored};
 ghost use Rattle.rows.specs.Starts.{restBy, nearFrom, holderStart, restFrom};
@@ -170,25 +169,25 @@ pub fn is_near(table: &[u64], row: usize, start: u64) -> bool
 }
 
 // The start by which a row's holder is tested: `near` where that tells that she is a number or nobody, else the least number as long as hers.
-pub fn holder_start(table: &[u64], row: usize, near: u64, least: &[u64; 65]) -> u64
+pub fn holder_start(table: &[u64], row: usize, near: u64) -> u64
     requires { ⌜ row < length (now table) / rowWords ⌝ }
-    requires { ⌜ (near ≤ 10 ^ mostDigits) × (now least ≡ leastNumbers) ⌝ }
+    requires { ⌜ near ≤ 10 ^ mostDigits ⌝ }
     ensures { λ r. ⌜ r ≡ holderStart near (holderAt (now (table .entry)) row) ⌝ }
 {
     let holder = table[ROW_WORDS * row + HOLDER];
     if (holder == 0) | is_from(holder, near) {
         return near;
     }
-    least_for(holder, least)
+    least_for(holder)
 }
 
-// Whether what stands behind a row's number is sound, the holder tested by her start; `least` is the table of least numbers.
-pub fn rest_sound(table: &[u64], row: usize, start: u64, least: &[u64; 65]) -> bool
+// Whether what stands behind a row's number is sound, the holder tested by her start.
+pub fn rest_sound(table: &[u64], row: usize, start: u64) -> bool
     requires { ⌜ row < length (now table) / rowWords ⌝ }
-    requires { ⌜ (start ≤ 10 ^ mostDigits) × (now least ≡ leastNumbers) ⌝ }
+    requires { ⌜ start ≤ 10 ^ mostDigits ⌝ }
     ensures { λ r. ⌜ r ≡ restFrom start (now (table .entry)) row ⌝ }
 {
     let words = words_at(table, row);
-    let numbers = is_number_by(words.addressee, least) & is_number_by(words.supervisor, least);
+    let numbers = is_number(words.addressee) & is_number(words.supervisor);
     rest_by(words, start, numbers)
 }

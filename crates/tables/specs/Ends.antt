@@ -1,19 +1,15 @@
 -- A helper: the words of one length lie together, so a scan of ascending words knows a number by the end of the last one's length; proved equal to `tableSound` and `listSound` (proofs/Ends, and the functions of these names). Assumes nothing.
-use Prim.Native.Nat.{ℕ, _+_, _*_, _^_}
+use Prim.Native.Nat.{ℕ, _+_, _*_}
 use mathlib.Core.Bool.{Bool, cond, _&&_}
 use mathlib.Core.List.{List}
 use lib.ListN.{length, getD}
 use lib.Dec.{ltb, leb}
-use Rattle.numbers.specs.Numbers.{isNumber, digitsOf}
+use Rattle.numbers.specs.Least.{leastFor}
 use Rattle.tables.specs.Tables.{subscriberWords, mostFlags}
 
--- the end of the numbers as long as w; 0 where w is no number
-unfoldable pub lengthEnd : ℕ → ℕ
-lengthEnd w = cond (isNumber w) (2 * 10 ^ length (digitsOf w)) 0
-
--- the end by which a scan tests w, once the words up to `end` are known
+-- the end by which a scan tests w, once the words up to `end` are known, else that of the numbers as long as w: twice the least of them
 unfoldable pub endFor : ℕ → ℕ → ℕ
-endFor end w = cond (ltb w end) end (lengthEnd w)
+endFor end w = cond (ltb w end) end (2 * leastFor w)
 
 -- a scan's test of w, behind `before` and below `end`, with a test of its own
 abbrev pub within : ℕ → ℕ → ℕ → Bool → Bool

@@ -1,8 +1,7 @@
 // The lent table and the lent list: whether they are sound, what the figures of a table are, and where a number or a subscriber stands in them.
 use numbers::FunctionalNumber;
 use numbers::Msisdn;
-use numbers::is_number;
-use numbers::least_numbers;
+use numbers::least_for;
 use rows::HOLDER;
 use rows::PHASE;
 use rows::ROW_WORDS;
@@ -14,10 +13,9 @@ ghost use mathlib.Core.Bool.{true};
 ghost use Prim.Native.Nat.{_*_, _/_, _^_, _<_};
 ghost use lib.ListN.{length};
 ghost use lib.Dec.{leb};
-ghost use Rattle.numbers.specs.Numbers.{isNumber, digitsOf};
 ghost use Rattle.tables.specs.Keys.{key, every, ascends, placeOf};
 ghost use Rattle.tables.specs.Tables.{mostNumbers, rowsIn, tableSound, rowOf, mostFlags, listSound, flagsOf};
-ghost use Rattle.tables.specs.Ends.{lengthEnd, endFor, within, pairWithin};
+ghost use Rattle.tables.specs.Ends.{endFor, within, pairWithin};
 ghost use Rattle.tables.specs.Figures.{one, Few, withRow, saidRecount, recounted};
 
 // Where a number stands among the rows.
@@ -48,44 +46,19 @@ pub const MOST_SUBSCRIBERS: usize = 4096;
 // "flags 0 to 3".
 pub const MOST_FLAGS: u64 = 3;
 
-// The end of the shortest numbers, which have 5 digits.
-const FIRST_END: u64 = 200000;
-
 // "two words each (MSISDN; flags 0 to 3 ..)".
 pub const SUBSCRIBER_WORDS: usize = 2;
 
 const FLAGS: usize = 1;
 
-// The end of the numbers that have as many digits as this one.
-fn end_of_length(number: u64) -> u64
-    requires { ⌜ isNumber number ≡ true ⌝ }
-    ensures { λ r. ⌜ r ≡ 2 * 10 ^ length (digitsOf number) ⌝ }
-{
-    let mut end = FIRST_END;
-    while end <= number {
-        end = 10 * end;
-    }
-    end
-}
-
-// The end of the numbers as long as word; 0 where it is no number.
-fn length_end(word: u64) -> u64
-    ensures { λ r. ⌜ r ≡ lengthEnd word ⌝ }
-{
-    if !is_number(word) {
-        return 0;
-    }
-    end_of_length(word)
-}
-
-// The end by which a word is tested: the one reached where the word lies below it, else that of the numbers as long as the word.
+// The end by which a word is tested: the one reached where the word lies below it, else that of the numbers as long as the word, which is twice the least of them.
 fn end_for(word: u64, end: u64) -> u64
     ensures { λ r. ⌜ r ≡ endFor end word ⌝ }
 {
     if word < end {
         return end;
     }
-    length_end(word)
+    2 * least_for(word)
 }
 
 // 1 where it is so, else 0.
@@ -136,7 +109,6 @@ pub fn recount(table: &[u64]) -> Recounted
     if MOST_NUMBERS < table.len() / ROW_WORDS {
         return Recounted::Unsound;
     }
-    let least = least_numbers();
     let mut figures = Figures {
         held: 0,
         waiting: 0,
@@ -153,8 +125,8 @@ pub fn recount(table: &[u64]) -> Recounted
         let number = words[0];
         if !((before < number) & ((number < end) & is_near(words, 0, near))) {
             end = end_for(number, end);
-            near = holder_start(words, 0, near, &least);
-            let rest = rest_sound(words, 0, near, &least);
+            near = holder_start(words, 0, near);
+            let rest = rest_sound(words, 0, near);
             if !((before < number) & ((number < end) & rest)) {
                 return Recounted::Unsound;
             }

@@ -78,10 +78,10 @@ module _ (t : List ℕ) (figures : Figures) (before end near at : ℕ) (p : Pass
     }
 
 abbrev Inv-loop : tie.InvT-loop
-Inv-loop table least figures₀ before₀ end₀ near₀ at₀ figures before end near at = Passed table figures before end near at
+Inv-loop table figures₀ before₀ end₀ near₀ at₀ figures before end near at = Passed table figures before end near at
 
 abbrev μ-loop : tie.MeasureT-loop
-μ-loop table least figures₀ before₀ end₀ near₀ at₀ figures before end near at = length table - at
+μ-loop table figures₀ before₀ end₀ near₀ at₀ figures before end near at = length table - at
 
 returns : tie.Need-returns Inv-loop μ-loop
 unfolding tableUpTo
@@ -95,18 +95,15 @@ returns-2 c =
     let t = c .before .before .before .args .table .now in
     not-counted t (too-many rowWords mostNumbers (rowStands t) t (omega arith))
 
-least-numbers-requires : tie.Need-least-numbers-requires Inv-loop μ-loop
-least-numbers-requires c κs = search needs
-
 loop-holds : tie.Need-loop-holds Inv-loop μ-loop
 loop-holds c = record { row = 0; place = refl; stood = scan-start _ _ _; reaches = reaches-none _; starts = starts-none; counts = refl }
 
 -- the row at word `at` lies in the table
-row-room : (c : tie.In-loop Inv-loop μ-loop) → let l = c .before in l .loop .at + rowWords ≤ length (l .before .before .before .before .before .args .table .now)
-row-room c = let l = c .before in room _ _ _ _ _ _ (l .loop .inv) (l .before .before .before .if1 .left) (c .loop-test .taken)
+row-room : (c : tie.In-loop Inv-loop μ-loop) → let l = c .before in l .loop .at + rowWords ≤ length (l .before .before .before .before .args .table .now)
+row-room c = let l = c .before in room _ _ _ _ _ _ (l .loop .inv) (l .before .before .if1 .left) (c .loop-test .taken)
 
-row-lent : (c : tie.In-loop Inv-loop μ-loop) → let l = c .before in 0 < rowsIn (lent (l .before .before .before .before .before .args .table .now) (l .loop .at))
-row-lent c = let l = c .before in lent-row _ _ _ _ _ _ (l .loop .inv) (l .before .before .before .if1 .left) (c .loop-test .taken)
+row-lent : (c : tie.In-loop Inv-loop μ-loop) → let l = c .before in 0 < rowsIn (lent (l .before .before .before .before .args .table .now) (l .loop .at))
+row-lent c = let l = c .before in lent-row _ _ _ _ _ _ (l .loop .inv) (l .before .before .if1 .left) (c .loop-test .taken)
 
 add-next : tie.Need-add-next Inv-loop μ-loop
 add-next c = omega (arith, row-room c)
@@ -134,8 +131,8 @@ end-for-requires c κs = search needs
 
 holder-start-requires : tie.Need-holder-start-requires Inv-loop μ-loop
 holder-start-requires c κs =
-    let turn = c .before .before .before .before .before .before in
-    (row-lent turn, (turn .before .loop .inv .starts .small, search needs))
+    let turn = c .before .before .before .before .before in
+    (row-lent turn, turn .before .loop .inv .starts .small)
 
 -- a row that follows and is near stands
 near-stands :
@@ -148,32 +145,32 @@ near-stands before near t i s e =
 
 -- the start that the holder is tested by
 starts-next : (c : tie.After-holder-start Inv-loop μ-loop) → Starts (c .holder-start .result)
-starts-next c = let l = c .before .before .before .before .before .before .before .before in rw (c .holder-start .ensures) (starts-holder _ _ (l .loop .inv .starts))
+starts-next c = let l = c .before .before .before .before .before .before .before in rw (c .holder-start .ensures) (starts-holder _ _ (l .loop .inv .starts))
 
 rest-sound-requires : tie.Need-rest-sound-requires Inv-loop μ-loop
-rest-sound-requires c κs = (row-lent (c .before .before .before .before .before .before .before .before), (starts-next (c .before) .small, search needs))
+rest-sound-requires c κs = (row-lent (c .before .before .before .before .before .before), starts-next c .small)
 
 -- whether the row stands, by the scan's test
 stands :
     (c : tie.After-rest-sound Inv-loop μ-loop)
-    → let l = c .before .before .before .before .before .before .before .before .before .before in
-    let t = l .before .before .before .before .before .args .table .now in
-    rowStands t (l .loop .inv .row) ≡ within (l .loop .before) (c .before .before .before .before .end-for .result) (numberAt (lent t (l .loop .at)) 0) (c .rest-sound .result)
+    → let l = c .before .before .before .before .before .before .before .before in
+    let t = l .before .before .before .before .args .table .now in
+    rowStands t (l .loop .inv .row) ≡ within (l .loop .before) (c .before .before .end-for .result) (numberAt (lent t (l .loop .at)) 0) (c .rest-sound .result)
 stands c =
-    let l = c .before .before .before .before .before .before .before .before .before .before in
-    let t = l .before .before .before .before .before .args .table .now in
+    let l = c .before .before .before .before .before .before .before .before in
+    let t = l .before .before .before .before .args .table .now in
     let w = lent t (l .loop .at) in
     tested _ _ _ _ _ _ (l .loop .inv) _ (sym (row-tells (l .loop .near) w 0 (l .loop .inv .starts)))
     ∙ within-tells (l .loop .before) (l .loop .end) (numberAt w 0) (restFrom (holderStart (l .loop .near) (holderAt w 0)) w 0) (l .loop .inv .reaches)
-    ∙ rw (c .rest-sound .ensures, c .before .before .holder-start .ensures, c .before .before .before .before .end-for .ensures)
+    ∙ rw (c .rest-sound .ensures, c .before .holder-start .ensures, c .before .before .end-for .ensures)
 
 returns-3 : tie.Need-returns-3 Inv-loop μ-loop
 unfolding tableUpTo
 returns-3 c =
-    let turn = c .before .before .before .before .before .before .before .before .before .before in
+    let turn = c .before .before .before .before .before .before .before .before in
     let l = turn .before in
-    let t = l .before .before .before .before .before .args .table .now in
-    not-counted t (not-every rowWords mostNumbers (rowStands t) t (l .loop .inv .row) (inside _ _ _ _ _ _ (l .loop .inv) (l .before .before .before .if1 .left) (turn .loop-test .taken))
+    let t = l .before .before .before .before .args .table .now in
+    not-counted t (not-every rowWords mostNumbers (rowStands t) t (l .loop .inv .row) (inside _ _ _ _ _ _ (l .loop .inv) (l .before .before .if1 .left) (turn .loop-test .taken))
     (stands (c .before) ∙ not-true _ (c .if4 .taken)))
 
 count-row-requires : tie.Need-count-row-requires Inv-loop μ-loop
@@ -181,7 +178,7 @@ count-row-requires c κs =
     let turn = c .before .before .before .before in
     let l = turn .before in
     let p = l .loop .inv in
-    (row-lent turn, counts-few (l .loop .figures) (l .before .before .before .before .before .args .table .now) (p .row) mostNumbers (p .counts) (omega (arith, p .stood .order, l .before .before .if2 .left)))
+    (row-lent turn, counts-few (l .loop .figures) (l .before .before .before .before .args .table .now) (p .row) mostNumbers (p .counts) (omega (arith, p .stood .order, l .before .if2 .left)))
 
 loop-less : tie.Need-loop-less Inv-loop μ-loop
 loop-less c = search needs
@@ -192,15 +189,15 @@ loop-again c =
     let turn = near .before .before .before in
     let l = turn .before in
     let p = l .loop .inv in
-    let t = l .before .before .before .before .before .args .table .now in
+    let t = l .before .before .before .before .args .table .now in
     let w = lent t (l .loop .at) in
-    let next = passed _ _ _ _ _ _ p (l .before .before .before .if1 .left) (turn .loop-test .taken) in
+    let next = passed _ _ _ _ _ _ p (l .before .before .if1 .left) (turn .loop-test .taken) in
     rw (c .count-row .ensures)
     (⊎-elim
     (λ slow.
-    let known : tie.After-rest-sound Inv-loop μ-loop = record { before = record { before = record { before = record { before = record { before = record { before = near; if3 = slow .0 }; end-for = slow .1 }; least = slow .2 }; holder-start = slow .3 }; least2 = slow .4 }; rest-sound = slow .5 } in
-    let e = not-false _ (slow .6 .left) in
-    next _ _ (stands known ∙ e) (rw (slow .7) (rw (slow .1 .ensures) (reaches-on _ _ _ (p .reaches) (ltb-true _ _ (and-left _ _ e))))) (rw (slow .8) (starts-next (known .before .before))))
+    let known : tie.After-rest-sound Inv-loop μ-loop = record { before = record { before = record { before = record { before = near; if3 = slow .0 }; end-for = slow .1 }; holder-start = slow .2 }; rest-sound = slow .3 } in
+    let e = not-false _ (slow .4 .left) in
+    next _ _ (stands known ∙ e) (rw (slow .5) (rw (slow .1 .ensures) (reaches-on _ _ _ (p .reaches) (ltb-true _ _ (and-left _ _ e))))) (rw (slow .6) (starts-next (known .before))))
     (λ fast.
     let r = within-reached (l .loop .before) (l .loop .end) (numberAt w 0) (near .is-near .result) (p .reaches) (not-false _ (fast .0 .left)) in
     next _ _ (tested _ _ _ _ _ _ p _ refl ∙ near-stands (l .loop .before) (l .loop .near) w 0 (p .starts) (rw (near .is-near .ensures) at (r .0))) (rw (fast .1) (r .1)) (rw (fast .2) (p .starts)))
@@ -210,7 +207,7 @@ returns-4 : tie.Need-returns-4 Inv-loop μ-loop
 unfolding tableUpTo
 returns-4 c =
     let l = c .before in
-    let t = l .before .before .before .before .before .args .table .now in
+    let t = l .before .before .before .before .args .table .now in
     let p = l .loop .inv in
     all-counted t _ (p .row)
     (all-stand rowWords mostNumbers (rowStands t) t (search needs) (search needs) (scan-end _ _ _ _ _ (p .stood) (omega (arith, p .place, c .loop-test .left))))
@@ -224,7 +221,6 @@ recount-spec =
     μ-loop
     returns
     returns-2
-    least-numbers-requires
     loop-holds
     add-next
     mul-words
