@@ -104,7 +104,8 @@ enum {
  * string does not read; 71 the data coding scheme is not 0x0F.
  * Outcomes: 01 registered, 02 erased, 03 interrogated; 11 a crew's request to
  * register, 12 one to erase, whatever became of its numbers; 22, 41, 42, 61, 62,
- * 63, 67, 68 as in document 01's table.
+ * 63, 67, 68 as in document 01's table (63 not for a plain erasure by the
+ * subscriber whose own digits the number has).
  */
 
 /* An answer. A field that its class does not name is 0. */

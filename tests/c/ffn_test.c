@@ -220,6 +220,20 @@ static void requests(void)
     HOLDS(outcome(ask(B, "##214*0492123401*88*4915100001*#"), 68, "68") && record_is(F, A, 1, A, B, 0));
 }
 
+/* M-105: a number that has A's digits. */
+static void own_number(void)
+{
+    set_record(B, 0, 0, 0, 0);
+    table[0] = A;
+    HOLDS(outcome(ask(A, "##214*4915100001***#"), 2, "02"));
+    HOLDS(record_is(A, 0, 0, 0, 0, 0));
+    HOLDS(outcome(ask(A, "##214*4915100001***#"), 62, "62"));
+    HOLDS(outcome(ask(A, "**214*4915100001***#"), 67, "67"));
+    set_record(A, 0, 0, 0, 0);
+    HOLDS(outcome(ask(B, "##214*0492123401***#"), 63, "63"));
+    HOLDS(record_is(F, A, 0, 0, 0, 0));
+}
+
 /* A request that is refused or in error, in the order of the checks; it touches nothing. */
 static void request_checks(void)
 {
@@ -607,6 +621,7 @@ int main(void)
     packing();
     groups();
     requests();
+    own_number();
     request_checks();
     notices();
     the_figures();

@@ -1,5 +1,5 @@
 // The calls of the node by lines of text: a line sets memory or makes one call, and what is printed of a call is its answer, the octets that it
-// wrote, what lies beyond them, and what became of table and figures. Document 01's examples and those of crews, frames and figures stand in the file
+// wrote, what lies beyond them, and what became of table and figures. Document 01's examples and those of crews, frames, figures and own numbers stand in the file
 // stdin. What they print, in the file stdout, was worked out by hand from the papers; the independent implementation answers the same lines, and random
 // ones beside them.
 //

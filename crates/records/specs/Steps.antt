@@ -76,20 +76,28 @@ forcedOff supervisor r = record { holder = nobody; notice = Waiting 0 0; address
 
 -- ---- requests
 
+-- "requester and functional number have the same digits": she is the number's own subscriber
+abbrev pub isOwn : FunctionalNumber → Msisdn → Bool
+isOwn number requester = eqb (number .0) (requester .0)
+
+-- M-105: "The decision who may erase plainly" has two permitted cases: the holder, and the number's own subscriber
+abbrev pub mayErase : FunctionalNumber → Msisdn → Msisdn → Bool
+mayErase number requester holder = same holder requester || isOwn number requester
+
 -- 67: "registration where number and requester have the same digits"; 61: "registration, another holder".
 -- "registration answers 01 and the requester holds the number"
 unfoldable pub registered : FunctionalNumber → Msisdn → Record → Step
 registered number requester r =
     decide
-    ((eqb (number .0) (requester .0), step.Stays 67)
+    ((isOwn number requester, step.Stays 67)
     ∷ (not (isNobody (r .holder)) && not (same (r .holder) requester), step.Stays 61)
     ∷ [])
     (step.Becomes (heldBy requester r))
 
--- 62: "erasure or interrogation, no holder"; 63: "erasure, holder is not the requester". "Erasure answers 02 and nobody holds it"
-unfoldable pub erased : Msisdn → Record → Step
-erased requester r =
-    decide ((isNobody (r .holder), step.Stays 62) ∷ (not (same (r .holder) requester), step.Stays 63) ∷ []) (step.Becomes (heldBy nobody r))
+-- 62: "erasure or interrogation, no holder"; 63: "erasure, holder is not the requester", unless it is M-105's second case. "Erasure answers 02 and nobody holds it"
+unfoldable pub erased : FunctionalNumber → Msisdn → Record → Step
+erased number requester r =
+    decide ((isNobody (r .holder), step.Stays 62) ∷ (not (mayErase number requester (r .holder)), step.Stays 63) ∷ []) (step.Becomes (heldBy nobody r))
 
 -- 63: "forced, holder is not the MSISDN named"; 68: "forced, holder differs from the supervisor, phase is not 0".
 -- "A forced erasure answers 02; if supervisor and holder differ, the phase becomes 1 with addressee and supervisor set"

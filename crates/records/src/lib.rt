@@ -169,15 +169,17 @@ impl Record {
         Step::Becomes(self.held_by(requester))
     }
 
-    pub fn erase(self, requester: Msisdn) -> Step
-        ensures { λ r. ⌜ r ≡ erased requester self ⌝ }
+    // A plain erasure, by the holder or by the number's own subscriber.
+    pub fn erase(self, number: FunctionalNumber, requester: Msisdn) -> Step
+        ensures { λ r. ⌜ r ≡ erased number requester self ⌝ }
     {
         let holder_word = self.holder.0;
+        let number_word = number.0;
         let requester_word = requester.0;
         if holder_word == 0 {
             return Step::Stays(62);
         }
-        if holder_word != requester_word {
+        if !((holder_word == requester_word) | (number_word == requester_word)) {
             return Step::Stays(63);
         }
         Step::Becomes(self.held_by(Msisdn(0)))

@@ -21,7 +21,7 @@ use Rattle.records.specs.declared.Sending.{Sending}
 use Rattle.records.specs.declared.Sending.the-variants as sending
 use Rattle.records.specs.declared.Resulted.{Resulted}
 use Rattle.records.specs.declared.Resulted.the-variants.{Refused, Delivered, Dropped, Again}
-use Rattle.records.specs.Steps.{nobody, isNobody, same, heldBy, mostSendings, isAbsent, isWaiting, isInFlight, sendingsDone, withNotice, cleared, forcedOff, registered, erased, forced, delayAllowed, isDue, launched, sent, lastKind, resulted}
+use Rattle.records.specs.Steps.{nobody, isNobody, same, isOwn, mayErase, heldBy, mostSendings, isAbsent, isWaiting, isInFlight, sendingsDone, withNotice, cleared, forcedOff, registered, erased, forced, delayAllowed, isDue, launched, sent, lastKind, resulted}
 use Rattle.rows.specs.Rows.{lastPhase, failedOnce, holderSound, noticeUpTo, phaseOf, secondOf, sentOnce, recordSound}
 use Rattle.rows.proofs.Notices.{Pending, pending, pending-sound}
 use Rattle.rows.proofs.Rows.{sound-record, record-is-sound}
@@ -83,13 +83,13 @@ module _ (r : Record) (s : recordSound r ≡ true) where
   unfolding registered
   registered-sound number requester n =
       decide-each SoundStep
-      ((eqb (number .0) (requester .0), Stays 67) ∷ (not (isNobody (r .holder)) && not (same (r .holder) requester), Stays 61) ∷ [])
+      ((isOwn number requester, Stays 67) ∷ (not (isNobody (r .holder)) && not (same (r .holder) requester), Stays 61) ∷ [])
       (Becomes (heldBy requester r)) (tt, (tt, tt)) (held-sound requester (or-right (eqb (requester .0) 0) (isNumber (requester .0)) n))
 
-  pub erased-sound : (requester : Msisdn) → SoundStep (erased requester r)
+  pub erased-sound : (number : FunctionalNumber) (requester : Msisdn) → SoundStep (erased number requester r)
   unfolding erased
-  erased-sound requester =
-      decide-each SoundStep ((isNobody (r .holder), Stays 62) ∷ (not (same (r .holder) requester), Stays 63) ∷ []) (Becomes (heldBy nobody r)) (tt, (tt, tt))
+  erased-sound number requester =
+      decide-each SoundStep ((isNobody (r .holder), Stays 62) ∷ (not (mayErase number requester (r .holder)), Stays 63) ∷ []) (Becomes (heldBy nobody r)) (tt, (tt, tt))
       (held-sound nobody refl)
 
   off-sound : (supervisor : Msisdn) → isNumber (r .holder .0) ≡ true → isNumber (supervisor .0) ≡ true → same (r .holder) supervisor ≡ false → recordSound (forcedOff supervisor r) ≡ true

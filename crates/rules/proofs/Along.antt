@@ -52,10 +52,11 @@ pub data Asked (list : List ℕ) (r : Record) (requester : Msisdn) (read : Optio
   negative : Asked list r requester read false false r
   registration : {f : Request} → read ≡ some f → f .operation ≡ Register → (not (isNobody (r .holder)) && not (same (r .holder) requester)) ≡ false
       → Asked list r requester read true false (heldBy requester r)
-  erasure : {f : Request} → read ≡ some f → f .operation ≡ Erase → f .erasing ≡ Empty → same (r .holder) requester ≡ true
+  erasure : {f : Request} → read ≡ some f → f .operation ≡ Erase → f .erasing ≡ Empty → steps.mayErase (f .number) requester (r .holder) ≡ true
+      → hasFollowMe (flagsOf list (requester .0)) ≡ true
       → Asked list r requester read false true (heldBy nobody r)
   -- a forced erasure by the holder herself
-  own : {f : Request} {named : Msisdn} → read ≡ some f → f .operation ≡ Erase → f .erasing ≡ Forced named
+  herself : {f : Request} {named : Msisdn} → read ≡ some f → f .operation ≡ Erase → f .erasing ≡ Forced named
       → same (r .holder) named ≡ true → same (r .holder) requester ≡ true → Asked list r requester read false true (heldBy nobody r)
   -- a forced erasure by another
   forced : {f : Request} {named : Msisdn} → read ≡ some f → f .operation ≡ Erase → f .erasing ≡ Forced named
@@ -106,14 +107,14 @@ module _ (list : List ℕ) (r : Record) (requester : Msisdn) (reply : List ℕ) 
         (λ a. registration refl p (a .1 .0))
     by-operation Erase Empty p q w =
         decide-by (Stepped 2) (steps-by Erase Empty) (step.Becomes (heldBy nobody r)) (negative, (negative, tt))
-        (λ a. erasure refl p q (not-false _ (a .1 .0)))
+        (λ a. erasure refl p q (not-false _ (a .1 .0)) right)
     by-operation Erase (Forced named) p q w =
         decide-by (Stepped 2) (steps-by Erase (Forced named)) (step.Becomes (afterErasure requester (Forced named) r))
         (negative, (negative, (negative, tt))) (λ a. by-holder (same (r .holder) requester) refl (not-false _ (a .1 .0)) (a .1 .1 .0))
       where
         by-holder : (b : Bool) → same (r .holder) requester ≡ b → same (r .holder) named ≡ true → (not b && not (isAbsent (r .notice))) ≡ false
             → Requested (visitSaying 2 reply (cond b (heldBy nobody r) (forcedOff requester r)))
-        by-holder true m h a = own refl p q h m
+        by-holder true m h a = herself refl p q h m
         by-holder false m h a = forced refl p q h (not-false _ a) right (not-false _ w)
     by-operation Interrogate e p q w =
         decide-by (λ h. Requested (holderAnswered reply r h)) (map (answering holds.Stays) (recordChecks Interrogate e (f .number) requester r)) (holds.Held (r .holder))

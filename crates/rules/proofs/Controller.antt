@@ -49,10 +49,10 @@ use Rattle.rules.proofs.Calls.{calls-keep}
 use Rattle.rules.proofs.Framed.{as-bare, framed-says}
 use Rattle.rules.proofs.Visits.{found-back, single-visits}
 use Rattle.rules.proofs.Sound.{single-keeps, single-own}
-use Rattle.rules.proofs.Along.{Asked, negative, registration, erasure, own, forced, Does, asks, unsent, sends, untaken, clears, goes-on, delivers, drops, along, answered-02, one-same, not-same}
+use Rattle.rules.proofs.Along.{Asked, negative, registration, erasure, herself, forced, Does, asks, unsent, sends, untaken, clears, goes-on, delivers, drops, along, answered-02, one-same, not-same}
 
 -- a well-formed request names the number in its string
-form-names : (list : List ℕ) (requester : Msisdn) (scheme : ℕ) (string reply : List ℕ) (f : Request) → WellFormed list requester scheme string reply f
+pub form-names : (list : List ℕ) (requester : Msisdn) (scheme : ℕ) (string reply : List ℕ) (f : Request) → WellFormed list requester scheme string reply f
     → nameOf list (request requester scheme string reply) ≡ some (f .number .0)
 form-names list requester scheme string reply f form =
     let some-octets = form .least in
@@ -76,7 +76,7 @@ module _ (list : List ℕ) (delay : ℕ) (c : Call) (t : State) (k : ℕ) (r : R
       (d .0 ∙ ap (λ (x : Visited). x .reply) does, ap (λ o. holderIn o .0) (d .1) ∙ ap (λ (x : Visited). x .next .holder .0) does)
 
   -- it leaves the record, and so the state
-  visit-leaves : v .next ≡ r → single list delay c t ≡ (v .reply, t)
+  pub visit-leaves : v .next ≡ r → single list delay c t ≡ (v .reply, t)
   visit-leaves stays = go (rowFor t k) refl
     where
       go : (place : Found) → rowFor t k ≡ place → single list delay c t ≡ (v .reply, t)
@@ -166,8 +166,8 @@ asked-frees : {list : List ℕ} {r next : Record} {q : Msisdn} {read : Option Re
     → next .holder ≡ nobody
 asked-frees negative u = no-path u
 asked-frees (registration p q w) u = no-path u
-asked-frees (erasure p q w m) u = refl
-asked-frees (own p q w m o) u = refl
+asked-frees (erasure p q w m right) u = refl
+asked-frees (herself p q w m o) u = refl
 asked-frees (forced p q w m x y z) u = refl
 
 erasure-frees : {list : List ℕ} {r : Record} {c : Call} {v : Visited} → Does list r c v → isOutcome 2 (v .reply .answer) ≡ true → v .next .holder ≡ nobody

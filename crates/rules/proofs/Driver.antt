@@ -1,4 +1,4 @@
--- The driver: who holds a number ceases to hold it only by an erasure of her own or by a supervisor who names her, and nobody comes to hold it but by her own registration. Assumes nothing.
+-- The driver: who holds a number ceases to hold it only by an erasure of her own, by that of the number's own subscriber or by a supervisor who names her, and nobody comes to hold it but by her own registration. Assumes nothing.
 use mathlib.Core.Path.{_≡_, refl, sym, ap, _∙_, subst}
 use mathlib.Core.Logic.{_⊎_, inl, inr, ⊎-elim}
 use mathlib.Core.Bool.{Bool, true, false, _||_}
@@ -8,11 +8,11 @@ use Prim.Native.Nat.{ℕ, suc}
 use native.Mathlib.Omega.{arith}
 use borrow.Author.Tests.{eqb-true, eq-eqb, not-false}
 use Rattle.answers.proofs.Decide.{all-pass}
-use Rattle.answers.proofs.Tests.{no-path, or-right, or-neither, same-or-not}
+use Rattle.answers.proofs.Tests.{no-path, and-both, or-cases, or-left, or-right, or-neither, same-or-not}
 use Rattle.numbers.specs.declared.Msisdn.{Msisdn}
 use Rattle.strings.specs.Text.{Request}
 use Rattle.records.specs.declared.Record.{Record}
-use Rattle.records.specs.Steps.{nobody, isNobody, same, isAbsent}
+use Rattle.records.specs.Steps.{nobody, isNobody, same, isOwn, isAbsent}
 use Rattle.tables.specs.Tables.{listSound, flagsOf}
 use Rattle.rules.specs.Answers.{isOutcome}
 use Rattle.rules.specs.Frames.{ownReply}
@@ -32,7 +32,7 @@ use Rattle.rules.proofs.Steps.{goes-said, View, own as alone-step, stop
 use Rattle.rules.proofs.Calls.{all-steps-single, singly-end}
 use Rattle.rules.proofs.Visits.{naming}
 use Rattle.rules.proofs.Local.{named-some}
-use Rattle.rules.proofs.Along.{Asked, AskedIn, negative, registration, erasure, own, forced, Does, asks, unsent, sends, untaken, clears, goes-on, Along, ends, passes, visits, along, word, one-msisdn, same-one, one-same, never-first}
+use Rattle.rules.proofs.Along.{Asked, AskedIn, negative, registration, erasure, herself, forced, Does, asks, unsent, sends, untaken, clears, goes-on, Along, ends, passes, visits, along, word, one-msisdn, same-one, one-same, never-first}
 
 -- ---- what the tests say
 
@@ -63,8 +63,8 @@ asked-keeps : {list : List ℕ} {r next : Record} {q : Msisdn} {read : Option Re
     → one ≡ false → two ≡ false → next .holder ≡ r .holder
 asked-keeps negative a b = refl
 asked-keeps (registration p q h) a b = no-path (sym a)
-asked-keeps (erasure p q h m) a b = no-path (sym b)
-asked-keeps (own p q h m w) a b = no-path (sym b)
+asked-keeps (erasure p q h m right) a b = no-path (sym b)
+asked-keeps (herself p q h m w) a b = no-path (sym b)
 asked-keeps (forced p q h m x y z) a b = no-path (sym b)
 
 -- a request leaves the holder, or nobody, or gives the number to who registers it
@@ -72,8 +72,8 @@ asked-gives : {list : List ℕ} {r next : Record} {q : Msisdn} {read : Option Re
     → (next .holder ≡ r .holder) ⊎ ((next .holder ≡ nobody) ⊎ ((registersAs read ≡ true) × (one ≡ true) × (next .holder .0 ≡ q .0)))
 asked-gives negative = inl refl
 asked-gives (registration p q h) = inr (inr (rw (p, q) refl, refl, refl))
-asked-gives (erasure p q h m) = inr (inl refl)
-asked-gives (own p q h m w) = inr (inl refl)
+asked-gives (erasure p q h m right) = inr (inl refl)
+asked-gives (herself p q h m w) = inr (inl refl)
 asked-gives (forced p q h m x y z) = inr (inl refl)
 
 -- h holds the number still, or an erasure has ended her hold
@@ -83,10 +83,10 @@ asked-ends : {list : List ℕ} {r next : Record} {q : Msisdn} {read : Option Req
     × ((b : Bool) → (isAbsent (r .notice) ≡ true → b ≡ true) → erasesHoldIn h b q (flagsOf list (q .0)) read ≡ true))
 asked-ends negative h held sound e = inl e
 asked-ends {q = requester} (registration p q w) h held sound e = inl (sym (same-one h requester (not-false _ (rw (e, held) at w))))
-asked-ends {r = r} {q = requester} (erasure p q w m) h held sound e =
-    let by = one-same requester h (sym (same-one (r .holder) requester m) ∙ e) in
-    inr (refl, refl, λ b i. rw (p, q, w, by) refl)
-asked-ends {r = r} {q = requester} (own {named = named} p q w m o) h held sound e =
+asked-ends {r = r} {q = requester} (erasure {f} p q w m right) h held sound e =
+    let ends = ⊎-elim (λ s. or-left _ _ (one-same requester h (sym (same-one (r .holder) requester s) ∙ e))) (λ o. or-right (same requester h) _ (and-both (isOwn (f .number) requester) true o refl)) (or-cases _ _ m) in
+    inr (refl, refl, λ b i. rw (p, q, w, right) ends)
+asked-ends {r = r} {q = requester} (herself {named = named} p q w m o) h held sound e =
     let of = one-same named h (sym (same-one (r .holder) named m) ∙ e) in
     let by = one-same requester h (sym (same-one (r .holder) requester o) ∙ e) in
     inr (refl, refl, λ b i. rw (p, q, w, of, by) refl)
@@ -258,7 +258,7 @@ module _ (list : List ℕ) (delay k : ℕ) (calls : List Call) (state : State) w
       rw (singles-log list delay (steps list calls) state (all-steps-single list delay calls), singly-end list delay calls state)
       (along list delay k (steps list calls) state)
 
-  -- if h holds k before the calls and not after them, one of their steps is an erasure that may end her hold, answered 02: her own, in a crew's request too, or a forced one
+  -- if h holds k before the calls and not after them, one of their steps is an erasure that may end her hold, answered 02: her own or that of the number's own subscriber, in a crew's request too, or a forced one
   pub hold-ends-by-a-step : (h : Msisdn) → isNobody h ≡ false → holderOf state k ≡ h .0 → (holderOf (end (call list delay) calls state) k ≡ h .0 → ⊥)
       → Stood (endsHold list h k) stepsGot
   hold-ends-by-a-step h held e gone =

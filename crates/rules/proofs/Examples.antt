@@ -1,4 +1,4 @@
--- Document 01, "Examples": P1 to P15, and document 02's M-100, M-101 and M-103 (M-102 is P14), of the rules, computed from octets and words, as one list under one statement. Assumes nothing.
+-- Document 01, "Examples": P1 to P15, and document 02's M-100, M-101, M-103 and M-105 (M-102 is P14), of the rules, computed from octets and words, as one list under one statement. Assumes nothing.
 use mathlib.Core.Path.{_≡_, refl}
 use mathlib.Core.Bool.{Bool, true}
 use mathlib.Core.List.{List, [], _∷_, _++_, map}
@@ -42,15 +42,22 @@ B = 14915100002
 abbrev pub C : ℕ
 C = 14915100003
 
+abbrev pub D : ℕ
+D = 14915100004
+
 abbrev pub F : ℕ
 F = 10492123401
 
 abbrev pub subscribers : List ℕ
 subscribers = A ∷ 1 ∷ B ∷ 3 ∷ C ∷ 0 ∷ []
 
+-- the row of a number, held by a subscriber
+abbrev pub rowOfNumber : ℕ → ℕ → List ℕ
+rowOfNumber number msisdn = number ∷ msisdn ∷ 0 ∷ 0 ∷ 0 ∷ 0 ∷ []
+
 -- F's row: free, held, and with a notice to A from B at a phase and with a last word
 abbrev pub held : ℕ → List ℕ
-held msisdn = F ∷ msisdn ∷ 0 ∷ 0 ∷ 0 ∷ 0 ∷ []
+held msisdn = rowOfNumber F msisdn
 
 abbrev pub free : List ℕ
 free = held 0
@@ -97,10 +104,11 @@ interrogatesF = ascii "*#214*0492123401***#"
 abbrev pub halfForced : List ℕ
 halfForced = ascii "**214*0492123401*88**#"
 
--- by its label P1 to P15: characters and their octets; octets and what they read as; a table with the figures of a recount, calls over it, each with what it gets, and the table then, again with the figures of a recount; the same with figures by their words
+-- by its label P1 to P15: characters and their octets; octets and what they read as; a table with the figures of a recount, calls over it, each with what it gets, and the table then, again with the figures of a recount; the same with a list of its own; and with figures by their words
 pub data Example : Type 0 where
   packs reads : ℕ → List ℕ → List ℕ → Example
   answers : ℕ → List ℕ → List (Call × Reply) → List ℕ → Example
+  listed : ℕ → List ℕ → List ℕ → List (Call × Reply) → List ℕ → Example
   keeps : ℕ → State → List (Call × Reply) → State → Example
 
 -- what a call gets: its answer, and the octets at the front of its buffer, all others as they were
@@ -110,21 +118,22 @@ gets c a octets = (c, record { answer = a; buffer = over octets (bufferOf c) })
 abbrev pub says : Call → ℕ → List ℕ → Call × Reply
 says c n octets = gets c (outcome n 2) octets
 
-abbrev pub go : Call → State → Reply × State
-go = call subscribers 0
+abbrev pub go : List ℕ → Call → State → Reply × State
+go list = call list 0
 
 abbrev pub calls : List (Call × Reply) → List Call
 calls got = map (λ p. p .0) got
 
 -- every answer, every octet of every buffer, table and figures
-abbrev pub Comes : State → List (Call × Reply) → State → Type 0
-Comes state got after = _≡_ {A = List (Call × Reply) × State} (log go (calls got) state, end go (calls got) state) (got, after)
+abbrev pub Comes : List ℕ → State → List (Call × Reply) → State → Type 0
+Comes list state got after = _≡_ {A = List (Call × Reply) × State} (log (go list) (calls got) state, end (go list) (calls got) state) (got, after)
 
 abbrev pub Holds : Example → Type 0
 Holds (packs p cs os) = packed cs ≡ os
 Holds (reads p os cs) = _≡_ {A = Bool × List ℕ} (readable os, unpacked os) (true, cs)
-Holds (answers p table got after) = Comes (counted table) got (counted after)
-Holds (keeps p state got after) = Comes state got after
+Holds (answers p table got after) = Comes subscribers (counted table) got (counted after)
+Holds (listed p list table got after) = Comes list (counted table) got (counted after)
+Holds (keeps p state got after) = Comes subscribers state got after
 
 infixr 5 _and_
 pub data All : List Example → Type 0 where
@@ -184,7 +193,7 @@ p1-to-p15 =
 
 -- the row of the number with the code in F's root, held by a subscriber
 abbrev pub member : ℕ → ℕ → List ℕ
-member code msisdn = (F - 1 + code) ∷ msisdn ∷ 0 ∷ 0 ∷ 0 ∷ 0 ∷ []
+member code msisdn = rowOfNumber (F - 1 + code) msisdn
 
 -- a registration, and an erasure, of F with an additional field
 abbrev pub registersCrew : List ℕ → List ℕ
@@ -290,6 +299,50 @@ counts-phases = refl
 pub counts-none : figures.recount [] ≡ 0 ∷ 0 ∷ 0 ∷ []
 unfolding figures.recount
 counts-none = refl
+
+-- ---- document 02, M-105
+
+-- A asks to erase the number that has her digits
+abbrev pub erasesOwnA : List ℕ
+erasesOwnA = ascii "##214*4915100001***#"
+
+abbrev pub crewOfTwo : ℕ → ℕ → List ℕ
+crewOfTwo lead branch = rowOfNumber A lead ++ rowOfNumber B branch
+
+abbrev pub erasesOwnCrew : List ℕ
+erasesOwnCrew = ascii "##214*4915100001***BULK1 02#"
+
+abbrev pub ownExamples : List Example
+ownExamples =
+    -- held by another, by nobody, with a notice pending
+    answers 105 (rowOfNumber A B) (says (asks A erasesOwnA) 2 octets02 ∷ []) (rowOfNumber A 0)
+    ∷ answers 105 (rowOfNumber A 0) (says (asks A erasesOwnA) 62 (0x36 ∷ 0x19 ∷ []) ∷ []) (rowOfNumber A 0)
+    ∷ answers 105 (A ∷ B ∷ 3 ∷ C ∷ B ∷ 9 ∷ []) (says (asks A erasesOwnA) 2 octets02 ∷ []) (A ∷ 0 ∷ 3 ∷ C ∷ B ∷ 9 ∷ [])
+    -- by another subscriber, by one who is not listed, by one with flags 0
+    ∷ answers 105 (rowOfNumber A A) (says (asks B erasesOwnA) 63 octets63 ∷ []) (rowOfNumber A A)
+    ∷ answers 105 (rowOfNumber D A) (says (asks D (ascii "##214*4915100004***#")) 42 (0x34 ∷ 0x19 ∷ []) ∷ []) (rowOfNumber D A)
+    ∷ answers 105 (rowOfNumber C A) (says (asks C (ascii "##214*4915100003***#")) 42 (0x34 ∷ 0x19 ∷ []) ∷ []) (rowOfNumber C A)
+    -- of a number with a zero more in front, a zero more behind, a zero less in front
+    ∷ answers 105 (rowOfNumber 104915100001 B) (says (asks A (ascii "##214*04915100001***#")) 63 octets63 ∷ []) (rowOfNumber 104915100001 B)
+    ∷ answers 105 (rowOfNumber 149151000010 B) (says (asks A (ascii "##214*49151000010***#")) 63 octets63 ∷ []) (rowOfNumber 149151000010 B)
+    ∷ listed 105 (F ∷ 1 ∷ subscribers) (rowOfNumber 1492123401 A) (says (asks F (ascii "##214*492123401***#")) 63 octets63 ∷ []) (rowOfNumber 1492123401 A)
+    ∷ listed 105 (F ∷ 1 ∷ subscribers) (held A) (says (asks F erasesF) 2 octets02 ∷ []) free
+    -- in a crew, the lead and the branch: `12 1 01 1 02`, `12 1 02 1 01`
+    ∷ answers 105 (crewOfTwo C C) (gets (asks A erasesOwnCrew) (outcome 12 11) (0x31 ∷ 0x19 ∷ 0x28 ∷ 0x06 ∷ 0x82 ∷ 0xC5 ∷ 0x40 ∷ 0x31 ∷ 0x10 ∷ 0x4C ∷ 0x06 ∷ []) ∷ []) (crewOfTwo 0 C)
+    ∷ answers 105 (crewOfTwo C C) (gets (asks B erasesOwnCrew) (outcome 12 11) (0x31 ∷ 0x19 ∷ 0x28 ∷ 0x06 ∷ 0x82 ∷ 0xC9 ∷ 0x40 ∷ 0x31 ∷ 0x10 ∷ 0x2C ∷ 0x06 ∷ []) ∷ []) (crewOfTwo C 0)
+    -- forced: without flag 2, naming another, naming the holder, and with a notice pending
+    ∷ answers 105 (rowOfNumber A B) (says (asks A (ascii "##214*4915100001*88*4915100002*#")) 22 (0x32 ∷ 0x19 ∷ []) ∷ []) (rowOfNumber A B)
+    ∷ answers 105 (rowOfNumber B C) (says (asks B (ascii "##214*4915100002*88*4915100001*#")) 63 octets63 ∷ []) (rowOfNumber B C)
+    ∷ answers 105 (rowOfNumber B C) (says (asks B (ascii "##214*4915100002*88*4915100003*#")) 2 octets02 ∷ []) (B ∷ 0 ∷ 1 ∷ C ∷ B ∷ 0 ∷ [])
+    ∷ answers 105 (B ∷ C ∷ 1 ∷ A ∷ C ∷ 0 ∷ []) (says (asks B (ascii "##214*4915100002*88*4915100003*#")) 68 (0x36 ∷ 0x1C ∷ []) ∷ []) (B ∷ C ∷ 1 ∷ A ∷ C ∷ 0 ∷ [])
+    -- and she still cannot register it
+    ∷ answers 105 (rowOfNumber A 0) (says (asks A (ascii "**214*4915100001***#")) 67 (0xB6 ∷ 0x1B ∷ []) ∷ []) (rowOfNumber A 0)
+    ∷ []
+
+pub m-105 : All ownExamples
+unfolding countOf crewOf countedCodesAt spacedCodesAt soundCodesAt codesAt codesIn codesSound isCode isIn distinct each crews.withCode crews.walked valueOf digits octetsFor charsIn padded packed characters readable filled kept unpacked isDigit pushed storedForm isNumber digitsUpTo digitsOf leading leadingNumber isAdditional textOf noticeFields begins operationAt serviceAt numberFieldAt forcedAt erasingAt additionalAt fieldsOf requestOf elapsed delayOf delayAllowed rows.noticeUpTo rows.rowUpTo rows.noticeOf rows.recordAt rows.stored placeOf tableUpTo rowOf recordOf figures.recount states.figuresRight states.moved listSound flagsOf requests.step crews.requesting notices.sendingNotice notices.takingResult
+m-105 =
+    refl and refl and refl and refl and refl and refl and refl and refl and refl and refl and refl and refl and refl and refl and refl and refl and refl and done
 
 -- ---- document 02, M-101
 

@@ -32,7 +32,7 @@ use Rattle.rules.proofs.Once.{single}
 use Rattle.rules.proofs.Visits.{found-sound}
 use Rattle.rules.proofs.Single.{call-single, singles-log}
 use Rattle.rules.proofs.Calls.{all-steps-single, singly-end, calls-keep}
-use Rattle.rules.proofs.Along.{Asked, negative, registration, erasure, own, forced, Does, asks, unsent, sends, untaken, clears, goes-on, delivers, drops, Passed, unnamed, missing, refused, Along, ends, passes, visits, along, never-first}
+use Rattle.rules.proofs.Along.{Asked, negative, registration, erasure, herself, forced, Does, asks, unsent, sends, untaken, clears, goes-on, delivers, drops, Passed, unnamed, missing, refused, Along, ends, passes, visits, along, never-first}
 
 -- ---- one visit
 
@@ -66,8 +66,8 @@ asked-keeps : {list : List ℕ} {r next : Record} {requester : Msisdn} {read : O
     → Asked list r requester read one two next → isAbsent (r .notice) ≡ false → next ≡ heldBy (next .holder) r
 asked-keeps negative n = refl
 asked-keeps (registration p q h) n = refl
-asked-keeps (erasure p q h m) n = refl
-asked-keeps (own p q h m w) n = refl
+asked-keeps (erasure p q h m right) n = refl
+asked-keeps (herself p q h m w) n = refl
 asked-keeps (forced p q h m x y z) n = no-path (sym n ∙ x)
 
 -- a request, framed or not, is neither a sending nor a result

@@ -76,7 +76,7 @@ module _ (r : Record) (sound : recordSound r ≡ true) where
   decides-sound : (o : Operation) (e : Erasing) (number : FunctionalNumber) (requester : Msisdn) (reply : List ℕ) → isNumber (requester .0) ≡ true
       → SoundVisit (decides o e number requester reply r)
   decides-sound Register e number requester reply n = stepped-sound 1 reply (steps.registered number requester r) (registered-sound r sound number requester n)
-  decides-sound Erase Empty number requester reply n = stepped-sound 2 reply (steps.erased requester r) (erased-sound r sound requester)
+  decides-sound Erase Empty number requester reply n = stepped-sound 2 reply (steps.erased number requester r) (erased-sound r sound number requester)
   decides-sound Erase (Forced m) number requester reply n = stepped-sound 2 reply (steps.forced requester m r) (forced-sound r sound requester m n)
   decides-sound Interrogate e number requester reply n = told-sound reply (steps.interrogated r)
 
@@ -133,7 +133,7 @@ module _ (t : State) (sound : stateSound t ≡ true) (requester : Msisdn) (one :
 
     decides-at-keeps : (o : Operation) (e : Erasing) (number : FunctionalNumber) → Kept t (decidesAt o e number requester t i .state)
     decides-at-keeps Register e number = step-at-keeps 1 (steps.registered number requester (recordIn t i)) (registered-sound (recordIn t i) row number requester one)
-    decides-at-keeps Erase Empty number = step-at-keeps 2 (steps.erased requester (recordIn t i)) (erased-sound (recordIn t i) row requester)
+    decides-at-keeps Erase Empty number = step-at-keeps 2 (steps.erased number requester (recordIn t i)) (erased-sound (recordIn t i) row number requester)
     decides-at-keeps Erase (Forced m) number = step-at-keeps 2 (steps.forced requester m (recordIn t i)) (forced-sound (recordIn t i) row requester m one)
     decides-at-keeps Interrogate e number = tell-at-keeps (steps.interrogated (recordIn t i))
 

@@ -26,7 +26,7 @@ use Rattle.rules.proofs.Once.{single}
 use Rattle.rules.proofs.Single.{call-single, singles-log}
 use Rattle.rules.proofs.Steps.{forced-alone}
 use Rattle.rules.proofs.Calls.{all-steps-single}
-use Rattle.rules.proofs.Along.{Asked, negative, registration, erasure, own, forced, Does, asks, unsent, sends, untaken, clears, goes-on, Along, ends, passes, visits, along, answered-02, same-one, not-same, never-first}
+use Rattle.rules.proofs.Along.{Asked, negative, registration, erasure, herself, forced, Does, asks, unsent, sends, untaken, clears, goes-on, Along, ends, passes, visits, along, answered-02, same-one, not-same, never-first}
 use Rattle.rules.proofs.NoticeEnds.{request-unsent, passed-unsent, still-pending}
 
 -- a notice to h from s is pending
@@ -57,8 +57,8 @@ module _ (list : List ℕ) (k : ℕ) where
       → read ≡ some f → f .erasing ≡ Forced h → same h s ≡ false → two ≡ true → Telling h s next
   forced-tells negative t e d u = no-path u
   forced-tells (registration p q w) t e d u = no-path u
-  forced-tells (erasure p q w m) t e d u = absurd (let z : _≡_ {A = ℕ} 0 1 = cc in omega arith)
-  forced-tells {r} {h = h} (own {named = named} p q w m o) t e d u =
+  forced-tells (erasure p q w m right) t e d u = absurd (let z : _≡_ {A = ℕ} 0 1 = cc in omega arith)
+  forced-tells {r} {h = h} (herself {named = named} p q w m o) t e d u =
       let one : h ≡ r .holder = cc (same-one (r .holder) named m) in
       no-path (sym d ∙ rw one o)
   forced-tells {r} (forced {named = named} p q w m x y z) t e d u =

@@ -73,8 +73,8 @@ read-sound string f e = sound-rules f (read-only (unpacked string) (request-read
 -- the checks of the record, by the operation
 abbrev pub recordChecks : Operation → Erasing → FunctionalNumber → Msisdn → Record → List (Bool × ℕ)
 recordChecks Register e number requester r =
-    (eqb (number .0) (requester .0), 67) ∷ (not (steps.isNobody (r .holder)) && not (steps.same (r .holder) requester), 61) ∷ []
-recordChecks Erase Empty number requester r = (steps.isNobody (r .holder), 62) ∷ (not (steps.same (r .holder) requester), 63) ∷ []
+    (steps.isOwn number requester, 67) ∷ (not (steps.isNobody (r .holder)) && not (steps.same (r .holder) requester), 61) ∷ []
+recordChecks Erase Empty number requester r = (steps.isNobody (r .holder), 62) ∷ (not (steps.mayErase number requester (r .holder)), 63) ∷ []
 recordChecks Erase (Forced m) number requester r =
     (steps.isNobody (r .holder), 62)
     ∷ (not (steps.same (r .holder) m), 63)
@@ -149,7 +149,7 @@ module _ (t : State) (i : ℕ) (same : storedIn t i (recordIn t i) ≡ t) (reque
   replies : (o : Operation) (e : Erasing) (number : FunctionalNumber)
       → requests.replying reply (decidesAt o e number requester t i) ≡ storing t i (decides o e number requester reply (recordIn t i))
   replies Register e number = replies-step 1 (steps.registered number requester (recordIn t i))
-  replies Erase e number = replies-step 2 (erases e requester (recordIn t i))
+  replies Erase e number = replies-step 2 (erases e number requester (recordIn t i))
   replies Interrogate e number = replies-holder (steps.interrogated (recordIn t i))
 
   visits : (flags : ℕ) (f : Request) → rowFor t (f .number .0) ≡ At i → erasingSound (f .operation) (f .erasing) ≡ true

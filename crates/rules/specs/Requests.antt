@@ -7,6 +7,7 @@ use lib.ListN.{length}
 use lib.Dec.{eqb, ltb}
 use Rattle.answers.specs.Checks.{decide, isNone}
 use Rattle.numbers.specs.Numbers.{isNumber, twoDigits}
+use Rattle.numbers.specs.declared.FunctionalNumber.{FunctionalNumber}
 use Rattle.numbers.specs.declared.Msisdn.{Msisdn}
 use Rattle.strings.specs.declared.Operation.{Operation}
 use Rattle.strings.specs.declared.Operation.the-variants.{Register, Erase, Interrogate}
@@ -15,7 +16,7 @@ use Rattle.strings.specs.declared.Erasing.the-variants.{Empty, Forced}
 use Rattle.strings.specs.Text.{Request, codingScheme}
 use Rattle.strings.specs.Outcomes.{requestOf}
 use Rattle.records.specs.declared.Record.{Record}
-use Rattle.records.specs.Steps.{nobody, isNobody, same, heldBy, forcedOff, isAbsent}
+use Rattle.records.specs.Steps.{nobody, isNobody, same, isOwn, mayErase, heldBy, forcedOff, isAbsent}
 use Rattle.tables.specs.declared.Found.{Found}
 use Rattle.tables.specs.declared.Found.the-variants.{At, Nothing}
 use Rattle.tables.specs.Tables.{tableSound, listSound, flagsOf}
@@ -51,10 +52,10 @@ abbrev pub isForced : Erasing → Bool
 isForced Empty = false
 isForced (Forced named) = true
 
--- the holder that an erasure has to have: the MSISDN named by a forced one, the requester of a plain one
-abbrev pub named : Msisdn → Erasing → Msisdn
-named requester Empty = requester
-named requester (Forced msisdn) = msisdn
+-- whether an erasure is permitted, given who holds the number: a plain one by its two permitted cases, a forced one where it names the holder
+abbrev pub permitted : FunctionalNumber → Msisdn → Erasing → Msisdn → Bool
+permitted number requester Empty holder = mayErase number requester holder
+permitted number requester (Forced msisdn) holder = same holder msisdn
 
 -- the holder in a record, and whether its notice is absent (phase 0)
 abbrev pub holderIn : Option Record → Msisdn
@@ -96,10 +97,10 @@ rightChecks flags erasing = (not (hasFollowMe flags), 42) ∷ (isForced erasing 
 abbrev pub stepChecks : Msisdn → Request → Option Record → List (Bool × ℕ)
 stepChecks requester f r =
     (isNone r, 41)
-    ∷ (isRegister (f .operation) && eqb (f .number .0) (requester .0), 67)
+    ∷ (isRegister (f .operation) && isOwn (f .number) requester, 67)
     ∷ (isRegister (f .operation) && (not (isNobody (holderIn r)) && not (same (holderIn r) requester)), 61)
     ∷ ((isErase (f .operation) || isInterrogate (f .operation)) && isNobody (holderIn r), 62)
-    ∷ (isErase (f .operation) && not (same (holderIn r) (named requester (f .erasing))), 63)
+    ∷ (isErase (f .operation) && not (permitted (f .number) requester (f .erasing) (holderIn r)), 63)
     ∷ (isForced (f .erasing) && (not (same (holderIn r) requester) && not (noNotice r)), 68)
     ∷ []
 

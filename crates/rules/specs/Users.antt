@@ -13,11 +13,11 @@ use Rattle.strings.specs.declared.Erasing.{Erasing}
 use Rattle.strings.specs.declared.Erasing.the-variants.{Empty, Forced}
 use Rattle.strings.specs.Text.{Request, textOf, noticeFields, codingScheme}
 use Rattle.strings.specs.Outcomes.{requestOf}
-use Rattle.records.specs.Steps.{same}
+use Rattle.records.specs.Steps.{same, isOwn}
 use Rattle.tables.specs.Tables.{listSound, flagsOf}
 use Rattle.states.specs.States.{State, recordFor}
 use Rattle.rules.specs.Answers.{sentTo, isOutcome, bufferRoom, packedOver, octetCount}
-use Rattle.rules.specs.Requests.{isErase, noNotice, mostStringOctets}
+use Rattle.rules.specs.Requests.{hasFollowMe, isErase, noNotice, mostStringOctets}
 use Rattle.rules.specs.Calls.{Call, request, framed, sending, result, Reply, readOf, namesOne}
 use Rattle.rules.specs.Demand.{registers, requesterOf, holderOf}
 
@@ -31,14 +31,14 @@ bothFlags = 3
 abbrev pub askerOf : Call → Msisdn
 askerOf c = record { 0 = requesterOf c }
 
--- an erasure that may end the hold of h: plain, by h; or forced, naming h exactly, by h herself or by a requester with flags 3 at phase 0
-abbrev pub erasesHold : Msisdn → Bool → Msisdn → ℕ → Erasing → Bool
-erasesHold h phase0 requester flags Empty = same requester h
-erasesHold h phase0 requester flags (Forced named) = same named h && (same requester h || (eqb flags bothFlags && phase0))
+-- an erasure that may end the hold of h: plain, by h, or (M-105) by the number's own subscriber, listed with flag 1; or forced, naming h exactly, by h herself or by a requester with flags 3 at phase 0
+abbrev pub erasesHold : Msisdn → Bool → FunctionalNumber → Msisdn → ℕ → Erasing → Bool
+erasesHold h phase0 number requester flags Empty = same requester h || (isOwn number requester && hasFollowMe flags)
+erasesHold h phase0 number requester flags (Forced named) = same named h && (same requester h || (eqb flags bothFlags && phase0))
 
 abbrev pub erasesHoldIn : Msisdn → Bool → Msisdn → ℕ → Option Request → Bool
 erasesHoldIn h phase0 requester flags none = false
-erasesHoldIn h phase0 requester flags (some f) = isErase (f .operation) && erasesHold h phase0 requester flags (f .erasing)
+erasesHoldIn h phase0 requester flags (some f) = isErase (f .operation) && erasesHold h phase0 (f .number) requester flags (f .erasing)
 
 -- the call is a request, framed or not, whose string reads as such an erasure
 abbrev pub mayEndHold : List ℕ → Msisdn → Bool → Call → Bool

@@ -64,14 +64,14 @@ abbrev pub holderAnswered : List ℕ → Record → Holder → Visited
 holderAnswered reply r (holds.Stays m) = visitSaying m reply r
 holderAnswered reply r (holds.Held msisdn) = visited (holderIs (msisdn .0) (octetCount (holderText (msisdn .0)))) (packedOver (holderText (msisdn .0)) reply) r
 
-abbrev pub erases : Erasing → Msisdn → Record → Step
-erases Empty requester r = steps.erased requester r
-erases (Forced msisdn) requester r = steps.forced requester msisdn r
+abbrev pub erases : Erasing → FunctionalNumber → Msisdn → Record → Step
+erases Empty number requester r = steps.erased number requester r
+erases (Forced msisdn) number requester r = steps.forced requester msisdn r
 
 -- what the record decides, by the operation
 abbrev pub decides : Operation → Erasing → FunctionalNumber → Msisdn → List ℕ → Record → Visited
 decides Register erasing number requester reply r = stepped 1 reply r (steps.registered number requester r)
-decides Erase erasing number requester reply r = stepped 2 reply r (erases erasing requester r)
+decides Erase erasing number requester reply r = stepped 2 reply r (erases erasing number requester r)
 decides Interrogate erasing number requester reply r = holderAnswered reply r (steps.interrogated r)
 
 unfoldable pub decided : Request → Msisdn → List ℕ → Record → Visited
@@ -89,7 +89,7 @@ tellAt t (holds.Held msisdn) = comesTo (tells (msisdn .0)) t
 -- what the record of row i makes of a step, by the operation
 abbrev pub decidesAt : Operation → Erasing → FunctionalNumber → Msisdn → State → ℕ → Stepping
 decidesAt Register e number requester t i = stepAt t i 1 (steps.registered number requester (recordIn t i))
-decidesAt Erase e number requester t i = stepAt t i 2 (erases e requester (recordIn t i))
+decidesAt Erase e number requester t i = stepAt t i 2 (erases e number requester (recordIn t i))
 decidesAt Interrogate e number requester t i = tellAt t (steps.interrogated (recordIn t i))
 
 -- ---- sendings and results

@@ -110,11 +110,11 @@ pub fn settle(table: &mut [u64], figures: &mut [u64], row: usize, success: u8, s
 }
 
 // An erasure, plain or forced.
-fn erasure(held: Record, erasing: Erasing, requester: Msisdn) -> Step
-    ensures { λ r. ⌜ r ≡ erases erasing requester held ⌝ }
+fn erasure(held: Record, erasing: Erasing, number: FunctionalNumber, requester: Msisdn) -> Step
+    ensures { λ r. ⌜ r ≡ erases erasing number requester held ⌝ }
 {
     match erasing {
-        Erasing::Empty => held.erase(requester),
+        Erasing::Empty => held.erase(number, requester),
         Erasing::Forced(msisdn) => held.force(requester, msisdn),
     }
 }
@@ -154,7 +154,7 @@ pub fn decide_at(
             say(n, reply)
         }
         Operation::Erase => {
-            let step = erasure(record, erasing, requester);
+            let step = erasure(record, erasing, number, requester);
             let n = settle(table, figures, row, 2, step);
             say(n, reply)
         }

@@ -34,7 +34,7 @@ module _ (t : State) (requester : Msisdn) (number : FunctionalNumber) (i : ℕ) 
       f ∙ ap (λ (x : Record). stepAt t i 1 (registered number requester x)) read
       ∙ sym (step-visits t requester (plainly Register number) i place refl) ∙ ap (λ (x : Operation). step t requester (plainly x number)) (sym e)
 
-  pub step-erases : (o : Operation) (s : Stepping) → o ≡ Erase → s ≡ stepAt t i 2 (erased requester r) → s ≡ step t requester (plainly o number)
+  pub step-erases : (o : Operation) (s : Stepping) → o ≡ Erase → s ≡ stepAt t i 2 (erased number requester r) → s ≡ step t requester (plainly o number)
   step-erases o s e f =
-      f ∙ ap (λ (x : Record). stepAt t i 2 (erased requester x)) read
+      f ∙ ap (λ (x : Record). stepAt t i 2 (erased number requester x)) read
       ∙ sym (step-visits t requester (plainly Erase number) i place refl) ∙ ap (λ (x : Operation). step t requester (plainly x number)) (sym e)

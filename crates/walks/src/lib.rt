@@ -87,7 +87,7 @@ fn step(
     };
     let record = rows::load(table, row);
     let Operation::Register = operation else {
-        let step = record.erase(requester);
+        let step = record.erase(number, requester);
         return visits::settle(table, figures, row, 2, step);
     };
     let step = record.register(number, requester);

@@ -165,7 +165,8 @@ pub enum Outcome {
     HeldByAnother,
     /// 62: nobody holds the number.
     NoHolder,
-    /// 63: the holder is not the requester, or not the MSISDN named.
+    /// 63: a plain erasure by one who is neither the holder nor the number's own
+    /// subscriber, or a forced one that does not name the holder.
     WrongHolder,
     /// 67: number and requester have the same digits.
     SameDigits,

@@ -267,10 +267,11 @@ fn register(record: &mut Record, requester: u64) -> u8 {
     1
 }
 
+/// A plain erasure, by the holder or by the number's own subscriber.
 fn erase(record: &mut Record, requester: u64) -> u8 {
     match record[HOLDER] {
         0 => 62,
-        holder if holder != requester => 63,
+        holder if holder != requester && record[NUMBER] != requester => 63,
         _ => {
             record[HOLDER] = 0;
             2

@@ -28,8 +28,9 @@ fn label(before: &Call, after: &Call, reply: &Reply) -> String {
             Answer::Error(35) => "request: error 35, requester".into(),
             Answer::Error(36) if string.len() > 160 => "request: error 36, over 160".into(),
             Answer::Outcome { number, .. } => {
-                let forced = read_request(string).unwrap().forced;
-                let who = match forced {
+                let fields = read_request(string).unwrap();
+                let who = match fields.forced {
+                    None if *number == 2 && fields.number == *requester => ", her own number",
                     None => "",
                     Some(msisdn) if msisdn == *requester => ", forced, naming herself",
                     Some(_) => ", forced",
@@ -119,7 +120,7 @@ fn label(before: &Call, after: &Call, reply: &Reply) -> String {
 }
 
 /// What each call must come to at least a hundred times.
-const REACHED: [&str; 117] = [
+const REACHED: [&str; 119] = [
     "request: Refusal(1)",
     "request: Refusal(8)",
     "request: Refusal(2)",
@@ -132,6 +133,7 @@ const REACHED: [&str; 117] = [
     "request: 01",
     "request: 01, nothing changes",
     "request: 02",
+    "request: 02, her own number",
     "request: 02, forced",
     "request: 02, forced, naming herself",
     "request: 03",
@@ -141,6 +143,7 @@ const REACHED: [&str; 117] = [
     "request: 12, nothing changes",
     "step of a crew: 01",
     "step of a crew: 02",
+    "step of a crew: 02, her own number",
     "step of a crew: 41",
     "step of a crew: 61",
     "step of a crew: 62",
@@ -250,8 +253,10 @@ fn calls_reach_every_answer() {
         *counts.entry(label(&before, &after, &reply)).or_insert(0) += 1;
         check(&before, &after, &reply);
         check_figures(&before, &after, &reply);
-        for (_, outcome) in steps(&before, &after, &reply) {
-            let label = format!("step of a crew: {outcome:02}");
+        for (code, outcome) in steps(&before, &after, &reply) {
+            let own = outcome == 2 && is_own(&before, &code);
+            let whose = if own { ", her own number" } else { "" };
+            let label = format!("step of a crew: {outcome:02}{whose}");
             *counts.entry(label).or_insert(0) += 1;
         }
     }
@@ -277,6 +282,18 @@ fn calls_reach_every_answer() {
             "read: fields"
         ]
     );
+}
+
+/// Whether the requester has the digits of the crew's number with this code.
+fn is_own(call: &Call, code: &str) -> bool {
+    let Call::Request {
+        requester, string, ..
+    } = call
+    else {
+        return false;
+    };
+    let stored = read_request(string).unwrap().number.to_string();
+    requester.to_string() == format!("{}{code}", &stored[..stored.len() - 2])
 }
 
 /// The codes of a request that is answered 11 or 12, each with the outcome of

@@ -100,7 +100,7 @@ returns-2 c =
     let a = s .args in
     rw (g .before .enum-told2 .given .1)
     (said-placed _ (B s) _ _ _ _ (w .settle2 .ensures) (q .say2 .ensures .0) (q .say2 .ensures .1)
-    ∙ ap (λ (x : Step). replying (B s) (stepAt (T s) (a .row) 2 x)) (g .erasure .ensures ∙ ap (erases (a .fields .erasing) (a .requester)) (l .load .ensures)))
+    ∙ ap (λ (x : Step). replying (B s) (stepAt (T s) (a .row) 2 x)) (g .erasure .ensures ∙ ap (erases (a .fields .erasing) (a .fields .number) (a .requester)) (l .load .ensures)))
 
 same-length-7 : tie.Need-same-length-7
 same-length-7 c = search needs
