@@ -1,6 +1,8 @@
 # run: the program on document 01's example. test: the gate. bench: the figures of docs/PERFORMANCE.md.
-# install: archive, header and ffn.pc under PREFIX, for C builds.
+# install: archives, headers and ffn.pc under PREFIX, for C builds.
 .PHONY: run test bench install
+# Both archives are built in one target folder.
+.NOTPARALLEL:
 
 PREFIX ?= /usr/local
 FFN_LIB_DIR ?= target/staticlib
@@ -23,17 +25,18 @@ bench:
 	@$(need_rt)
 	@command -v cargo >/dev/null || { echo "missing: cargo, Debian's Rust"; exit 1; }
 	@rt staticlib ffn_c >/dev/null
+	@rt staticlib radio_c >/dev/null
 	@cd rust/bench && cargo run --release --offline --quiet
 
-install: $(FFN_LIB_DIR)/libffn_c.a
+install: $(FFN_LIB_DIR)/libffn_c.a $(FFN_LIB_DIR)/libradio_c.a
 	@mkdir -p $(place)/lib/pkgconfig $(place)/include
-	@install -m 644 $< $(place)/lib
-	@install -m 644 include/ffn.h $(place)/include
+	@install -m 644 $^ $(place)/lib
+	@install -m 644 include/ffn.h include/ffn_radio.h $(place)/include
 	@sed 's|@PREFIX@|$(prefix)|' include/ffn.pc.in >$(place)/lib/pkgconfig/ffn.pc
 	@chmod 644 $(place)/lib/pkgconfig/ffn.pc
 
-target/staticlib/libffn_c.a: crates.txt $(shell find crates -name '*.rt' -o -name '*.antt')
+target/staticlib/lib%.a: crates.txt $(shell find crates -name '*.rt' -o -name '*.antt')
 	@$(need_rt)
-	@echo "proving and building the archive first: some minutes" >&2
+	@echo "proving and building lib$*.a first: some minutes" >&2
 	@mkdir -p target
-	@rt staticlib ffn_c >target/staticlib.log 2>&1 || { tail -n 20 target/staticlib.log; exit 1; }
+	@rt staticlib $* >target/staticlib.log 2>&1 || { tail -n 20 target/staticlib.log; exit 1; }

@@ -1,5 +1,6 @@
-//! Finds `libffn_c.a`, which `rt staticlib ffn_c` writes: in the folder that
-//! FFN_LIB_DIR names, or in the repository's own.
+//! Finds `libffn_c.a` and `libradio_c.a`, which `rt staticlib ffn_c` and `rt
+//! staticlib radio_c` write: in the folder that FFN_LIB_DIR names, or in the
+//! repository's own.
 
 use std::path::PathBuf;
 
@@ -12,16 +13,18 @@ fn main() {
         || PathBuf::from(env!("CARGO_MANIFEST_DIR")).join("../../target/staticlib"),
         PathBuf::from,
     );
-    let library = folder.join("libffn_c.a");
-    assert!(
-        library.is_file(),
-        "no {}: run `rt staticlib ffn_c`, or set FFN_LIB_DIR",
-        library.display()
-    );
-    if std::env::var("CARGO_CFG_TARGET_ARCH").is_ok_and(|processor| processor != "x86_64") {
-        println!("cargo:warning=libffn_c.a is x86-64 code: here ffn can be checked, not linked");
-    }
-    println!("cargo:rerun-if-changed={}", library.display());
     println!("cargo:rustc-link-search=native={}", folder.display());
-    println!("cargo:rustc-link-lib=static=ffn_c");
+    for name in ["ffn_c", "radio_c"] {
+        let library = folder.join(format!("lib{name}.a"));
+        assert!(
+            library.is_file(),
+            "no {}: run `rt staticlib {name}`, or set FFN_LIB_DIR",
+            library.display()
+        );
+        println!("cargo:rerun-if-changed={}", library.display());
+        println!("cargo:rustc-link-lib=static={name}");
+    }
+    if std::env::var("CARGO_CFG_TARGET_ARCH").is_ok_and(|processor| processor != "x86_64") {
+        println!("cargo:warning=the archives are x86-64 code: here ffn can be checked, not linked");
+    }
 }

@@ -8,27 +8,16 @@ use lib.ListN.{length}
 use lib.Dec.{ltb}
 use borrow.Author.Tests.{lt-ltb, le-ltb, not-false}
 use Rattle.answers.specs.Writing.{madeWrite, Stands}
-use Rattle.answers.specs.declared.Written.{Written}
 use Rattle.answers.specs.declared.Written.the-variants.{Count, TooShort, Unfit}
 use Rattle.answers.proofs.Tests.{or-left, or-right, or-neither}
-use Rattle.answers.proofs.Writing.{writing-short, writing-unfit, writing-good, wrote-count, done-good, at-count, Counted, arm-count}
+use Rattle.answers.proofs.Writing.{writing-short, writing-unfit, writing-good, wrote-count, at-count}
 use Rattle.packing.specs.Packing.{packed}
 use Rattle.packing.proofs.Laws.{length-packed}
 use Rattle.strings.specs.Text.{Request, requestSound, textOf, codingScheme, mostOctets}
 use Rattle.strings.proofs.Text.{octets-short}
-use Rattle.strings.specs.Outcomes.{writerRoom, writingRequest}
 use Rattle.frames.specs.Messages.{frameRoom, register}
 use Rattle.frames.proofs.Lengths.{register-most}
 use Rattle.framers.specs.Written.{mostTransaction, firstFor, writingRegister}
-
-module _ (f : Request) (out : List ℕ) (r : Written) (new : List ℕ) (done : madeWrite r new ≡ writingRequest f out) where
-  pub string-written : writerRoom ≤ length out → requestSound f ≡ true → r ≡ Count (length (packed (textOf f)))
-  unfolding writingRequest
-  string-written room sound = done-good _ _ (packed (textOf f)) out r new done (le-ltb _ _ room) (ap not sound) .0
-
-  pub string-counted : (n : ℕ) → r ≡ Count n → Counted writerRoom (requestSound f) (packed (textOf f)) out new n
-  unfolding writingRequest
-  string-counted n e = arm-count writerRoom (requestSound f) (packed (textOf f)) out r new done n e
 
 module _ (transaction number : ℕ) (f : Request) (frame : List ℕ) where
   abbrev octets : List ℕ

@@ -23,14 +23,14 @@ use Rattle.strings.specs.declared.Operation.the-variants.{Register, Erase, Inte
 use Rattle.strings.specs.declared.Erasing.{Erasing}
 use Rattle.strings.specs.declared.Erasing.the-variants.{Empty, Forced}
 use Rattle.strings.specs.declared.Fields.{Fields}
-use Rattle.strings.specs.declared.Reading.the-variants.{Read, Unreadable}
+use Rattle.strings.specs.declared.Reading.the-variants.{Read}
 use Rattle.strings.specs.declared.ReadRequest.{ReadRequest}
 use Rattle.strings.specs.Text.{Request, requestFrom, erasingSound, mayCarry, isLead, requestSound, mostCharacters}
-use Rattle.strings.specs.Outcomes.{Told, ReadOutcome, requestOf, requestIn, tell, madeRead, reading}
+use Rattle.strings.specs.Outcomes.{ReadOutcome, requestOf, tell, madeRead, reading}
 use Rattle.strings.proofs.Text.{sound-rules, text-short}
 use Rattle.strings.proofs.ReadBack.{read-only}
 use Rattle.strings.proofs.Octets.{request-reads}
-use Rattle.strings.proofs.Answered.{told-place}
+use Rattle.strings.proofs.Answered.{told-place, told-so, was-read}
 use Rattle.strings.proofs.Choice.{beside-whole}
 use Rattle.tables.specs.declared.Found.{Found}
 use Rattle.tables.specs.declared.Found.the-variants.{At, Nothing}
@@ -180,51 +180,32 @@ module _ (f : Fields) (field : List ℕ) (n : ℕ) (sound : requestSound (withAd
 
 -- ---- what the reader's answer says of the string
 
-tell-none : (text : List ℕ) (o : Option Request) → Told.error 36 ≡ tell text o → o ≡ none
-tell-none text none e = refl
-tell-none text (some f) e = absurd (let z : _≡_ {A = ℕ} 0 1 = cc in omega arith)
-
-tell-some : (text : List ℕ) (o : Option Request) (f : Request) (start : ℕ) (crew : Crew) → Told.fields f start crew ≡ tell text o → (o ≡ some f) × (crew ≡ countOf (f .additional))
-tell-some text none f start crew e = absurd (let z : _≡_ {A = ℕ} 0 1 = cc in omega arith)
-tell-some text (some g) f start crew e = let same : g ≡ f = cc in let said : crew ≡ countOf (g .additional) = cc in (ap some same, said ∙ ap (λ (r : Request). countOf (r .additional)) same)
-
 module _ (os : List ℕ) (r : ReadRequest) (done : madeRead r ≡ reading os) where
-  pub not-read : r .reading ≡ Unreadable → requestOf os ≡ none
-  unfolding reading
-  not-read e = tell-none _ (requestOf os) (rw e at (ap (λ (o : ReadOutcome). o .answer) done))
-
   module _ (f : Fields) (e : r .reading ≡ Read f) where
     abbrev field : List ℕ
     field = take (f .count) (drop (f .start) (r .text))
 
-    told-so : Told.fields (requestIn (r .text) f) (f .start) (f .crew) ≡ tell (unpacked os) (requestOf os)
-    unfolding reading
-    told-so = rw e at (ap (λ (o : ReadOutcome). o .answer) done)
-
-    pub was-read : requestOf os ≡ some (withAdditional f field)
-    was-read = tell-some _ (requestOf os) _ _ _ told-so .0
-
-    pub read-crew : f .crew ≡ countOf field
-    read-crew = tell-some _ (requestOf os) _ _ _ told-so .1
+    string-reads : requestOf os ≡ some (withAdditional f field)
+    string-reads = was-read os r done f e
 
     pub read-sound : requestSound (withAdditional f field) ≡ true
-    read-sound = read-only (unpacked os) (request-reads os was-read .1) .0
+    read-sound = read-only (unpacked os) (request-reads os string-reads .1) .0
 
     -- the additional field stands in the text
     read-ends : length (unpacked os) ≡ f .start + f .count + 1
     unfolding reading
     read-ends =
         let text = ap (λ (o : ReadOutcome). o .text) done in
-        let whole = beside-whole os was-read in
-        told-place (r .text) (unpacked os) f (withAdditional f field) (read-only (unpacked os) (request-reads os was-read .1) .1) (omega (arith, ap length text))
-        (told-so ∙ ap (tell (unpacked os)) was-read)
+        let whole = beside-whole os string-reads in
+        told-place (r .text) (unpacked os) f (withAdditional f field) (read-only (unpacked os) (request-reads os string-reads .1) .1) (omega (arith, ap length text))
+        (told-so os r done f e ∙ ap (tell (unpacked os)) string-reads)
 
     pub read-within : f .start + f .count ≤ length (r .text)
     unfolding reading
-    read-within = omega (arith, ap (λ (o : ReadOutcome). length (o .text)) done, beside-whole os was-read, read-ends)
+    read-within = omega (arith, ap (λ (o : ReadOutcome). length (o .text)) done, beside-whole os string-reads, read-ends)
 
     pub read-short : f .start + f .count < mostCharacters
-    read-short = let text = ap length (read-only (unpacked os) (request-reads os was-read .1) .1) in omega (arith, read-ends, text-short (withAdditional f field) read-sound)
+    read-short = let text = ap length (read-only (unpacked os) (request-reads os string-reads .1) .1) in omega (arith, read-ends, text-short (withAdditional f field) read-sound)
 
     pub read-part : take (f .start + f .count - f .start) (drop (f .start) (r .text)) ≡ field
     read-part = let count : f .start + f .count - f .start ≡ f .count = omega arith in ap (λ (n : ℕ). take n (drop (f .start) (r .text))) count

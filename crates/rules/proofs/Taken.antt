@@ -1,4 +1,4 @@
--- The packer takes digits, numerals and spaces, and texts of texts that it takes. Assumes nothing.
+-- The packer takes digits, numerals and spaces, texts of texts that it takes, and the text that names a holder. Assumes nothing.
 use mathlib.Core.Path.{_≡_, refl, _∙_}
 use mathlib.Core.Logic.{⊎-elim}
 use mathlib.Core.Bool.{true}
@@ -8,9 +8,11 @@ use native.Mathlib.Omega.{arith}
 use borrow.Author.Tests.{lt-ltb, le-ltb, ne-eqb}
 use Rattle.answers.specs.Leading.{each}
 use Rattle.answers.proofs.Tests.{less-or-not}
-use Rattle.answers.proofs.Leading.{each-append}
+use Rattle.answers.proofs.Leading.{each-append, each-implies}
 use Rattle.packing.specs.Packing.{taken, takes}
-use Rattle.numbers.specs.Numbers.{twoDigits, numeral}
+use Rattle.numbers.specs.Numbers.{isDigit, isNumber, digitsOf, twoDigits, numeral}
+use Rattle.numbers.proofs.Digits.{digit-range, digits-are}
+use Rattle.rules.specs.Answers.{holderText}
 
 pub taken-low : (c : ℕ) → 48 ≤ c → c < 128 → taken c ≡ true
 unfolding taken
@@ -30,3 +32,10 @@ takes-both a b p q = each-append taken a b ∙ rw (p, q) refl
 pub takes-space : (a : List ℕ) → takes a ≡ true → takes (32 ∷ a) ≡ true
 unfolding each taken
 takes-space a p = p
+
+pub digit-taken : (c : ℕ) → isDigit c ≡ true → taken c ≡ true
+digit-taken c e = let r = digit-range c e in taken-low c (r .0) (omega (arith, r .1))
+
+pub takes-holder : (w : ℕ) → isNumber w ≡ true → takes (holderText w) ≡ true
+unfolding each taken
+takes-holder w e = each-implies isDigit taken digit-taken (digitsOf w) (digits-are w e)

@@ -1,23 +1,27 @@
 -- What is told of a text fixes the additional field's place in it, and the reader's answer on packed octets. Assumes nothing.
 use mathlib.Core.Path.{_≡_, refl, sym, ap, _∙_}
-use mathlib.Core.Bool.{true, false}
+use mathlib.Core.Bool.{true, false, not}
 use mathlib.Core.Option.{Option, none, some}
 use mathlib.Core.List.{List, _++_}
 use Prim.Native.Nat.{ℕ, _+_, _-_, _≤_, _<_}
 use native.Mathlib.Omega.{arith}
 use lib.ListN.{length, drop, length-append, length-take, length-drop}
 use lib.Seq.{take-append-le, drop-append-le}
+use borrow.Author.Tests.{le-ltb}
 use Rattle.answers.specs.Writing.{madeWrite, Stands}
 use Rattle.answers.specs.declared.Written.the-variants.{Count, TooShort, Unfit}
-use Rattle.answers.proofs.Writing.{wrote-count, no-room, not-fit, all-good}
+use Rattle.answers.specs.declared.Written.{Written}
+use Rattle.answers.proofs.Writing.{wrote-count, no-room, not-fit, all-good, done-good, Counted, arm-count}
+use Rattle.crews.specs.Crews.{countOf}
 use Rattle.crews.specs.declared.Crew.{Crew}
 use Rattle.packing.specs.Packing.{packed, readable, unpacked}
 use Rattle.strings.specs.declared.Fields.{Fields}
 use Rattle.strings.specs.declared.Reading.{Reading}
 use Rattle.strings.specs.declared.Reading.the-variants.{Read, Unreadable}
+use Rattle.strings.specs.declared.ReadRequest.{ReadRequest}
 use Rattle.strings.specs.Text.{Request, requestSound, textOf}
 use Rattle.strings.specs.Reader.{fieldsOf}
-use Rattle.strings.specs.Outcomes.{requestIn, requestOf, told, tell, madeRead, textBeside, reading, writerRoom, writingRequest}
+use Rattle.strings.specs.Outcomes.{requestIn, requestOf, told, tell, ReadOutcome, madeRead, textBeside, reading, writerRoom, writingRequest}
 use Rattle.strings.specs.Outcomes.Told.{fields, error}
 use Rattle.strings.proofs.Text.{text-fields}
 use Rattle.strings.proofs.ReadBack.{read-only}
@@ -72,6 +76,32 @@ read os text more r e d t b =
     let a : told r text ≡ tell (unpacked os) (fieldsOf (unpacked os)) = ap (told r) t ∙ told-front (unpacked os) more r d ∙ d in
     rw (a, e, b)
 
+-- ---- what the reader's answer says of the octets
+
+tell-none : (text : List ℕ) (o : Option Request) → error 36 ≡ tell text o → o ≡ none
+tell-none text none e = refl
+tell-none text (some f) e = not-error _ _ _ _ (sym e)
+
+tell-some : (text : List ℕ) (o : Option Request) (f : Request) (start : ℕ) (crew : Crew) → fields f start crew ≡ tell text o → (o ≡ some f) × (crew ≡ countOf (f .additional))
+tell-some text none f start crew e = not-error _ _ _ _ e
+tell-some text (some g) f start crew e = let same : g ≡ f = cc in let said : crew ≡ countOf (g .additional) = cc in (ap some same, said ∙ ap (λ (r : Request). countOf (r .additional)) same)
+
+module _ (os : List ℕ) (r : ReadRequest) (done : madeRead r ≡ reading os) where
+  pub not-read : r .reading ≡ Unreadable → requestOf os ≡ none
+  unfolding reading
+  not-read e = tell-none _ (requestOf os) (rw e at (ap (λ (o : ReadOutcome). o .answer) done))
+
+  module _ (f : Fields) (e : r .reading ≡ Read f) where
+    pub told-so : fields (requestIn (r .text) f) (f .start) (f .crew) ≡ tell (unpacked os) (requestOf os)
+    unfolding reading
+    told-so = rw e at (ap (λ (o : ReadOutcome). o .answer) done)
+
+    pub was-read : requestOf os ≡ some (requestIn (r .text) f)
+    was-read = tell-some _ (requestOf os) _ _ _ told-so .0
+
+    pub read-crew : f .crew ≡ countOf (requestIn (r .text) f .additional)
+    read-crew = tell-some _ (requestOf os) _ _ _ told-so .1
+
 -- ---- the writer's answer
 
 module _ (f : Request) (out : List ℕ) where
@@ -89,3 +119,13 @@ module _ (f : Request) (out : List ℕ) where
   unfolding writingRequest
   written {n} {new} h s w =
       wrote-count (packed (textOf f)) out new n (sym (w .count)) (w .buffer) ∙ sym (all-good writerRoom (requestSound f) (packed (textOf f)) out h s)
+
+-- what it tells its caller
+module _ (f : Request) (out : List ℕ) (r : Written) (new : List ℕ) (done : madeWrite r new ≡ writingRequest f out) where
+  pub string-written : writerRoom ≤ length out → requestSound f ≡ true → r ≡ Count (length (packed (textOf f)))
+  unfolding writingRequest
+  string-written room sound = done-good _ _ (packed (textOf f)) out r new done (le-ltb _ _ room) (ap not sound) .0
+
+  pub string-counted : (n : ℕ) → r ≡ Count n → Counted writerRoom (requestSound f) (packed (textOf f)) out new n
+  unfolding writingRequest
+  string-counted n e = arm-count writerRoom (requestSound f) (packed (textOf f)) out r new done n e

@@ -10,23 +10,13 @@ use types.Run.{OneOf}
 use lib.ListN.{length, take}
 use lib.Seq.{take-append-add, take-at}
 use native.Mathlib.Nat.{add-comm}
-use Rattle.answers.specs.Leading.{each}
-use Rattle.answers.proofs.Leading.{each-implies}
 use Rattle.answers.proofs.Written.{the-type}
 use Rattle.answers.specs.declared.Written.{Written}
 use Rattle.answers.specs.declared.Written.the-variants.{Count}
-use Rattle.packing.specs.Packing.{taken, takes, octetsFor}
-use Rattle.numbers.specs.Numbers.{isDigit, isNumber, digitsOf}
-use Rattle.numbers.proofs.Digits.{digit-range, digits-are, digits-most}
+use Rattle.packing.specs.Packing.{octetsFor}
+use Rattle.numbers.specs.Numbers.{isNumber, digitsOf}
+use Rattle.numbers.proofs.Digits.{digits-most}
 use Rattle.rules.specs.Answers.{holderText, bufferRoom}
-use Rattle.rules.proofs.Taken.{taken-low}
-
-pub digit-taken : (c : ℕ) → isDigit c ≡ true → taken c ≡ true
-digit-taken c e = let r = digit-range c e in taken-low c (r .0) (omega (arith, r .1))
-
-pub takes-holder : (w : ℕ) → isNumber w ≡ true → takes (holderText w) ≡ true
-unfolding each taken
-takes-holder w e = each-implies isDigit taken digit-taken (digitsOf w) (digits-are w e)
 
 pub holder-room : (w room : ℕ) → isNumber w ≡ true → bufferRoom ≤ room → octetsFor (length (holderText w)) ≤ room
 unfolding octetsFor

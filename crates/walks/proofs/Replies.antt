@@ -18,8 +18,7 @@ use Rattle.states.specs.States.{State}
 use Rattle.rules.specs.Answers.{Answer, outcome, made, packedOver, octetCount}
 use Rattle.rules.specs.Crews.{Walk, crewNumber, codesAndSpace, crewReply, crewOutcome}
 use Rattle.writers.proofs.Numerals.{numeral-short}
-use Rattle.rules.proofs.Taken.{takes-numeral, takes-both, takes-space}
-use Rattle.visits.proofs.Texts.{digit-taken}
+use Rattle.rules.proofs.Taken.{digit-taken, takes-numeral, takes-both, takes-space}
 use Rattle.walks.specs.declared.Codes.{Codes}
 use Rattle.walks.specs.declared.Tally.{Tally}
 use Rattle.rules.specs.Crews.{mostSteps}

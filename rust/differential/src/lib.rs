@@ -10,6 +10,8 @@ use ffn::c;
 use oracle::generate::{Call, Generator, Random, Reply};
 use oracle::{Answer, Fields, Invoked, Message, Operation, Place, Released};
 
+pub mod radio;
+
 /// How often each kind of answer came up.
 pub type Counts = BTreeMap<String, u64>;
 

@@ -1,4 +1,4 @@
-//! `differential [SEED] [CALLS]`: random calls through the proved library and
+//! `differential [SEED] [CALLS]`: random calls through the proved libraries and
 //! the independent implementation. Without a seed the clock gives one.
 
 #![forbid(unsafe_code)]
@@ -19,8 +19,12 @@ fn main() -> ExitCode {
         eprintln!("usage: differential [SEED] [CALLS]");
         return ExitCode::from(2);
     };
-    println!("seed {seed}, {calls} calls");
-    match differential::compare(seed, calls) {
+    println!("seed {seed}, {calls} calls to the node, twice as many to radios");
+    let compared = differential::compare(seed, calls).and_then(|mut counts| {
+        counts.extend(differential::radio::compare(seed, calls)?);
+        Ok(counts)
+    });
+    match compared {
         Ok(counts) => {
             for (kind, count) in counts {
                 println!("{count:8}  {kind}");

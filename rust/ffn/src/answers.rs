@@ -6,7 +6,7 @@ use std::fmt;
 
 use crate::{Crew, Msisdn};
 
-/// An enum whose variants have document 01's numbers.
+/// An enum whose variants have the papers' numbers.
 macro_rules! numbered {
     ($(#[$about:meta])* $name:ident { $($(#[$case:meta])* $variant:ident = $number:literal,)* }) => {
         $(#[$about])*
@@ -16,7 +16,7 @@ macro_rules! numbered {
         }
 
         impl $name {
-            /// Document 01's number.
+            /// The papers' number.
             pub fn number(self) -> u32 {
                 self as u32
             }

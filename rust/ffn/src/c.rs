@@ -1,5 +1,6 @@
-//! The functions of `include/ffn.h`, called with slices. Their structs hold
-//! numbers; the enums of this crate say what the numbers mean.
+//! The functions of `include/ffn.h` and `include/ffn_radio.h`, called with
+//! slices. Their structs hold numbers; the enums of this crate say what the
+//! numbers mean.
 //!
 //! A slice passes as a pointer and a length. That a `&mut` slice overlaps no
 //! other is Rust's own rule, and it is all that the library asks.
@@ -82,8 +83,49 @@ pub struct Figures {
     pub in_flight: u64,
 }
 
+/// `struct ffn_radio_entry`.
+#[repr(C)]
+#[derive(Clone, Copy, Debug, Default, PartialEq, Eq)]
+pub struct RadioEntry {
+    /// The functional number, in stored form.
+    pub number: u64,
+    /// 1 where it is marked unsure, otherwise 0.
+    pub unsure: u8,
+    /// 1 where it is still to be asked in this round, otherwise 0.
+    pub to_ask: u8,
+}
+
+/// `struct ffn_radio`. A fresh one is 0 but for `own` and `hand_held`.
+#[repr(C)]
+#[derive(Clone, Copy, Debug, Default, PartialEq, Eq)]
+pub struct Radio {
+    /// Its own MSISDN, in stored form.
+    pub own: u64,
+    /// How many numbers are stored; the entries behind them are 0.
+    pub count: usize,
+    pub entries: [RadioEntry; 16],
+    /// 1 of a hand-held, 0 of a cab radio.
+    pub hand_held: u8,
+    /// The invoke number of the last question.
+    pub invoke: u8,
+}
+
+/// `struct ffn_radio_doing`. With a refusal all but its number is 0.
+#[repr(C)]
+#[derive(Clone, Copy, Debug, PartialEq, Eq)]
+pub struct RadioDoing {
+    /// The number of a refusal, otherwise 0.
+    pub refusal: u8,
+    /// 1 where the empty response is to be returned.
+    pub respond: u8,
+    /// Of the question.
+    pub invoke: u8,
+    /// Of the question; 0 where none is to be asked.
+    pub octets: usize,
+}
+
 mod linked {
-    use super::{Answer, Figures, FrameRead, RequestRead};
+    use super::{Answer, Figures, FrameRead, Radio, RadioDoing, RequestRead};
 
     extern "C" {
         pub fn ffn_pack(
@@ -175,12 +217,28 @@ mod linked {
         ) -> Answer;
         pub fn ffn_read_register(message: *const u8, message_length: usize) -> FrameRead;
         pub fn ffn_read_release(message: *const u8, message_length: usize) -> FrameRead;
+        pub fn ffn_radio_store(radio: *mut Radio, number: u64) -> RadioDoing;
+        pub fn ffn_radio_notice(
+            radio: *mut Radio,
+            string: *const u8,
+            string_length: usize,
+            question: *mut u8,
+            question_length: usize,
+        ) -> RadioDoing;
+        pub fn ffn_radio_reply(
+            radio: *mut Radio,
+            invoke: u8,
+            string: *const u8,
+            string_length: usize,
+            question: *mut u8,
+            question_length: usize,
+        ) -> RadioDoing;
     }
 }
 
 // SAFETY, of every call below: each pointer and length are those of one slice,
-// which is borrowed for the call; the library reads and writes nothing else,
-// for every value of its arguments.
+// or the pointer is that of one radio, which is borrowed for the call; the
+// library reads and writes nothing else, for every value of its arguments.
 
 pub fn pack(chars: &[u8], out: &mut [u8]) -> Answer {
     unsafe { linked::ffn_pack(chars.as_ptr(), chars.len(), out.as_mut_ptr(), out.len()) }
@@ -349,4 +407,38 @@ pub fn read_register(message: &[u8]) -> FrameRead {
 
 pub fn read_release(message: &[u8]) -> FrameRead {
     unsafe { linked::ffn_read_release(message.as_ptr(), message.len()) }
+}
+
+pub fn radio_store(radio: &mut Radio, number: u64) -> RadioDoing {
+    unsafe { linked::ffn_radio_store(radio, number) }
+}
+
+pub fn radio_notice(radio: &mut Radio, string: &[u8], question: &mut [u8]) -> RadioDoing {
+    unsafe {
+        linked::ffn_radio_notice(
+            radio,
+            string.as_ptr(),
+            string.len(),
+            question.as_mut_ptr(),
+            question.len(),
+        )
+    }
+}
+
+pub fn radio_reply(
+    radio: &mut Radio,
+    invoke: u8,
+    string: &[u8],
+    question: &mut [u8],
+) -> RadioDoing {
+    unsafe {
+        linked::ffn_radio_reply(
+            radio,
+            invoke,
+            string.as_ptr(),
+            string.len(),
+            question.as_mut_ptr(),
+            question.len(),
+        )
+    }
 }

@@ -1,8 +1,9 @@
-//! The Follow Me node for Rust.
+//! The Follow Me node for Rust, and the cab radio ([`radio`]).
 //!
-//! The work is done by `libffn_c.a`, written in Rattle and proved, for every
-//! input, to answer and to leave in all lent memory exactly what documents 01
-//! and 02 say. This crate turns its numbers into enums and adds nothing of its own.
+//! The work is done by `libffn_c.a` and `libradio_c.a`, written in Rattle and
+//! proved, for every input, to answer and to leave in all lent memory exactly
+//! what documents 01 and 02 say. This crate turns their numbers into enums and
+//! adds nothing of its own.
 //!
 //! A table has six words a number, a list two words a subscriber, as document
 //! 01 lays them out. The [`Figures`] of a table are recounted once, at the start,
@@ -11,9 +12,10 @@
 //! says so; what a call writes stands at the start of the buffer, and
 //! everything beyond its count stays.
 //!
-//! The archive is x86-64 code. Without the feature `archive` the numbers and
+//! The archives are x86-64 code. Without the feature `archive` the numbers and
 //! answers are there alone, on any processor.
 
+#[macro_use]
 mod answers;
 #[cfg(feature = "archive")]
 pub mod c;
@@ -24,6 +26,7 @@ mod figures;
 #[cfg(feature = "archive")]
 mod frames;
 mod number;
+pub mod radio;
 
 pub use answers::{
     Answered, Failure, FramedReply, Kind, Message, Operation, Outcome, Problem, Refusal, Register,

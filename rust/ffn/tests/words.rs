@@ -3,6 +3,7 @@
 
 use std::error::Error;
 
+use ffn::radio::{self, Doing, Question};
 use ffn::{
     Failure, Figures, FunctionalNumber, Msisdn, NumberError, Problem, Refusal, RequestError,
 };
@@ -116,6 +117,37 @@ fn every_refusal_has_its_number_and_words() {
 }
 
 #[test]
+fn every_refusal_of_a_radio_has_its_number_and_words() {
+    let said: Vec<String> = (0..=30)
+        .filter_map(radio::Refusal::from_number)
+        .map(|refusal| refusal.to_string())
+        .collect();
+    assert_eq!(
+        said,
+        [
+            "refusal 1: the question buffer has under 160 octets",
+            "refusal 20: the number is new and the store is full",
+            "refusal 21: the notice is not the string of a forced erasure",
+            "refusal 22: no question is open, or the reply answers another one",
+            "refusal 23: the functional number is malformed",
+            "refusal 24: the radio is unsound",
+        ]
+    );
+}
+
+#[test]
+fn what_a_radio_is_to_ask() {
+    let question = Question {
+        invoke: 0,
+        octets: 18,
+    };
+    assert_eq!(Doing::Respond(Some(question)).question(), Some(question));
+    assert_eq!(Doing::Ask(question).question(), Some(question));
+    assert_eq!(Doing::Respond(None).question(), None);
+    assert_eq!(Doing::Done.question(), None);
+}
+
+#[test]
 fn every_error_has_its_number_and_words() {
     let said: Vec<String> = (0..=100)
         .filter_map(RequestError::from_number)
@@ -170,8 +202,9 @@ fn a_failure_speaks_as_its_reason_does() {
 
 #[test]
 fn each_passes_as_an_error() {
-    fn all() -> [Result<(), Box<dyn Error>>; 4] {
+    fn all() -> [Result<(), Box<dyn Error>>; 5] {
         [
+            Err(radio::Refusal::Full.into()),
             Err(Refusal::NotDue.into()),
             Err(RequestError::UnknownAlphabet.into()),
             Err(Failure::Refused(Refusal::NoRoom).into()),
@@ -181,6 +214,7 @@ fn each_passes_as_an_error() {
     assert_eq!(
         all().map(|result| result.unwrap_err().to_string()),
         [
+            "refusal 20: the number is new and the store is full",
             "refusal 5: the notice is not due",
             "error 71: the data coding scheme is not 0x0F",
             "refusal 1: a buffer is too short",

@@ -8,6 +8,7 @@
 //! To compare another implementation, take a [`Call`], run a copy of it here
 //! with [`Call::run`] and the other one there, and compare the replies and the
 //! memory: equal calls have equal memory.
+//! Calls to a radio, with its state, come from [`radio::case`].
 
 use std::collections::{BTreeMap, BTreeSet};
 
@@ -26,6 +27,7 @@ use crate::string::{read_request, write_request, Additional, Fields, Operation};
 use crate::text::Text;
 
 mod frames;
+pub mod radio;
 
 pub use frames::changed_frames;
 

@@ -4,8 +4,9 @@
 //! proved code. It serves as an outside check (the same inputs, compared
 //! answer by answer and octet by octet) and as a baseline for speed.
 //!
-//! Every call works on lent slices and allocates nothing; only [`run`], the
-//! program of document 01, and the generator of test inputs allocate.
+//! Every call of the node works on lent slices and allocates nothing; only the
+//! calls of the [`radio`], [`run`], the program of document 01, and the
+//! generator of test inputs allocate.
 //! Numbers are taken and given in stored form throughout: the digits with a 1
 //! put in front, read as a decimal. A caller lends the figures of the table
 //! beside it, by [`recount`] at first.
@@ -20,6 +21,7 @@ mod node;
 mod number;
 mod packing;
 mod program;
+pub mod radio;
 mod rows;
 mod string;
 mod text;

@@ -15,7 +15,8 @@ use Rattle.packing.proofs.Laws.{length-packed}
 use Rattle.strings.specs.Text.{Request, requestFrom, requestSound, textOf}
 use Rattle.strings.specs.Outcomes.{writerRoom}
 use Rattle.strings.proofs.Text.{octets-short}
-use Rattle.framers.proofs.Registers.{string-written, string-counted, register-short, register-identifier, register-unsound, register-written}
+use Rattle.strings.proofs.Answered.{string-written, string-counted}
+use Rattle.framers.proofs.Registers.{register-short, register-identifier, register-unsound, register-written}
 use Rattle.framers.proofs.write_register.Statement.{statement}
 use Rattle.framers.proofs.write_register.Tie as tie
 

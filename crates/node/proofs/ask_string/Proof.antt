@@ -15,7 +15,8 @@ use Rattle.strings.specs.Text.{requestSound}
 use Rattle.tables.specs.Tables.{flagsOf}
 use Rattle.states.specs.States.{State, beside}
 use Rattle.node.specs.Asked.{withAdditional, askedBy}
-use Rattle.node.proofs.Asked.{not-read, was-read, read-crew, read-sound, read-within, read-short, read-part, request-asked}
+use Rattle.strings.proofs.Answered.{not-read, was-read, read-crew}
+use Rattle.node.proofs.Asked.{read-sound, read-within, read-short, read-part, request-asked}
 use Rattle.node.proofs.Checks.{error-35-requester, error-71, error-35-empty, error-36-long, error-36-unread, none-refuses}
 use Rattle.node.proofs.ask_string.Statement.{statement}
 use Rattle.node.proofs.ask_string.Tie as tie

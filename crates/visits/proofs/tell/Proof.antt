@@ -9,7 +9,8 @@ use Rattle.numbers.specs.Numbers.{digitsOf}
 use Rattle.numbers.proofs.Digits.{digits-most}
 use Rattle.numbers.proofs.Writing.{written-digits}
 use Rattle.rules.specs.Answers.{holderIs, holderText}
-use Rattle.visits.proofs.Texts.{takes-holder, holder-room, holder-front, counts-only}
+use Rattle.rules.proofs.Taken.{takes-holder}
+use Rattle.visits.proofs.Texts.{holder-room, holder-front, counts-only}
 use Rattle.visits.proofs.tell.Statement.{statement}
 use Rattle.visits.proofs.tell.Tie as tie
 

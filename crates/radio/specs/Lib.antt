@@ -1,0 +1,3 @@
+-- `Radio`: the radio's three calls.
+pub mod Radio
+pub mod Asking

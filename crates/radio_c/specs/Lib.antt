@@ -1,0 +1,2 @@
+-- `Leaves`: how a thin function says what it leaves.
+pub mod Leaves

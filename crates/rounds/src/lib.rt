@@ -1,0 +1,1 @@
+// The theorems about the radio's rounds. It has no code.
