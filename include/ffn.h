@@ -209,7 +209,7 @@ struct ffn_answer ffn_request(uint64_t *table, size_t table_words, uint64_t *fig
 
 /*
  * Sends the notice of a number. FFN_SENT with the addressee, and the packed
- * notice in buffer; the record's phase grows by 1. delay is 0 (60 seconds) or
+ * notice in buffer; the record's phase grows by 1. delay is 0 (300 seconds) or
  * 60 to 600; now is the second counter, which wraps. Refused 1 (buffer under 80
  * octets), 2, 10, 7, 6, 4 (the phase is not odd), 5.
  */
@@ -227,7 +227,8 @@ struct ffn_answer ffn_result(uint64_t *table, size_t table_words, uint64_t *figu
 
 /*
  * The lowest number whose notice is due: FFN_FOUND, or FFN_NONE_DUE exactly if
- * none is due. It takes no figures. Refused 2, 6.
+ * none is due. delay is 0 (300 seconds) or 60 to 600, as in ffn_sending. It
+ * takes no figures. Refused 2, 6.
  */
 struct ffn_answer ffn_finding(const uint64_t *table, size_t table_words, uint32_t delay, uint32_t now);
 

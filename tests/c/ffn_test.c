@@ -366,8 +366,10 @@ static void the_figures(void)
     HOLDS(outcome(ask(B, "##214*0492123401*88*4915100001*#"), 2, "02") && figures_are(0, 1, 0));
     HOLDS(is(send(F, 0, 100), FFN_SENT, 0, 28, A) && figures_are(0, 0, 1));
     HOLDS(is(take(F, 5, 101), FFN_RESULT, FFN_AGAIN, 0, 0) && figures_are(0, 1, 0));
-    HOLDS(is(send(F, 0, 161), FFN_SENT, 0, 28, A) && figures_are(0, 0, 1));
-    HOLDS(is(take(F, 1, 162), FFN_RESULT, FFN_DROPPED, 0, 0) && figures_are(0, 0, 0));
+    HOLDS(is(send(F, 0, 400), FFN_REFUSAL, 5, 0, 0) && figures_are(0, 1, 0)); /* 0 means 300 seconds */
+    HOLDS(is(ffn_finding(table, 6, 0, 400), FFN_NONE_DUE, 0, 0, 0) && is(ffn_finding(table, 6, 0, 401), FFN_FOUND, 0, 0, F));
+    HOLDS(is(send(F, 0, 401), FFN_SENT, 0, 28, A) && figures_are(0, 0, 1));
+    HOLDS(is(take(F, 1, 402), FFN_RESULT, FFN_DROPPED, 0, 0) && figures_are(0, 0, 0));
     HOLDS(outcome(ask(B, "**214*0492123401***#"), 1, "01") && figures_are(1, 0, 0));
     HOLDS(outcome(ask(B, "##214*0492123401*88*4915100002*#"), 2, "02") && figures_are(0, 0, 0)); /* forced by the holder herself */
 

@@ -59,7 +59,7 @@ numberOf field = onlyIf (isDigits field && isNumberLong field) (storedForm field
 unfoldable pub askedOf : List ℕ → Option ℕ
 askedOf field = onlyIf (isDigits field) (cond (isNumberLong field) (storedForm field) 0)
 
--- flags, now and kind count by their value, "now and kind are below 2^32"
+-- flags, now, kind and a delay's seconds count by their value, "now and kind are below 2^32"
 unfoldable pub valueBelow : ℕ → List ℕ → Option ℕ
 valueBelow limit field = onlyIf (isDigits field && ltb (pushed 0 field) limit) (pushed 0 field)
 
@@ -76,6 +76,8 @@ pub data Form : Type 0 where
   sendingLine : ℕ → FunctionalNumber → Form
   -- `D` now number kind
   resultLine : ℕ → FunctionalNumber → ℕ → Form
+  -- M-107: `W` seconds
+  delayLine : ℕ → Form
 
 -- what stands behind the letter and its space, in each form; "a string is the rest of its line", and so is every last field
 unfoldable pub numberForm : List ℕ → Option Form
@@ -117,6 +119,12 @@ resultForm rest = do
   now ← valueBelow (2 ^ 32) (firstField rest)
   resultFields now fields
 
+-- M-107: seconds count by their value
+unfoldable pub delayForm : List ℕ → Option Form
+delayForm rest = do
+  seconds ← valueBelow (2 ^ 32) rest
+  some (delayLine seconds)
+
 -- the form by its letter
 abbrev pub letters : ℕ → List ℕ → List (Bool × Option Form)
 letters letter rest =
@@ -125,6 +133,7 @@ letters letter rest =
     ∷ (eqb letter (code "R"), requestForm rest)
     ∷ (eqb letter (code "T"), sendingForm rest)
     ∷ (eqb letter (code "D"), resultForm rest)
+    ∷ (eqb letter (code "W"), delayForm rest)
     ∷ []
 
 unfoldable pub lettered : ℕ → List ℕ → Option Form

@@ -8,7 +8,7 @@ use Rattle.forms.specs.declared.FieldRead.{FieldRead}
 use Rattle.forms.specs.declared.FieldRead.the-variants.{Value, Unreadable}
 use Rattle.forms.specs.declared.Line.{Line}
 use Rattle.forms.specs.declared.Line.the-variants as line
-use Rattle.forms.specs.Lines.{Form, numberLine, subscriberLine, requestLine, sendingLine, resultLine}
+use Rattle.forms.specs.Lines.{Form, numberLine, subscriberLine, requestLine, sendingLine, resultLine, delayLine}
 
 -- the value that a field's reader answers
 abbrev pub valueIn : FieldRead → Option ℕ
@@ -22,6 +22,7 @@ formIn rest (line.Subscriber m flags) = some (subscriberLine m flags)
 formIn rest (line.Request m start) = some (requestLine m (drop start rest))
 formIn rest (line.Sending now n) = some (sendingLine now n)
 formIn rest (line.Result now n kind) = some (resultLine now n kind)
+formIn rest (line.Delay seconds) = some (delayLine seconds)
 formIn rest line.Other = none
 
 -- where the string of a line starts
@@ -31,6 +32,7 @@ startIn (line.Subscriber m flags) = 0
 startIn (line.Request m start) = start
 startIn (line.Sending now n) = 0
 startIn (line.Result now n kind) = 0
+startIn (line.Delay seconds) = 0
 startIn line.Other = 0
 
 -- what a line's reader answers

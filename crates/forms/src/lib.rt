@@ -8,10 +8,10 @@ ghost use mathlib.Core.List.{List};
 ghost use Prim.Native.Nat.{ℕ, _^_, _≤_, _<_};
 ghost use lib.ListN.{length};
 ghost use Rattle.bytes.specs.Bytes.{indexOf};
-ghost use Rattle.forms.specs.Lines.{isDigits, numberOf, askedOf, valueBelow, numberForm, subscriberForm, requestForm, sendingForm, resultFields, resultForm, lettered};
+ghost use Rattle.forms.specs.Lines.{isDigits, numberOf, askedOf, valueBelow, numberForm, subscriberForm, requestForm, sendingForm, resultFields, resultForm, delayForm, lettered};
 ghost use Rattle.forms.specs.Reads.{valueIn, Reads};
 
-// Flags, and now and kind, are below these.
+// Flags, and now, kind and seconds, are below these.
 const FLAGS_END: u64 = MOST_FLAGS + 1;
 
 const TWO_TO_THE_32: u64 = 4_294_967_296;
@@ -23,6 +23,7 @@ pub enum Line {
     Request(Msisdn, usize),
     Sending(u32, FunctionalNumber),
     Result(u32, FunctionalNumber, u32),
+    Delay(u32),
     Other,
 }
 
@@ -205,6 +206,17 @@ fn read_result(rest: &[u8]) -> Line
     read_result_at(clock as u32, &rest[next..])
 }
 
+// `W` seconds.
+fn read_delay(rest: &[u8]) -> Line
+    ensures { λ r. ⌜ Reads (now (rest .entry)) r (delayForm (now (rest .entry))) ⌝ }
+{
+    let field = value_below(rest, TWO_TO_THE_32);
+    let FieldRead::Value(seconds) = field else {
+        return Line::Other;
+    };
+    Line::Delay(seconds as u32)
+}
+
 // The form of a line by its letter.
 pub fn read_form(letter: u8, rest: &[u8]) -> Line
     ensures { λ r. ⌜ Reads (now (rest .entry)) r (lettered letter (now (rest .entry))) ⌝ }
@@ -215,6 +227,7 @@ pub fn read_form(letter: u8, rest: &[u8]) -> Line
         b'R' => read_request(rest),
         b'T' => read_sending(rest),
         b'D' => read_result(rest),
+        b'W' => read_delay(rest),
         _ => Line::Other,
     }
 }

@@ -24,7 +24,8 @@ use Rattle.forms.specs.Lines.{lineFeed, space, firstField, behindField, isDigit
 use Rattle.rows.specs.Rows.{rowWords}
 use Rattle.tables.specs.Tables.{mostNumbers, subscriberWords, mostSubscribers}
 use Rattle.states.specs.States.{counted}
-use Rattle.lines.specs.Program.{Program, Effect, mayFollow, mayFill, withNumber, withSubscriber, answeredLine, lentBuffer, numbered, subscribed, asked, requested, dispatched, reported, effectOf, lineEffect}
+use Rattle.records.specs.Steps.{delayAllowed}
+use Rattle.lines.specs.Program.{Program, Effect, mayFollow, whenAllowed, withNumber, withSubscriber, withDelay, answeredLine, lentBuffer, numbered, subscribed, delayed, asked, requested, dispatched, reported, effectOf, begun, lineEffect}
 use Rattle.replies.specs.Replies.{textIn, behindLetter, Printable, answerRoom}
 use Rattle.writers.proofs.Numerals.{numeral-short}
 use Rattle.replies.proofs.Writing.{text-most}
@@ -111,6 +112,7 @@ Long n (some (form.subscriberLine msisdn flags)) = Unit {0}
 Long n (some (form.requestLine msisdn string)) = 2 ≤ n
 Long n (some (form.sendingLine clock number)) = (2 ≤ n) × (isNumber (number .0) ≡ true → 6 ≤ n)
 Long n (some (form.resultLine clock number kind)) = 2 ≤ n
+Long n (some (form.delayLine seconds)) = Unit {0}
 
 -- what holds of nothing, and of what is read from everything that can be read first
 bind-each : {X Y : Type 0} (P : Option Y → Type 0) (m : Option X) (f : X → Option Y) → P none → ((x : X) → m ≡ some x → P (f x)) → P (m >>= f)
@@ -155,9 +157,13 @@ module _ (rest : List ℕ) where
       bind-each IsLong (askedOf (firstField fields)) _ tt (λ w a. bind-each IsLong (valueBelow (2 ^ 32) last) _ tt (λ kind v.
       omega (arith, field-behind rest fields b, value-some (2 ^ 32) (firstField rest) clock c))))))
 
+  delay-long : IsLong (form.delayForm rest)
+  unfolding form.delayForm
+  delay-long = bind-each IsLong (valueBelow (2 ^ 32) rest) _ tt (λ seconds v. tt)
+
   letter-long : (letter : ℕ) → IsLong (lettered letter rest)
   unfolding lettered
-  letter-long letter = decide-each IsLong (form.letters letter rest) none (number-long, (subscriber-long, (request-long, (sending-long, (result-long, tt))))) tt
+  letter-long letter = decide-each IsLong (form.letters letter rest) none (number-long, (subscriber-long, (request-long, (sending-long, (result-long, (delay-long, tt)))))) tt
 
 form-long : (line : List ℕ) (f : Form) → formOf line ≡ some f → (n : ℕ) × (length line ≡ suc (suc n)) × Long n (some f)
 unfolding formOf
@@ -180,9 +186,9 @@ pub record Bounded (line : List ℕ) (e : Effect) : Type 0 where
   pub times : length (e .prints) ≤ 7 * (length line + 1)
 
 -- nothing, or `?`
-filled-bounded : (line : List ℕ) (b : Bool) (next p : Program) → Bounded line (mayFill b next p)
-filled-bounded line true next p = record { most = omega arith; times = omega arith }
-filled-bounded line false next p = record { most = omega arith; times = omega arith }
+allowed-bounded : (line : List ℕ) (b : Bool) (next p : Program) → Bounded line (whenAllowed b next p)
+allowed-bounded line true next p = record { most = omega arith; times = omega arith }
+allowed-bounded line false next p = record { most = omega arith; times = omega arith }
 
 module _ (line : List ℕ) (p : Program) where
   replied-bounded : (letter : ℕ) (o : Outcome) → 4 ≤ length line → Replies o → Bounded line (answeredLine letter o p)
@@ -200,27 +206,27 @@ module _ (line : List ℕ) (p : Program) where
           record { most = omega arith; times = omega arith }
       go false e = replied-bounded letter o h (s .0, e)
 
-  effect-bounded : (f : Option Form) → formOf line ≡ f → Bounded line (effectOf f p)
-  unfolding numbered subscribed requested dispatched reported
-  effect-bounded none e = record { most = omega arith; times = omega arith }
-  effect-bounded (some (form.numberLine n)) e =
-      filled-bounded line (p .filling && mayFollow rowWords mostNumbers (n .0) (p .table)) (withNumber n p) p
-  effect-bounded (some (form.subscriberLine m flags)) e =
-      filled-bounded line (p .filling && mayFollow subscriberWords mostSubscribers (m .0) (p .list)) (withSubscriber m flags p) p
-  effect-bounded (some (form.requestLine m string)) e =
+  effect-bounded : (first : Bool) (f : Option Form) → formOf line ≡ f → Bounded line (effectOf first f p)
+  unfolding numbered subscribed delayed requested dispatched reported
+  effect-bounded first none e = record { most = omega arith; times = omega arith }
+  effect-bounded first (some (form.numberLine n)) e = allowed-bounded line (p .filling && mayFollow rowWords mostNumbers (n .0) (p .table)) (withNumber n p) _
+  effect-bounded first (some (form.subscriberLine m flags)) e =
+      allowed-bounded line (p .filling && mayFollow subscriberWords mostSubscribers (m .0) (p .list)) (withSubscriber m flags p) _
+  effect-bounded first (some (form.requestLine m string)) e =
       let l = form-long line (form.requestLine m string) e in
       let long = l .2 in
       replied-bounded (code "R") (asked m string (counted (p .table)) (p .list)) (omega arith) (asked-replies m string (counted (p .table)) (p .list))
-  effect-bounded (some (form.sendingLine clock n)) e =
+  effect-bounded first (some (form.sendingLine clock n)) e =
       let l = form-long line (form.sendingLine clock n) e in
       let longer : isNumber (n .0) ≡ true → 8 ≤ length line = λ h. let k = l .2 .1 h in omega arith in
       let long = l .2 .0 in
-      sent-bounded (code "T") (notices.sendingNotice (counted (p .table)) lentBuffer n 0 clock) n (omega arith) longer (sending-sends (counted (p .table)) lentBuffer n 0 clock)
-  effect-bounded (some (form.resultLine clock n kind)) e =
+      sent-bounded (code "T") (notices.sendingNotice (counted (p .table)) lentBuffer n (p .delay) clock) n (omega arith) longer (sending-sends (counted (p .table)) lentBuffer n (p .delay) clock)
+  effect-bounded first (some (form.resultLine clock n kind)) e =
       let l = form-long line (form.resultLine clock n kind) e in
       let long = l .2 in
       replied-bounded (code "D") (notices.takingResult (counted (p .table)) n kind clock) (omega arith) (result-replies (counted (p .table)) n kind clock)
+  effect-bounded first (some (form.delayLine seconds)) e = allowed-bounded line (first && delayAllowed seconds) (withDelay seconds p) _
 
-  pub line-bounded : Bounded line (lineEffect line p)
-  unfolding lineEffect
-  line-bounded = effect-bounded (formOf line) refl
+pub line-bounded : (line : List ℕ) (p : Program) → Bounded line (lineEffect line p)
+unfolding lineEffect
+line-bounded line p = effect-bounded line (begun p) (p .fresh) (formOf line) refl

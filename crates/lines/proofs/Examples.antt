@@ -1,4 +1,4 @@
--- Document 01, "The program": its whole input and its whole output, computed. Assumes nothing.
+-- Document 01, "The program", and M-107's second listing: the whole inputs and the whole outputs, computed. Assumes nothing.
 use mathlib.Core.Path.{_≡_, refl}
 use Prim.Native.String.{String}
 use Rattle.answers.specs.Begins.{begins}
@@ -31,6 +31,16 @@ abbrev wholeOutput : String
 wholeOutput =
     "R 01\nR 02\nT 4915100001 ##214*0492123401*88*4915100002*#\nD again\nT refused 5\nT 4915100001 ##214*0492123401*88*4915100002*#\nD delivered\n"
 
-pub listing : outputOf (ascii wholeInput) ≡ ascii wholeOutput
-unfolding countOf crewOf valueOf digits octetsFor charsIn taken each padded packed characters readable filled kept unpacked isDigit pushed storedForm isNumber digitsUpTo digitsOf leading leadingNumber isAdditional textOf noticeFields begins operationAt serviceAt numberFieldAt forcedAt erasingAt additionalAt fieldsOf requestOf elapsed delayOf delayAllowed rows.noticeUpTo rows.rowUpTo rows.noticeOf rows.recordAt rows.stored placeOf tableUpTo rowOf recordOf listSound flagsOf recount figuresRight moved requests.step crews.requesting notices.sendingNotice notices.takingResult lines.linesOf lines.firstField lines.behindField lines.isDigits lines.numberOf lines.askedOf lines.valueBelow lines.numberForm lines.subscriberForm lines.requestForm lines.sendingForm lines.resultFields lines.resultForm lines.lettered lines.formOf program.mayFollow program.numbered program.subscribed program.asked program.requested program.dispatched program.reported program.lineEffect program.linesEffect program.programEffect program.outputOf
-listing = refl
+-- "`W 0`, then document 01's input with a T at 401 before the last line, now D 402"
+abbrev laterInput : String
+laterInput =
+    "W 0\nN 0492123401\nS 4915100001 1\nS 4915100002 3\nR 4915100001 **214*0492123401***#\nR 4915100002 ##214*0492123401*88*4915100001*#\nT 100 0492123401\nD 101 0492123401 5\nT 130 0492123401\nT 161 0492123401\nT 401 0492123401\nD 402 0492123401 0\n"
+
+-- "T at 161 is refused 5 and T at 401 is sent"
+abbrev laterOutput : String
+laterOutput =
+    "R 01\nR 02\nT 4915100001 ##214*0492123401*88*4915100002*#\nD again\nT refused 5\nT refused 5\nT 4915100001 ##214*0492123401*88*4915100002*#\nD delivered\n"
+
+pub listings : (outputOf (ascii wholeInput) ≡ ascii wholeOutput) × (outputOf (ascii laterInput) ≡ ascii laterOutput)
+unfolding countOf crewOf valueOf digits octetsFor charsIn taken each padded packed characters readable filled kept unpacked isDigit pushed storedForm isNumber digitsUpTo digitsOf leading leadingNumber isAdditional textOf noticeFields begins operationAt serviceAt numberFieldAt forcedAt erasingAt additionalAt fieldsOf requestOf elapsed delayOf delayAllowed rows.noticeUpTo rows.rowUpTo rows.noticeOf rows.recordAt rows.stored placeOf tableUpTo rowOf recordOf listSound flagsOf recount figuresRight moved requests.step crews.requesting notices.sendingNotice notices.takingResult lines.linesOf lines.firstField lines.behindField lines.isDigits lines.numberOf lines.askedOf lines.valueBelow lines.numberForm lines.subscriberForm lines.requestForm lines.sendingForm lines.resultFields lines.resultForm lines.delayForm lines.lettered lines.formOf program.mayFollow program.numbered program.subscribed program.delayed program.asked program.requested program.dispatched program.reported program.lineEffect program.linesEffect program.programEffect program.outputOf
+listings = (refl, refl)

@@ -71,8 +71,8 @@ asked-right m string list t = go (takes string)
     go false = refl
 
 module _ (number : FunctionalNumber) (clock : ℕ) (short : clock < 2 ^ 32) (t : List ℕ) where
-  pub sending-right : Right (notices.sendingNotice (counted t) lentBuffer number 0 clock .state)
-  sending-right = rw (mod-eq-of-lt short) at (call-right [] 0 (sending clock number lentBuffer) t)
+  pub sending-right : (delay : ℕ) → Right (notices.sendingNotice (counted t) lentBuffer number delay clock .state)
+  sending-right delay = rw (mod-eq-of-lt short) at (call-right [] delay (sending clock number lentBuffer) t)
 
   pub result-right : (kind : ℕ) → Right (notices.takingResult (counted t) number kind clock .state)
   result-right kind = rw (mod-eq-of-lt short) at (call-right [] 0 (result clock number kind) t)

@@ -1,6 +1,6 @@
 -- The program in memory: rows in use and rows behind them, and what a line did. Assumes nothing.
 use mathlib.Core.Path.{_≡_, refl, sym, ap, _∙_}
-use mathlib.Core.Bool.{true, false}
+use mathlib.Core.Bool.{Bool, true, false, _&&_}
 use mathlib.Core.List.{List, [], _∷_, _++_}
 use Prim.Native.Nat.{ℕ, suc, _+_, _-_, _*_, _/_, _≤_, _<_}
 use native.Mathlib.Numerals.{add-one}
@@ -13,6 +13,7 @@ use borrow.Author.Tests.{ltb-true}
 use Rattle.answers.proofs.Tests.{and-left, and-no}
 use Rattle.numbers.specs.declared.FunctionalNumber.{FunctionalNumber}
 use Rattle.numbers.specs.declared.Msisdn.{Msisdn}
+use Rattle.records.specs.Steps.{delayAllowed}
 use Rattle.rows.specs.Rows.{rowWords}
 use Rattle.tables.specs.Tables.{mostNumbers, subscriberWords, mostSubscribers}
 use Rattle.states.specs.States.{State, beside, counted}
@@ -21,9 +22,9 @@ use Rattle.rules.specs.Figures.{Right}
 use Rattle.lines.specs.declared.Progress.{Progress}
 use Rattle.lines.specs.declared.Done.{Done}
 use Rattle.forms.specs.Lines.{lineFeed, space}
-use Rattle.lines.specs.Program.{Program, Effect, questioned, lastKey, mayFollow, mayFill, withNumber, numbered, withSubscriber, subscribed, answeredLine}
+use Rattle.lines.specs.Program.{Program, Effect, questioned, lastKey, mayFollow, whenAllowed, withNumber, numbered, withSubscriber, subscribed, withDelay, delayed, answeredLine}
 use Rattle.answers.specs.Writing.{Stands}
-use Rattle.lines.specs.Memory.{Answered, programIn, Fits, lineRoom, Did, ending}
+use Rattle.lines.specs.Memory.{Answered, programIn, begunIn, Fits, lineRoom, Did, ending}
 use Rattle.answers.proofs.Parts.{rest-of, rest-back}
 use Rattle.answers.proofs.Parts.{stands-behind}
 
@@ -69,9 +70,9 @@ put-nothing old = record { count = refl; buffer = refl }
 -- ---- filling
 
 pub did-as :
-    {e f : Effect} {s : Progress} {table list out : List ℕ} {d : Done} {newTable newList newOut : List ℕ} → Did f s table list out d newTable newList newOut
-    → e ≡ f → Did e s table list out d newTable newList newOut
-did-as did same = rw same did
+    {e f : Effect} {s : Progress} {table list out : List ℕ} {d : Done} {newTable newList newOut : List ℕ} → e ≡ f
+    → Did f s table list out d newTable newList newOut → Did e s table list out d newTable newList newOut
+did-as same did = rw same did
 
 module _ (n : FunctionalNumber) (p : Program) where
   pub numbered-late : p .filling ≡ false → numbered n p ≡ questioned p
@@ -82,7 +83,7 @@ module _ (n : FunctionalNumber) (p : Program) where
   unfolding numbered
   numbered-over m = rw (and-no (p .filling) (mayFollow rowWords mostNumbers (n .0) (p .table)) m)
 
-  pub numbered-in : p .filling ≡ true → mayFollow rowWords mostNumbers (n .0) (p .table) ≡ true → numbered n p ≡ mayFill true (withNumber n p) p
+  pub numbered-in : p .filling ≡ true → mayFollow rowWords mostNumbers (n .0) (p .table) ≡ true → numbered n p ≡ whenAllowed true (withNumber n p) p
   unfolding numbered
   numbered-in f m = rw (f, m)
 
@@ -95,9 +96,39 @@ module _ (m : Msisdn) (flags : ℕ) (p : Program) where
   unfolding subscribed
   subscribed-over e = rw (and-no (p .filling) (mayFollow subscriberWords mostSubscribers (m .0) (p .list)) e)
 
-  pub subscribed-in : p .filling ≡ true → mayFollow subscriberWords mostSubscribers (m .0) (p .list) ≡ true → subscribed m flags p ≡ mayFill true (withSubscriber m flags p) p
+  pub subscribed-in : p .filling ≡ true → mayFollow subscriberWords mostSubscribers (m .0) (p .list) ≡ true → subscribed m flags p ≡ whenAllowed true (withSubscriber m flags p) p
   unfolding subscribed
   subscribed-in f e = rw (f, e)
+
+module _ (first : Bool) (seconds : ℕ) (p : Program) where
+  pub delayed-not : (first && delayAllowed seconds) ≡ false → delayed first seconds p ≡ questioned p
+  unfolding delayed
+  delayed-not e = rw e
+
+  pub delayed-so : (first && delayAllowed seconds) ≡ true → delayed first seconds p ≡ whenAllowed true (withDelay seconds p) p
+  unfolding delayed
+  delayed-so e = rw e
+
+-- ---- the first line
+
+-- a line's coming moves no row
+pub fits-begun : {s : Progress} {table list : List ℕ} → Fits s table list → Fits (begunIn s) table list
+fits-begun f = record { numbers = f .numbers; subscribers = f .subscribers; tableRoom = f .tableRoom; listRoom = f .listRoom; figures = f .figures }
+
+pub did-begun :
+    {e : Effect} {s : Progress} {table list out : List ℕ} {d : Done} {newTable newList newOut : List ℕ} → Did e (begunIn s) table list out d newTable newList newOut
+    → Did e s table list out d newTable newList newOut
+did-begun did = record {
+  numbers = did .numbers;
+  subscribers = did .subscribers;
+  filling = did .filling;
+  delay = did .delay;
+  fresh = did .fresh;
+  figures = did .figures;
+  printed = did .printed;
+  moreNumbers = did .moreNumbers;
+  moreSubscribers = did .moreSubscribers;
+}
 
 -- ---- a printed line
 
@@ -136,6 +167,8 @@ line-did call {s = s} {table} {list} stands right head body rows room ended writ
       numbers = record { count = sym rows ∙ ap length left; buffer = rw (← left) refl };
       subscribers = put-kept (subscriberWords * s .subscribers) list (stands .subscribers);
       filling = refl;
+      delay = refl;
+      fresh = refl;
       figures = ap (λ (x : State). x .figures) (answered .leaves) ∙ right _;
       printed = put-end (stands-behind head (answered .says)) room;
       moreNumbers = omega arith;

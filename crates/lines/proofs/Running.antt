@@ -15,7 +15,7 @@ use Rattle.tables.specs.Figures.{recount}
 use Rattle.lines.specs.declared.Progress.{Progress}
 use Rattle.lines.specs.declared.Done.{Done}
 use Rattle.forms.specs.Lines.{lineFeed, linesOf}
-use Rattle.lines.specs.Program.{Program, Effect, printedBehind, lineEffect, linesEffect, programEffect, outputOf}
+use Rattle.lines.specs.Program.{Program, Effect, programDelay, printedBehind, lineEffect, linesEffect, programEffect, outputOf}
 use Rattle.answers.specs.Writing.{Stands, over}
 use Rattle.lines.specs.Memory.{programIn, Fits, Did, Lent, Ran, ran, running}
 use Rattle.forms.proofs.Places.{lines-first}
@@ -35,7 +35,7 @@ pub record Run (input table list out : List ℕ) (s : Progress) (at n : ℕ) (t 
   pub outStays : drop n o ≡ drop n out
 
 pub run-start : (input table list out : List ℕ) → Lent input table list out
-    → Run input table list out (record { numbers = 0; subscribers = 0; filling = true; figures = 0 ∷ 0 ∷ 0 ∷ [] }) 0 0 table list out
+    → Run input table list out (record { numbers = 0; subscribers = 0; filling = true; delay = programDelay; fresh = true; figures = 0 ∷ 0 ∷ 0 ∷ [] }) 0 0 table list out
 unfolding programEffect recount
 run-start input table list out lent = record {
   stands = record { numbers = omega arith; subscribers = omega arith; tableRoom = lent .tableRoom; listRoom = lent .listRoom; figures = refl };
@@ -66,8 +66,8 @@ later m n a b h e =
     let k : m + (n - m) ≡ n = omega arith in
     ap (λ (i : ℕ). drop i a) (sym k) ∙ sym (drop-drop (n - m) m a) ∙ ap (drop (n - m)) e ∙ drop-drop (n - m) m b ∙ ap (λ (i : ℕ). drop i b) k
 
-program-same : (p q : Program) → p .table ≡ q .table → p .list ≡ q .list → p .filling ≡ q .filling → p ≡ q
-program-same p q a b c = λ i. record { table = a i; list = b i; filling = c i }
+program-same : (p q : Program) → p .table ≡ q .table → p .list ≡ q .list → p .filling ≡ q .filling → p .delay ≡ q .delay → p .fresh ≡ q .fresh → p ≡ q
+program-same p q a b c d e = λ i. record { table = a i; list = b i; filling = c i; delay = d i; fresh = e i }
 
 lines-next : (input : List ℕ) (at end : ℕ) → at < length input → end ≡ indexOf lineFeed (drop at input)
     → linesOf (drop at input) ≡ take end (drop at input) ∷ linesOf (drop (at + (end + 1)) input)
@@ -116,7 +116,7 @@ module _
     printed-most = omega (arith, did .printed .count, line-bounded line (programIn s t l) .times, length-take-le end (drop at input) (found .1))
 
     left : programIn (d .state) newTable newList ≡ effect .leaves
-    left = program-same (programIn (d .state) newTable newList) (effect .leaves) (put-front (did .numbers)) (put-front (did .subscribers)) (did .filling)
+    left = program-same (programIn (d .state) newTable newList) (effect .leaves) (put-front (did .numbers)) (put-front (did .subscribers)) (did .filling) (did .delay) (did .fresh)
 
     -- the output, with what the line printed behind what was printed before
     wide : n ≤ length o

@@ -23,13 +23,19 @@ pub record Answered (o : Outcome) (state : State) (old new : List ℕ) (n : ℕ)
 
 -- ---- the program in memory
 
--- the program that the lent words hold: the rows in use, and whether they are still being filled
+-- the program that the lent words hold: the rows in use, and what the code keeps beside them
 abbrev pub programIn : Progress → List ℕ → List ℕ → Program
 programIn s table list = record {
   table = take (rowWords * s .numbers) table;
   list = take (subscriberWords * s .subscribers) list;
   filling = s .filling;
+  delay = s .delay;
+  fresh = s .fresh;
 }
+
+-- the state behind a line's coming
+abbrev pub begunIn : Progress → Progress
+begunIn s = record { numbers = s .numbers; subscribers = s .subscribers; filling = s .filling; delay = s .delay; fresh = false; figures = s .figures }
 
 -- the words of the fullest table and list
 abbrev pub tableWords : ℕ
@@ -55,6 +61,8 @@ pub record Did (e : Effect) (s : Progress) (table list out : List ℕ) (d : Done
   pub numbers : Stands (e .leaves .table) table (rowWords * d .state .numbers) newTable
   pub subscribers : Stands (e .leaves .list) list (subscriberWords * d .state .subscribers) newList
   pub filling : d .state .filling ≡ e .leaves .filling
+  pub delay : d .state .delay ≡ e .leaves .delay
+  pub fresh : d .state .fresh ≡ e .leaves .fresh
   pub figures : d .state .figures ≡ recount (e .leaves .table)
   pub printed : Stands (e .prints) out (d .printed) newOut
   pub moreNumbers : s .numbers ≤ d .state .numbers
@@ -62,7 +70,7 @@ pub record Did (e : Effect) (s : Progress) (table list out : List ℕ) (d : Done
 
 -- a printed line, of which n octets stand before its line feed, leaves the rows as they are counted and the figures of its call, and ends the filling
 abbrev pub ending : Progress → List ℕ → ℕ → Done
-ending s figures n = record { state = record { numbers = s .numbers; subscribers = s .subscribers; filling = false; figures = figures }; printed = n + 1 }
+ending s figures n = record { state = record { numbers = s .numbers; subscribers = s .subscribers; filling = false; delay = s .delay; fresh = s .fresh; figures = figures }; printed = n + 1 }
 
 -- ---- the whole input
 

@@ -11,6 +11,7 @@ use Rattle.packing.specs.Packing.{takes, packed}
 use Rattle.numbers.specs.declared.FunctionalNumber.{FunctionalNumber}
 use Rattle.numbers.specs.declared.Msisdn.{Msisdn}
 use Rattle.strings.specs.Text.{codingScheme}
+use Rattle.records.specs.Steps.{delayAllowed}
 use Rattle.rows.specs.Rows.{rowWords}
 use Rattle.tables.specs.Tables.{mostNumbers, subscriberWords, mostSubscribers}
 use Rattle.states.specs.States.{State, counted}
@@ -18,27 +19,37 @@ use Rattle.rules.specs.Answers.{refusal, Outcome, made, bufferRoom}
 use Rattle.rules.specs.Crews as crews
 use Rattle.rules.specs.Notices as notices
 use Rattle.replies.specs.Replies.{behindLetter}
-use Rattle.forms.specs.Lines.{lineFeed, space, linesOf, Form, numberLine, subscriberLine, requestLine, sendingLine, resultLine, formOf}
+use Rattle.forms.specs.Lines.{lineFeed, space, linesOf, Form, numberLine, subscriberLine, requestLine, sendingLine, resultLine, delayLine, formOf}
 
--- the words of the table and of the list, and whether they are still being filled
+-- the words of the table and of the list, and whether they are still being filled; M-107: the delay, and whether no line has come yet
 pub record Program : Type 0 where
   pub table : List ℕ
   pub list : List ℕ
   pub filling : Bool
+  pub delay : ℕ
+  pub fresh : Bool
+
+-- M-107: the program passes 60 by name, "so document 01's listing stays as printed"
+abbrev pub programDelay : ℕ
+programDelay = 60
 
 abbrev pub start : Program
-start = record { table = []; list = []; filling = true }
+start = record { table = []; list = []; filling = true; delay = programDelay; fresh = true }
 
 -- what a line comes to: what it prints, and the program behind it
 pub record Effect : Type 0 where
   pub prints : List ℕ
   pub leaves : Program
 
--- "Any other line … prints `?` and changes nothing"
+-- "Any other line … prints `?` and changes nothing": what it leaves is the program it came to, where no line is the first any more (`begun`)
 abbrev pub questioned : Program → Effect
 questioned p = record { prints = ascii "?\n"; leaves = p }
 
--- ---- filling
+-- where it is allowed, the program becomes the next and nothing is printed; else `?`
+abbrev pub whenAllowed : Bool → Program → Program → Effect
+whenAllowed allowed next p = cond allowed (record { prints = []; leaves = next }) (questioned p)
+
+-- ---- filling: "`N` number and `S` MSISDN flags fill table and list … before any `R`, `T` or `D`, and print nothing"
 
 -- the first word of the last row, in rows of `width` words; 0 where there is none
 abbrev pub lastKey : ℕ → List ℕ → ℕ
@@ -48,28 +59,33 @@ lastKey width words = getD words (length words - width) 0
 unfoldable pub mayFollow : ℕ → ℕ → ℕ → List ℕ → Bool
 mayFollow width most key words = ltb (length words / width) most && ltb (lastKey width words) key
 
--- "`N` number and `S` MSISDN flags fill table and list … before any `R`, `T` or `D`, and print nothing"
-abbrev pub mayFill : Bool → Program → Program → Effect
-mayFill allowed next p = cond allowed (record { prints = []; leaves = next }) (questioned p)
-
 -- a number's row, free and with no notice
 abbrev pub freeRow : FunctionalNumber → List ℕ
 freeRow n = n .0 ∷ replicate (rowWords - 1) 0
 
 abbrev pub withNumber : FunctionalNumber → Program → Program
-withNumber n p = record { table = p .table ++ freeRow n; list = p .list; filling = p .filling }
+withNumber n p = record { table = p .table ++ freeRow n; list = p .list; filling = p .filling; delay = p .delay; fresh = p .fresh }
 
 unfoldable pub numbered : FunctionalNumber → Program → Effect
-numbered n p = mayFill (p .filling && mayFollow rowWords mostNumbers (n .0) (p .table)) (withNumber n p) p
+numbered n p = whenAllowed (p .filling && mayFollow rowWords mostNumbers (n .0) (p .table)) (withNumber n p) p
 
 abbrev pub subscriberRow : Msisdn → ℕ → List ℕ
 subscriberRow m flags = m .0 ∷ flags ∷ []
 
 abbrev pub withSubscriber : Msisdn → ℕ → Program → Program
-withSubscriber m flags p = record { table = p .table; list = p .list ++ subscriberRow m flags; filling = p .filling }
+withSubscriber m flags p = record { table = p .table; list = p .list ++ subscriberRow m flags; filling = p .filling; delay = p .delay; fresh = p .fresh }
 
 unfoldable pub subscribed : Msisdn → ℕ → Program → Effect
-subscribed m flags p = mayFill (p .filling && mayFollow subscriberWords mostSubscribers (m .0) (p .list)) (withSubscriber m flags p) p
+subscribed m flags p = whenAllowed (p .filling && mayFollow subscriberWords mostSubscribers (m .0) (p .list)) (withSubscriber m flags p) p
+
+-- ---- the delay
+
+abbrev pub withDelay : ℕ → Program → Program
+withDelay seconds p = record { table = p .table; list = p .list; filling = p .filling; delay = seconds; fresh = p .fresh }
+
+-- "A first line `W` seconds sets another delay and prints nothing; elsewhere, or with a delay not allowed, it prints `?`"
+unfoldable pub delayed : Bool → ℕ → Program → Effect
+delayed first seconds p = whenAllowed (first && delayAllowed seconds) (withDelay seconds p) p
 
 -- ---- answers
 
@@ -77,7 +93,7 @@ subscribed m flags p = mayFill (p .filling && mayFollow subscriberWords mostSubs
 abbrev pub answeredLine : ℕ → Outcome → Program → Effect
 answeredLine letter o p = record {
   prints = letter ∷ space ∷ behindLetter (o .answer) (o .buffer) ++ (lineFeed ∷ []);
-  leaves = record { table = o .state .table; list = p .list; filling = false };
+  leaves = record { table = o .state .table; list = p .list; filling = false; delay = p .delay; fresh = p .fresh };
 }
 
 -- the buffer that each request and each sending is lent
@@ -93,9 +109,9 @@ asked m string state list =
 unfoldable pub requested : Msisdn → List ℕ → Program → Effect
 requested m string p = answeredLine (code "R") (asked m string (counted (p .table)) (p .list)) p
 
--- "`T` now number prints `T`, addressee, notice", with "delay 0"
+-- "`T` now number prints `T`, addressee, notice", with the delay of the program
 unfoldable pub dispatched : ℕ → FunctionalNumber → Program → Effect
-dispatched now n p = answeredLine (code "T") (notices.sendingNotice (counted (p .table)) lentBuffer n 0 now) p
+dispatched now n p = answeredLine (code "T") (notices.sendingNotice (counted (p .table)) lentBuffer n (p .delay) now) p
 
 -- "`D` now number kind prints `D delivered`, `D dropped` or `D again`"
 unfoldable pub reported : ℕ → FunctionalNumber → ℕ → Program → Effect
@@ -103,16 +119,22 @@ reported now n kind p = answeredLine (code "D") (notices.takingResult (counted (
 
 -- ---- lines
 
-abbrev pub effectOf : Option Form → Program → Effect
-effectOf none p = questioned p
-effectOf (some (numberLine n)) p = numbered n p
-effectOf (some (subscriberLine m flags)) p = subscribed m flags p
-effectOf (some (requestLine m string)) p = requested m string p
-effectOf (some (sendingLine now n)) p = dispatched now n p
-effectOf (some (resultLine now n kind)) p = reported now n kind p
+-- by its form, and whether it is the first
+abbrev pub effectOf : Bool → Option Form → Program → Effect
+effectOf first none p = questioned p
+effectOf first (some (numberLine n)) p = numbered n p
+effectOf first (some (subscriberLine m flags)) p = subscribed m flags p
+effectOf first (some (requestLine m string)) p = requested m string p
+effectOf first (some (sendingLine now n)) p = dispatched now n p
+effectOf first (some (resultLine now n kind)) p = reported now n kind p
+effectOf first (some (delayLine seconds)) p = delayed first seconds p
+
+-- once a line has come, whatever it is, no other is the first
+abbrev pub begun : Program → Program
+begun p = record { table = p .table; list = p .list; filling = p .filling; delay = p .delay; fresh = false }
 
 unfoldable pub lineEffect : List ℕ → Program → Effect
-lineEffect line p = effectOf (formOf line) p
+lineEffect line p = effectOf (p .fresh) (formOf line) (begun p)
 
 -- an effect behind what was printed before
 abbrev pub printedBehind : List ℕ → Effect → Effect

@@ -21,7 +21,7 @@ ghost use Rattle.tables.specs.Tables.{subscriberWords};
 ghost use Rattle.states.specs.States.{beside};
 ghost use Rattle.rules.specs.Notices as notices;
 ghost use Rattle.forms.specs.Lines.{lineFeed};
-ghost use Rattle.lines.specs.Program.{questioned, lastKey, mayFollow, numbered, subscribed, lentBuffer, asked, requested, dispatched, reported, effectOf, lineEffect};
+ghost use Rattle.lines.specs.Program.{questioned, lastKey, mayFollow, numbered, subscribed, lentBuffer, asked, delayed, requested, dispatched, reported, effectOf, lineEffect};
 ghost use Rattle.forms.specs.Reads.{formIn, startIn};
 ghost use Rattle.answers.specs.Writing.{Stands};
 ghost use Rattle.replies.specs.Replies.{answerRoom};
@@ -43,11 +43,17 @@ pub const TABLE_WORDS: usize = ROW_WORDS * MOST_NUMBERS;
 
 pub const LIST_WORDS: usize = SUBSCRIBER_WORDS * MOST_SUBSCRIBERS;
 
-// How many rows of the lent table and list are in use, whether they are still being filled, and the figures of the table's rows in use.
+// M-107: document 01's listing goes by this delay.
+const PROGRAM_DELAY: u32 = 60;
+
+// How many rows of the lent table and list are in use, whether they are still being filled, the delay, whether no line has come yet, and the figures of
+// the table's rows in use.
 struct Progress {
     numbers: usize,
     subscribers: usize,
     filling: bool,
+    delay: u32,
+    fresh: bool,
     figures: [u64; FIGURES],
 }
 
@@ -126,6 +132,8 @@ fn add_number(state: Progress, number: FunctionalNumber, table: &mut [u64], out:
         numbers: rows + 1,
         subscribers: state.subscribers,
         filling: true,
+        delay: state.delay,
+        fresh: state.fresh,
         figures,
     };
     Done {
@@ -161,6 +169,31 @@ fn add_subscriber(
         numbers: state.numbers,
         subscribers: rows + 1,
         filling: true,
+        delay: state.delay,
+        fresh: state.fresh,
+        figures,
+    };
+    Done {
+        state: next,
+        printed: 0,
+    }
+}
+
+// `W` seconds: another delay, before any other line.
+fn set_delay(state: Progress, first: bool, seconds: u32, out: &mut [u8]) -> Done
+    requires { ⌜ lineRoom ≤ length (now out) ⌝ }
+    ensures { λ r. ⌜ ((table list : List ℕ) → Fits state table list → Did (delayed first seconds (programIn state table list)) state table list (now (out .entry)) r table list (now (out .exit))) ⌝ }
+{
+    if !(first & records::delay_allowed(seconds)) {
+        return question(state, out);
+    }
+    let figures = state.figures;
+    let next = Progress {
+        numbers: state.numbers,
+        subscribers: state.subscribers,
+        filling: state.filling,
+        delay: seconds,
+        fresh: state.fresh,
         figures,
     };
     Done {
@@ -203,15 +236,16 @@ fn ask(
 fn send(
     clock: u32,
     number: FunctionalNumber,
+    delay: u32,
     table: &mut [u64],
     figures: &mut [u64],
     out: &mut [u8],
 ) -> usize
     requires { ⌜ answerRoom ≤ length (now out) ⌝ }
-    ensures { λ r. ⌜ Answered (notices.sendingNotice (beside (now (table .entry)) (now (figures .entry))) lentBuffer number 0 clock) (beside (now (table .exit)) (now (figures .exit))) (now (out .entry)) (now (out .exit)) r ⌝ }
+    ensures { λ r. ⌜ Answered (notices.sendingNotice (beside (now (table .entry)) (now (figures .entry))) lentBuffer number delay clock) (beside (now (table .exit)) (now (figures .exit))) (now (out .entry)) (now (out .exit)) r ⌝ }
 {
     let mut notice = [0u8; BUFFER_ROOM];
-    let answer = node::sending(table, figures, &mut notice, number, 0, clock);
+    let answer = node::sending(table, figures, &mut notice, number, delay, clock);
     replies::put_sending_answer(answer, &notice, out)
 }
 
@@ -241,6 +275,8 @@ fn end_line(state: Progress, figures: [u64; FIGURES], at: usize, out: &mut [u8])
         numbers: state.numbers,
         subscribers: state.subscribers,
         filling: false,
+        delay: state.delay,
+        fresh: state.fresh,
         figures,
     };
     Done {
@@ -296,6 +332,7 @@ fn sending_line(
     let n = send(
         clock,
         number,
+        state.delay,
         &mut table[..words],
         &mut figures,
         &mut out[at..],
@@ -329,10 +366,11 @@ fn result_line(
     end_line(state, figures, at + n, out)
 }
 
-// Carries a line out, by its form.
+// Carries a line out, by its form, and whether it is the first.
 fn carry_out(
     line: Line,
     rest: &[u8],
+    first: bool,
     state: Progress,
     table: &mut [u64],
     list: &mut [u64],
@@ -341,7 +379,7 @@ fn carry_out(
 ) -> Done
     requires { ⌜ (startIn line ≤ length (now rest)) × Fits state (now table) (now list) ⌝ }
     requires { ⌜ (octetsFor (length (now rest)) ≤ length (now packed)) × (lineRoom ≤ length (now out)) ⌝ }
-    ensures { λ r. ⌜ Did (effectOf (formIn (now (rest .entry)) line) (programIn state (now (table .entry)) (now (list .entry)))) state (now (table .entry)) (now (list .entry)) (now (out .entry)) r (now (table .exit)) (now (list .exit)) (now (out .exit)) ⌝ }
+    ensures { λ r. ⌜ Did (effectOf first (formIn (now (rest .entry)) line) (programIn state (now (table .entry)) (now (list .entry)))) state (now (table .entry)) (now (list .entry)) (now (out .entry)) r (now (table .exit)) (now (list .exit)) (now (out .exit)) ⌝ }
 {
     match line {
         Line::Number(number) => add_number(state, number, table, out),
@@ -351,11 +389,12 @@ fn carry_out(
         }
         Line::Sending(clock, number) => sending_line(state, clock, number, table, out),
         Line::Result(clock, number, kind) => result_line(state, clock, number, kind, table, out),
+        Line::Delay(seconds) => set_delay(state, first, seconds, out),
         Line::Other => question(state, out),
     }
 }
 
-// What a line comes to.
+// What a line comes to; once it has come, no other is the first.
 fn do_line(
     line: &[u8],
     state: Progress,
@@ -368,15 +407,24 @@ fn do_line(
     requires { ⌜ (octetsFor (length (now line)) ≤ length (now packed)) × (lineRoom ≤ length (now out)) ⌝ }
     ensures { λ r. ⌜ Did (lineEffect (now (line .entry)) (programIn state (now (table .entry)) (now (list .entry)))) state (now (table .entry)) (now (list .entry)) (now (out .entry)) r (now (table .exit)) (now (list .exit)) (now (out .exit)) ⌝ }
 {
+    let figures = state.figures;
+    let next = Progress {
+        numbers: state.numbers,
+        subscribers: state.subscribers,
+        filling: state.filling,
+        delay: state.delay,
+        fresh: false,
+        figures,
+    };
     if line.len() < 2 {
-        return question(state, out);
+        return question(next, out);
     }
     if line[1] != b' ' {
-        return question(state, out);
+        return question(next, out);
     }
     let rest = &line[2..];
     let form = forms::read_form(line[0], rest);
-    carry_out(form, rest, state, table, list, packed, out)
+    carry_out(form, rest, state.fresh, next, table, list, packed, out)
 }
 
 // Every line of the input, one after the other.
@@ -395,6 +443,8 @@ fn run_lines(
         numbers: 0,
         subscribers: 0,
         filling: true,
+        delay: PROGRAM_DELAY,
+        fresh: true,
         figures,
     };
     let mut at = 0;

@@ -120,15 +120,16 @@ interrogated r = decide ((isNobody (r .holder), holder.Stays 62) ∷ []) (holder
 unfoldable pub elapsed : ℕ → ℕ → ℕ
 elapsed clock last = (clock + (2 ^ 32 - last)) % 2 ^ 32
 
--- "The delay is 60 to 600 seconds; 0 means 60"
+-- "The delay is 60 to 600 seconds"
 abbrev pub shortestDelay : ℕ
 shortestDelay = 60
 
 abbrev pub longestDelay : ℕ
 longestDelay = 600
 
+-- M-107: "Delay 0 now means 300 seconds"
 abbrev pub usualDelay : ℕ
-usualDelay = 60
+usualDelay = 300
 
 unfoldable pub delayOf : ℕ → ℕ
 delayOf delay = cond (eqb delay 0) usualDelay delay

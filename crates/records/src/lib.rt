@@ -46,12 +46,13 @@ pub enum Resulted {
     Again(Record),
 }
 
-// "The delay is 60 to 600 seconds; 0 means 60".
+// "The delay is 60 to 600 seconds".
 const SHORTEST_DELAY: u32 = 60;
 
 const LONGEST_DELAY: u32 = 600;
 
-const USUAL_DELAY: u32 = 60;
+// M-107: "Delay 0 now means 300 seconds".
+const USUAL_DELAY: u32 = 300;
 
 // M-102: "one sending and five repeats".
 pub const MOST_SENDINGS: u8 = 6;

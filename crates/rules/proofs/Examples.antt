@@ -1,4 +1,4 @@
--- Document 01, "Examples": P1 to P15, and document 02's M-100, M-101, M-103 and M-105 (M-102 is P14), of the rules, computed from octets and words, as one list under one statement. Assumes nothing.
+-- Document 01, "Examples": P1 to P15, and document 02's M-100, M-101, M-103, M-105 and M-107 (M-102 is P14), of the rules, computed from octets and words, as one list under one statement. Assumes nothing.
 use mathlib.Core.Path.{_≡_, refl}
 use mathlib.Core.Bool.{Bool, true}
 use mathlib.Core.List.{List, [], _∷_, _++_, map}
@@ -24,7 +24,7 @@ use Rattle.tables.specs.Tables.{tableUpTo, rowOf, recordOf, listSound, flagsOf}
 use Rattle.tables.specs.Figures as figures
 use Rattle.states.specs.States as states
 use Rattle.states.specs.States.{State, beside, counted}
-use Rattle.rules.specs.Answers.{Answer, refusal, error, outcome, returnError, reject, sentTo, delivered, dropped, again}
+use Rattle.rules.specs.Answers.{Answer, refusal, error, outcome, returnError, reject, sentTo, delivered, dropped, again, found, noneDue}
 use Rattle.rules.specs.Requests as requests
 use Rattle.rules.specs.Crews as crews
 use Rattle.rules.specs.Frames as frame
@@ -118,8 +118,12 @@ gets c a octets = (c, record { answer = a; buffer = over octets (bufferOf c) })
 abbrev pub says : Call → ℕ → List ℕ → Call × Reply
 says c n octets = gets c (outcome n 2) octets
 
+-- M-107: the examples of document 01 go by 60 seconds, which 0 meant there
+abbrev pub exampleDelay : ℕ
+exampleDelay = 60
+
 abbrev pub go : List ℕ → Call → State → Reply × State
-go list = call list 0
+go list = call list exampleDelay
 
 abbrev pub calls : List (Call × Reply) → List Call
 calls got = map (λ p. p .0) got
@@ -343,6 +347,17 @@ pub m-105 : All ownExamples
 unfolding countOf crewOf countedCodesAt spacedCodesAt soundCodesAt codesAt codesIn codesSound isCode isIn distinct each crews.withCode crews.walked valueOf digits octetsFor charsIn padded packed characters readable filled kept unpacked isDigit pushed storedForm isNumber digitsUpTo digitsOf leading leadingNumber isAdditional textOf noticeFields begins operationAt serviceAt numberFieldAt forcedAt erasingAt additionalAt fieldsOf requestOf elapsed delayOf delayAllowed rows.noticeUpTo rows.rowUpTo rows.noticeOf rows.recordAt rows.stored placeOf tableUpTo rowOf recordOf figures.recount states.figuresRight states.moved listSound flagsOf requests.step crews.requesting notices.sendingNotice notices.takingResult
 m-105 =
     refl and refl and refl and refl and refl and refl and refl and refl and refl and refl and refl and refl and refl and refl and refl and refl and refl and done
+
+-- ---- document 02, M-107
+
+-- by the delay 0, 299 and 300 seconds after the last failure: what a sending answers, and what is found
+pub m-107 :
+    (call subscribers 0 (sends 399) (counted (noticed 0 3 100)) .0 .answer ≡ refusal 5)
+    × (call subscribers 0 (sends 400) (counted (noticed 0 3 100)) .0 .answer ≡ sentTo A 28)
+    × (notices.finding (noticed 0 3 100) 0 399 ≡ noneDue)
+    × (notices.finding (noticed 0 3 100) 0 400 ≡ found F)
+unfolding countOf crewOf valueOf digits octetsFor charsIn padded packed characters readable filled kept unpacked isDigit pushed storedForm isNumber digitsUpTo digitsOf leading leadingNumber isAdditional textOf noticeFields begins operationAt serviceAt numberFieldAt forcedAt erasingAt additionalAt fieldsOf requestOf elapsed delayOf delayAllowed rows.noticeUpTo rows.rowUpTo rows.noticeOf rows.recordAt rows.stored placeOf tableUpTo rowOf recordOf figures.recount states.figuresRight states.moved listSound flagsOf requests.step crews.requesting notices.sendingNotice notices.takingResult notices.finding notices.firstDue
+m-107 = (refl, refl, refl, refl)
 
 -- ---- document 02, M-101
 

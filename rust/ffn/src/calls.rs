@@ -198,7 +198,8 @@ pub fn request(
     }
 }
 
-/// Sends the notice of a number, if it is due.
+/// Sends the notice of a number, if it is due. The delay is 60 to 600 seconds,
+/// or 0 for 300; `now` is the second counter, which wraps.
 ///
 /// # Errors
 /// [`Refusal::NoRoom`], [`Refusal::TableUnsound`], [`Refusal::Figures`],
@@ -245,7 +246,8 @@ pub fn result(
     }
 }
 
-/// Finds the lowest number whose notice is due, if one is due.
+/// Finds the lowest number whose notice is due, if one is due, by a delay as
+/// [`sending`] takes it.
 ///
 /// # Errors
 /// [`Refusal::TableUnsound`], then [`Refusal::Delay`].

@@ -201,6 +201,20 @@ fn p13_a_clock_that_wraps() {
 }
 
 #[test]
+fn the_usual_delay_is_300_seconds() {
+    let mut buffer = [UNTOUCHED; 80];
+    let mut table = notice(3, 100);
+    assert_eq!(finding(&table, 0, 399), Ok(None));
+    assert_eq!(
+        sending(&mut table, &mut buffer, f(), 0, 399),
+        Err(Refusal::NotDue)
+    );
+    assert_eq!(finding(&table, 0, 400), Ok(Some(f())));
+    assert!(sending(&mut table, &mut buffer, f(), 0, 400).is_ok());
+    assert_eq!(table, notice(4, 0));
+}
+
+#[test]
 fn p14_six_sendings_at_most() {
     let mut table = notice(10, 0);
     assert_eq!(

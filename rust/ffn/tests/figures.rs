@@ -144,7 +144,7 @@ fn sendings_and_results() {
     ] {
         let (mut table, mut lent) = ([F, B, 1, A, B, 0], figures(1, 1, 0));
         let mut buffer = [UNTOUCHED; BUFFER_ROOM];
-        assert!(sending(&mut table, &mut lent, &mut buffer, f(), 0, 7).is_ok());
+        assert!(sending(&mut table, &mut lent, &mut buffer, f(), 60, 7).is_ok());
         assert_eq!(lent, figures(1, 0, 1));
         assert_eq!(result(&mut table, &mut lent, f(), kind, 7), Ok(resulted));
         assert_eq!(lent.words(), after);
@@ -189,7 +189,7 @@ fn others_are_refused_directly_behind_an_unsound_table() {
         }
         let mut buffer = [UNTOUCHED; BUFFER_ROOM];
         for number in [f(), absent()] {
-            let sent = sending(&mut table, &mut lent, &mut buffer, number, 0, 7);
+            let sent = sending(&mut table, &mut lent, &mut buffer, number, 60, 7);
             assert_eq!(sent, Err(Refusal::Figures));
             let taken = result(&mut table, &mut lent, number, Kind::Delivered, 7);
             assert_eq!(taken, Err(Refusal::Figures));

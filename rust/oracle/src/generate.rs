@@ -1168,7 +1168,7 @@ impl Generator {
     /// A time around the moment when a record is due.
     fn now(&mut self, record: [u64; 6], delay: u32) -> u32 {
         let failure = record[FAILURE] as u32;
-        let delay = if delay == 0 { 60 } else { delay };
+        let delay = if delay == 0 { 300 } else { delay };
         match self.random.below(8) {
             0 => self.second(),
             1 => failure,
@@ -1361,6 +1361,13 @@ impl Generator {
         }
         let numbers: Vec<u64> = numbers.into_iter().collect();
         let mut input = Vec::new();
+        if self.random.once_in(3) {
+            // Another delay, or one that is none.
+            let seconds = self.random.pick(&[0, 59, 60, 61, 100, 300, 600, 601]);
+            let zeros = self.random.pick(&["", "", "", "0"]);
+            let line = format!("W {zeros}{seconds}");
+            self.put_line(&mut input, line.into_bytes(), 8);
+        }
         for &number in &numbers {
             let line = format!("N {}", digits(number));
             self.put_line(&mut input, line.into_bytes(), times);
@@ -1390,7 +1397,9 @@ impl Generator {
 
     /// The next line of the story.
     fn program_line(&mut self, story: &mut Story) -> Vec<u8> {
-        let step = self.random.pick(&[0, 1, 1, 2, 30, 59, 60, 61, 1000]);
+        let step = self
+            .random
+            .pick(&[0, 1, 1, 2, 30, 59, 60, 61, 299, 300, 1000]);
         story.now = story.now.wrapping_add(step);
         if self.random.once_in(16) {
             story.number = self.person(&story.numbers);
@@ -1400,7 +1409,8 @@ impl Generator {
         match self.random.below(32) {
             0 => format!("N {number}").into_bytes(),
             1 => format!("S {number} 3").into_bytes(),
-            2..=10 => format!("T {now} {number}").into_bytes(),
+            2 => b"W 600".to_vec(),
+            3..=10 => format!("T {now} {number}").into_bytes(),
             11..=18 => {
                 let kind = self
                     .random

@@ -397,7 +397,7 @@ pub fn finding(table: &[u64], delay: u32, now: u32) -> Answer {
 /// The seconds that a delay stands for, if it is one.
 fn seconds(delay: u32) -> Option<u32> {
     match delay {
-        0 => Some(60),
+        0 => Some(300),
         60..=600 => Some(delay),
         _ => None,
     }

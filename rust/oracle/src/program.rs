@@ -13,18 +13,29 @@ pub const INPUT_LIMIT: usize = 64 * 1024;
 const ROOM: usize = 80;
 const ROOM_CHARACTERS: usize = ROOM * 8 / 7;
 
+/// The seconds that pass before a notice is sent again, unless the first line
+/// sets others.
+const DELAY: u32 = 60;
+
 /// A word that is no number, for digits that make none.
 const MALFORMED: u64 = 0;
 
 /// Runs the program on the first 64 KiB of `input` and returns its output.
 pub fn run(input: &[u8]) -> Vec<u8> {
     let input = &input[..input.len().min(INPUT_LIMIT)];
-    let mut program = Program::default();
+    let mut program = Program {
+        table: Vec::new(),
+        figures: [0; FIGURES],
+        list: Vec::new(),
+        started: false,
+        delay: DELAY,
+        output: Vec::new(),
+    };
     // A line feed ends a line: after a last one no further line begins.
     let lines = input.strip_suffix(b"\n").unwrap_or(input);
     if !input.is_empty() {
-        for line in lines.split(|&octet| octet == b'\n') {
-            if program.line(line).is_none() {
+        for (place, line) in lines.split(|&octet| octet == b'\n').enumerate() {
+            if program.line(place, line).is_none() {
                 program.output.extend_from_slice(b"?\n");
             }
         }
@@ -32,7 +43,6 @@ pub fn run(input: &[u8]) -> Vec<u8> {
     program.output
 }
 
-#[derive(Default)]
 struct Program {
     table: Vec<u64>,
     /// Its figures. A number is added free and without a notice.
@@ -40,13 +50,14 @@ struct Program {
     list: Vec<u64>,
     /// Whether an `R`, `T` or `D` was answered, which ends the filling.
     started: bool,
+    delay: u32,
     output: Vec<u8>,
 }
 
 impl Program {
     /// Carries out one line. `None` is a line that prints `?`; it has changed
     /// nothing.
-    fn line(&mut self, line: &[u8]) -> Option<()> {
+    fn line(&mut self, place: usize, line: &[u8]) -> Option<()> {
         let (letter, rest) = split_field(line)?;
         match letter {
             b"N" if !self.started => self.add_number(rest),
@@ -54,8 +65,14 @@ impl Program {
             b"R" => self.request(rest),
             b"T" => self.sending(rest),
             b"D" => self.result(rest),
+            b"W" if place == 0 => self.set_delay(rest),
             _ => None,
         }
+    }
+
+    fn set_delay(&mut self, rest: &[u8]) -> Option<()> {
+        self.delay = value(rest).filter(|seconds| matches!(seconds, 0 | 60..=600))?;
+        Some(())
     }
 
     fn add_number(&mut self, rest: &[u8]) -> Option<()> {
@@ -102,7 +119,7 @@ impl Program {
         self.started = true;
         let mut buffer = [0; ROOM];
         let (table, figures) = (&mut self.table, &mut self.figures);
-        let answer = sending(table, figures, &mut buffer, number, 0, now);
+        let answer = sending(table, figures, &mut buffer, number, self.delay, now);
         self.print(b"T", answer, &buffer);
         Some(())
     }

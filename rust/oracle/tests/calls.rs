@@ -317,7 +317,7 @@ fn refusals_of_a_sending_in_order() {
     for phase in [3, 5, 7, 9, 11] {
         let table = [F, A, phase, A, B, 1000];
         assert_eq!(refused(&table, 80, F, 0, 1000), 5);
-        assert_eq!(refused(&table, 80, F, 0, 1059), 5);
+        assert_eq!(refused(&table, 80, F, 0, 1299), 5);
         assert_eq!(refused(&table, 80, F, 60, 1059), 5);
         assert_eq!(refused(&table, 80, F, 600, 1599), 5);
     }
@@ -329,7 +329,8 @@ fn sendings() {
     for (phase, failure, delay, now) in [
         (1, 0, 600, 0),
         (1, 0, 0, u32::MAX),
-        (3, 1000, 0, 1060),
+        (3, 1000, 0, 1300),
+        (3, 1000, 60, 1060),
         (5, 1000, 60, 1060),
         (7, 1000, 600, 1600),
         (9, 1000, 61, 1061),
@@ -436,7 +437,7 @@ fn a_notice_ends_after_six_sendings() {
     let mut buffer = [FILL; 80];
     let mut now = u32::MAX - 100;
     for count in 1..=6 {
-        let sent = sending(&mut table, &mut buffer, F, 0, now);
+        let sent = sending(&mut table, &mut buffer, F, 60, now);
         assert!(matches!(sent, Answer::Sent { .. }));
         assert_eq!(table[2], 2 * count);
         let answer = result(&mut table, F, 5, now);
@@ -464,9 +465,12 @@ fn findings() {
         [F + 1, A, 1, A, B, 0],
     ];
     let find = |rows: usize, delay, now| finding(table[..rows].as_flattened(), delay, now);
-    assert_eq!(find(5, 0, 54), Answer::Found(F - 1));
-    assert_eq!(find(5, 0, 53), Answer::Found(F));
-    assert_eq!(find(3, 0, 53), Answer::NoneDue);
+    assert_eq!(find(5, 60, 54), Answer::Found(F - 1));
+    assert_eq!(find(5, 60, 53), Answer::Found(F));
+    assert_eq!(find(3, 60, 53), Answer::NoneDue);
+    // 0 means 300 seconds.
+    assert_eq!(find(3, 0, 293), Answer::NoneDue);
+    assert_eq!(find(3, 0, 294), Answer::Found(F - 1));
     assert_eq!(find(3, 61, 54), Answer::NoneDue);
     assert_eq!(find(3, 600, 594), Answer::Found(F - 1));
     assert_eq!(find(4, 60, 4_294_967_290), Answer::Found(F));

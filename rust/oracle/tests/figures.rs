@@ -100,10 +100,10 @@ fn a_sending_and_each_kind_of_result() {
     for phase in [1, 3, 5, 7, 9, 11] {
         let (mut table, mut figures) = ([F, C, phase, A, B, 0], [1, 1, 0]);
         let mut buffer = [FILL; 80];
-        let sent = sending(&mut table, &mut figures, &mut buffer, F, 0, 100);
+        let sent = sending(&mut table, &mut figures, &mut buffer, F, 60, 100);
         assert!(matches!(sent, Answer::Sent { addressee: A, .. }));
         assert_eq!((table[2], figures), (phase + 1, [1, 0, 1]));
-        let again = sending(&mut table, &mut figures, &mut buffer, F, 0, 100);
+        let again = sending(&mut table, &mut figures, &mut buffer, F, 60, 100);
         assert_eq!((again, figures), (Answer::Refusal(4), [1, 0, 1]));
         for kind in 0..=5 {
             let (mut table, mut figures) = (table, figures);

@@ -28,6 +28,33 @@ T 4915100001 ##214*0492123401*88*4915100002*#
 D delivered
 ";
 
+/// M-107's second listing: the delay 0, by which the notice is due at 401.
+const LATER_INPUT: &str = "\
+W 0
+N 0492123401
+S 4915100001 1
+S 4915100002 3
+R 4915100001 **214*0492123401***#
+R 4915100002 ##214*0492123401*88*4915100001*#
+T 100 0492123401
+D 101 0492123401 5
+T 130 0492123401
+T 161 0492123401
+T 401 0492123401
+D 402 0492123401 0
+";
+
+const LATER_OUTPUT: &str = "\
+R 01
+R 02
+T 4915100001 ##214*0492123401*88*4915100002*#
+D again
+T refused 5
+T refused 5
+T 4915100001 ##214*0492123401*88*4915100002*#
+D delivered
+";
+
 /// What fills the node in the tests below.
 const FILLING: &str = "\
 N 0492123401
@@ -49,6 +76,60 @@ fn the_listing() {
     assert_eq!(output(INPUT), OUTPUT);
     // The line feed of the last line may be missing.
     assert_eq!(output(INPUT.trim_end()), OUTPUT);
+}
+
+#[test]
+fn the_second_listing() {
+    assert_eq!(output(LATER_INPUT), LATER_OUTPUT);
+}
+
+/// What the second listing's calls print behind another first line.
+fn behind(first: &str) -> String {
+    output(LATER_INPUT.replacen("W 0", first, 1))
+}
+
+#[test]
+fn a_first_line_sets_the_delay() {
+    for first in ["W 0", "W 00", "W 300", "W 0300"] {
+        assert_eq!(behind(first), LATER_OUTPUT, "{first:?}");
+    }
+    // By 60 seconds the notice is sent at 161, and is in flight at 401.
+    let sooner = OUTPUT.replace("D delivered", "T refused 4\nD delivered");
+    for first in ["W 60", "W 060"] {
+        assert_eq!(behind(first), sooner, "{first:?}");
+    }
+    // By 301 and more it is not due at 401, so there is no result to take.
+    for first in ["W 301", "W 600"] {
+        let later = behind(first);
+        assert_eq!(later.matches("T refused 5\n").count(), 3, "{first:?}");
+        assert!(later.ends_with("D refused 4\n"), "{first:?}");
+    }
+    // Any other prints `?`, and 60 stays.
+    for first in [
+        "W",
+        "W ",
+        "W 59",
+        "W 601",
+        "W +300",
+        "W -300",
+        "W 300\r",
+        "W 300 ",
+        "W  300",
+        "W 300 300",
+        "W 0x12C",
+        "W 4294967596",
+        "W 18446744073709551916",
+        "w 300",
+        "WW 300",
+    ] {
+        assert_eq!(behind(first), format!("?\n{sooner}"), "{first:?}");
+    }
+    // So does one on a later line, whatever the first was.
+    for first in ["", "x", "W 59", "W 60", "N 0492123400", "T 0 12345"] {
+        let (one, two) = (behind(first), behind(&format!("{first}\nW 300")));
+        assert_eq!(two.replacen("?\n", "", 1), one, "{first:?}");
+        assert_eq!(two.matches("?\n").count(), one.matches("?\n").count() + 1);
+    }
 }
 
 #[test]

@@ -22,6 +22,9 @@ read-sending-requires c κs = search needs
 read-result-requires : tie.Need-read-result-requires
 read-result-requires c κs = search needs
 
+read-delay-requires : tie.Need-read-delay-requires
+read-delay-requires c κs = search needs
+
 returns : tie.Need-returns
 unfolding lettered
 returns c = reads-as (c .read-number .ensures) (rw (c .before .match .keys1))
@@ -44,9 +47,16 @@ returns-5 c = reads-as (c .read-result .ensures) (rw (c .before .match .keys5))
 
 returns-6 : tie.Need-returns-6
 unfolding lettered
-returns-6 c =
+returns-6 c = reads-as (c .read-delay .ensures) (rw (c .before .match .keys6))
+
+returns-7 : tie.Need-returns-7
+unfolding lettered
+returns-7 c =
     let n = c .match .rest in
-    record { form = rw (ne-eqb _ _ (n .0 .0 .0 .0 .1), ne-eqb _ _ (n .0 .0 .0 .1), ne-eqb _ _ (n .0 .0 .1), ne-eqb _ _ (n .0 .1), ne-eqb _ _ (n .1)); within = zero-le }
+    record {
+      form = rw (ne-eqb _ _ (n .0 .0 .0 .0 .0 .1), ne-eqb _ _ (n .0 .0 .0 .0 .1), ne-eqb _ _ (n .0 .0 .0 .1), ne-eqb _ _ (n .0 .0 .1), ne-eqb _ _ (n .0 .1), ne-eqb _ _ (n .1));
+      within = zero-le;
+    }
 
 pub read-form-spec : {M : Type 1} → statement M
 read-form-spec =
@@ -57,9 +67,11 @@ read-form-spec =
     read-request-requires
     read-sending-requires
     read-result-requires
+    read-delay-requires
     returns
     returns-2
     returns-3
     returns-4
     returns-5
-    returns-6)
+    returns-6
+    returns-7)

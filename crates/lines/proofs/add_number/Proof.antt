@@ -1,5 +1,5 @@
 -- `lines::add_number` meets its contract. Assumes nothing.
-use mathlib.Core.Path.{_≡_, sym, _∙_}
+use mathlib.Core.Path.{_≡_, refl, sym, _∙_}
 use mathlib.Core.Bool.{true}
 use Prim.Native.Nat.{_*_, _<_}
 use native.Mathlib.Omega.{arith}
@@ -41,7 +41,7 @@ same-length c = search needs
 returns : tie.Need-returns
 returns c = λ list s.
     let q = c .before .before in
-    did-as (q .question .ensures _ list s) (numbered-late _ _ (not-true _ (q .before .before .if1 .taken)))
+    did-as (numbered-late _ _ (not-true _ (q .before .before .if1 .taken))) (q .question .ensures _ list s)
 
 slice-reshare-prefix-may-follow : tie.Need-slice-reshare-prefix-may-follow
 slice-reshare-prefix-may-follow c = search needs
@@ -65,7 +65,7 @@ returns-2 : tie.Need-returns-2
 returns-2 c = λ list s.
     let q = c .before .before in
     let t = q .before .before in
-    did-as (q .question2 .ensures _ list s) (numbered-over _ _ (sym (t .before .may-follow .ensures) ∙ not-true _ (t .if2 .taken)))
+    did-as (numbered-over _ _ (sym (t .before .may-follow .ensures) ∙ not-true _ (t .if2 .taken))) (q .question2 .ensures _ list s)
 
 array-write-row : tie.Need-array-write-row
 array-write-row c = search needs
@@ -87,15 +87,17 @@ returns-3 c = λ list s.
     let a = c .before .before .before in
     let e = a .before .before .before in
     let f = filling (e .before .before .before) in
-    did-as (record {
+    did-as (numbered-in _ _ f (may e)) (record {
       numbers = put-count _ (a .append .ensures) (omega arith);
       subscribers = put-kept _ list (s .subscribers);
       filling = sym f;
+      delay = refl;
+      fresh = refl;
       figures = s .figures ∙ sym (recount-free _ _ (length-take-le _ _ (s .numbers)) _);
       printed = put-nothing _;
       moreNumbers = omega arith;
       moreSubscribers = omega arith;
-    }) (numbered-in _ _ f (may e))
+    })
 
 pub add-number-spec : {M : Type 1} → statement M
 add-number-spec =

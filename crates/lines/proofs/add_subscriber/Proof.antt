@@ -1,5 +1,5 @@
 -- `lines::add_subscriber` meets its contract. Assumes nothing.
-use mathlib.Core.Path.{_≡_, sym, _∙_}
+use mathlib.Core.Path.{_≡_, refl, sym, _∙_}
 use mathlib.Core.Bool.{true}
 use Prim.Native.Nat.{_*_, _<_}
 use native.Mathlib.Omega.{arith}
@@ -39,7 +39,7 @@ same-length c = search needs
 returns : tie.Need-returns
 returns c = λ table s.
     let q = c .before .before in
-    did-as (q .question .ensures table _ s) (subscribed-late _ _ _ (not-true _ (q .before .before .if1 .taken)))
+    did-as (subscribed-late _ _ _ (not-true _ (q .before .before .if1 .taken))) (q .question .ensures table _ s)
 
 slice-reshare-prefix-may-follow : tie.Need-slice-reshare-prefix-may-follow
 slice-reshare-prefix-may-follow c = search needs
@@ -63,7 +63,7 @@ returns-2 : tie.Need-returns-2
 returns-2 c = λ table s.
     let q = c .before .before in
     let t = q .before .before in
-    did-as (q .question2 .ensures table _ s) (subscribed-over _ _ _ (sym (t .before .may-follow .ensures) ∙ not-true _ (t .if2 .taken)))
+    did-as (subscribed-over _ _ _ (sym (t .before .may-follow .ensures) ∙ not-true _ (t .if2 .taken))) (q .question2 .ensures table _ s)
 
 slice-aggregate-append : tie.Need-slice-aggregate-append
 slice-aggregate-append c = search needs
@@ -82,15 +82,17 @@ returns-3 c = λ table s.
     let a = c .before .before .before in
     let e = a .before .before .before in
     let f = filling (e .before .before .before) in
-    did-as (record {
+    did-as (subscribed-in _ _ _ f (may e)) (record {
       numbers = put-kept _ table (s .numbers);
       subscribers = put-count _ (a .append .ensures) (omega arith);
       filling = sym f;
+      delay = refl;
+      fresh = refl;
       figures = s .figures;
       printed = put-nothing _;
       moreNumbers = omega arith;
       moreSubscribers = omega arith;
-    }) (subscribed-in _ _ _ f (may e))
+    })
 
 pub add-subscriber-spec : {M : Type 1} → statement M
 add-subscriber-spec =

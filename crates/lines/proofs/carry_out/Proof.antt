@@ -53,6 +53,12 @@ enum-known-line-5 c = search needs
 result-line-requires : tie.Need-result-line-requires
 result-line-requires c κs = search needs
 
+enum-known-line-6 : tie.Need-enum-known-line-6
+enum-known-line-6 c = search needs
+
+set-delay-requires : tie.Need-set-delay-requires
+set-delay-requires c κs = search needs
+
 enum-told : tie.Need-enum-told
 enum-told c = search needs
 
@@ -132,6 +138,15 @@ returns-6 : tie.Need-returns-6
 returns-6 c =
     let e = c .before .before in
     let k = e .before .before in
+    rw (k .before .line6 .given .1) (e .set-delay .ensures _ _ (k .before .before .before .before .before .before .before .before .pre .0 .1))
+
+same-length-14 : tie.Need-same-length-14
+same-length-14 c = search needs
+
+returns-7 : tie.Need-returns-7
+returns-7 c =
+    let e = c .before .before in
+    let k = e .before .before in
     rw (k .enum-told .given .1) (e .question .ensures _ _ (k .before .before .before .before .before .before .before .pre .0 .1))
 
 pub carry-out-spec : {M : Type 1} → statement M
@@ -151,6 +166,8 @@ carry-out-spec =
     sending-line-requires
     enum-known-line-5
     result-line-requires
+    enum-known-line-6
+    set-delay-requires
     enum-told
     question-requires
     same-length
@@ -171,4 +188,6 @@ carry-out-spec =
     same-length-12
     returns-5
     same-length-13
-    returns-6)
+    returns-6
+    same-length-14
+    returns-7)

@@ -2,6 +2,7 @@
 use Rattle.answers.proofs.Parts.{rest-of}
 use Rattle.lines.specs.Program.{lineEffect}
 use Rattle.forms.proofs.Places.{form-short, form-joined, form-lettered}
+use Rattle.lines.proofs.Memory.{fits-begun, did-begun}
 use Rattle.lines.proofs.Calls.{octets-behind}
 use borrow.Author.Needs.{needs}
 use Rattle.lines.proofs.do_line.Statement.{statement}
@@ -18,7 +19,7 @@ unfolding lineEffect
 returns c =
     let q = c .before .before in
     let t = q .before .before in
-    rw (form-short _ (t .if1 .taken)) (q .question .ensures _ _ (t .before .before .before .before .before .before .pre .0))
+    rw (form-short _ (t .if1 .taken)) (did-begun (q .question .ensures _ _ (fits-begun (t .before .before .before .before .before .before .before .pre .0))))
 
 shared-slice-read-if2 : tie.Need-shared-slice-read-if2
 shared-slice-read-if2 c = search needs
@@ -34,7 +35,7 @@ unfolding lineEffect
 returns-2 c =
     let q = c .before .before in
     let t = q .before .before in
-    rw (form-joined _ (t .before .before .if1 .left) (t .if2 .taken)) (q .question2 .ensures _ _ (t .before .before .before .before .before .before .before .before .pre .0))
+    rw (form-joined _ (t .before .before .if1 .left) (t .if2 .taken)) (did-begun (q .question2 .ensures _ _ (fits-begun (t .before .before .before .before .before .before .before .before .before .pre .0))))
 
 sub-rest : tie.Need-sub-rest
 sub-rest c = search needs
@@ -54,8 +55,8 @@ read-form-requires c κs = search needs
 carry-out-requires : tie.Need-carry-out-requires
 carry-out-requires c κs =
     let r = c .before .before .before .before in
-    let s = r .before .before .before .before .before .before .before .before .before .before .before in
-    ((r .read-form .ensures .within, s .pre .0), (rw rest-of (octets-behind 2 _ (s .args .line .now) (s .pre .1 .0)), s .pre .1 .1))
+    let s = r .before .before .before .before .before .before .before .before .before .before .before .before in
+    ((r .read-form .ensures .within, fits-begun (s .pre .0)), (rw rest-of (octets-behind 2 _ (s .args .line .now) (s .pre .1 .0)), s .pre .1 .1))
 
 same-length-3 : tie.Need-same-length-3
 same-length-3 c = search needs
@@ -75,7 +76,7 @@ returns-3 c =
     let o = c .before .before .before .before .before .before .before .before in
     let r = o .before .before .before .before .before in
     let e = r .before .before .before in
-    rw (form-lettered _ (e .before .before .if1 .left) (e .if2 .left)) (rw (r .read-form .ensures .form, rest-of) at (o .carry-out .ensures))
+    rw (form-lettered _ (e .before .before .if1 .left) (e .if2 .left)) (did-begun (rw (r .read-form .ensures .form, rest-of) at (o .carry-out .ensures)))
 
 pub do-line-spec : {M : Type 1} → statement M
 do-line-spec =

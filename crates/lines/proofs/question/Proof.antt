@@ -17,7 +17,7 @@ same-length c = search needs
 
 returns : tie.Need-returns
 returns c = λ table list s.
-    record { numbers = put-kept _ table (s .numbers); subscribers = put-kept _ list (s .subscribers); filling = refl; figures = s .figures; printed = c .before .before .put .ensures; moreNumbers = omega arith; moreSubscribers = omega arith }
+    record { numbers = put-kept _ table (s .numbers); subscribers = put-kept _ list (s .subscribers); filling = refl; delay = refl; fresh = refl; figures = s .figures; printed = c .before .before .put .ensures; moreNumbers = omega arith; moreSubscribers = omega arith }
 
 pub question-spec : {M : Type 1} → statement M
 question-spec = tie.close (tie.spec slice-aggregate-put put-requires same-length returns)

@@ -21,7 +21,7 @@ put-sending-answer-requires : tie.Need-put-sending-answer-requires
 put-sending-answer-requires c κs =
     let s = c .before .before .before .before .before .before .before in
     let a = s .before .before .before .before .before .before .before .args in
-    (printable-by _ _ _ _ (s .sending .ensures) (sending-sends (beside (a .table .now) (a .figures .now)) lentBuffer (a .number) 0 (a .clock) .0), omega arith)
+    (printable-by _ _ _ _ (s .sending .ensures) (sending-sends (beside (a .table .now) (a .figures .now)) lentBuffer (a .number) (a .delay) (a .clock) .0), omega arith)
 
 same-length : tie.Need-same-length
 same-length c = search needs
@@ -37,7 +37,7 @@ returns c =
     let p = c .before .before in
     let s = p .before .before .before .before .before .before .before .before in
     let a = s .before .before .before .before .before .before .before .args in
-    answered-by _ _ _ _ (s .sending .ensures) (sending-sends (beside (a .table .now) (a .figures .now)) lentBuffer (a .number) 0 (a .clock) .0) (p .put-sending-answer .ensures)
+    answered-by _ _ _ _ (s .sending .ensures) (sending-sends (beside (a .table .now) (a .figures .now)) lentBuffer (a .number) (a .delay) (a .clock) .0) (p .put-sending-answer .ensures)
 
 pub send-spec : {M : Type 1} → statement M
 send-spec =

@@ -20,8 +20,8 @@ head c = c .before .before .before .before .before .before
 abbrev start : tie.After-put → tie.Start
 start c = c .before .before .before .before .before .before .before
 
-room : (c : tie.After-send) → head c .put .result + c .send .result < length (putMid (head c .put .result) (length (head c .put .last .1 .0) - head c .put .result) (head c .put .last .1 .0) (c .send .last .1 .1 .1 .1 .0))
-room c = line-room (head c .put .ensures) (c .send .ensures) (c .send .kept .1 .1 .1 .1 .0) (omega arith)
+room : (c : tie.After-send) → head c .put .result + c .send .result < length (putMid (head c .put .result) (length (head c .put .last .1 .0) - head c .put .result) (head c .put .last .1 .0) (c .send .last .1 .1 .1 .1 .1 .0))
+room c = line-room (head c .put .ensures) (c .send .ensures) (c .send .kept .1 .1 .1 .1 .1 .0) (omega arith)
 
 mul-words : tie.Need-mul-words
 mul-words c = search needs
@@ -71,7 +71,7 @@ returns c = λ list s.
     let e = c .before .before in
     let r = e .before .before .before .before .before .before .before in
     let a = start (head r) in
-    line-did (λ state. notices.sendingNotice state lentBuffer (a .args .number) 0 (a .args .clock)) s (λ t. sending-right (a .args .number) (a .args .clock) (a .good .1 .0 .1) t) (head r .put .ensures) (r .send .ensures) (r .send .kept .1 .1 .0 ∙ length-take-le _ _ (s .numbers)) (room r) (e .end-line .ensures .0) (e .end-line .ensures .1)
+    line-did (λ state. notices.sendingNotice state lentBuffer (a .args .number) (a .args .state .delay) (a .args .clock)) s (λ t. sending-right (a .args .number) (a .args .clock) (a .good .1 .0 .1) t (a .args .state .delay)) (head r .put .ensures) (r .send .ensures) (r .send .kept .1 .1 .1 .0 ∙ length-take-le _ _ (s .numbers)) (room r) (e .end-line .ensures .0) (e .end-line .ensures .1)
 
 pub sending-line-spec : {M : Type 1} → statement M
 sending-line-spec =
