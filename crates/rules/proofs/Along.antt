@@ -8,7 +8,7 @@ use lib.ListN.{length}
 use lib.Dec.{eqb, ltb, leb}
 use borrow.Author.Tests.{eqb-true, eq-eqb, ne-eqb, not-true, not-false}
 use Rattle.answers.specs.Checks.{_>>=_}
-use Rattle.answers.proofs.Decide.{answering, decide-each, decide-by}
+use Rattle.answers.proofs.Decide.{answering, decide-each, decide-by, decide-first}
 use Rattle.answers.proofs.Tests.{no-path, and-left, and-right}
 use Rattle.numbers.specs.declared.FunctionalNumber.{FunctionalNumber}
 use Rattle.numbers.specs.declared.Msisdn.{Msisdn}
@@ -24,6 +24,7 @@ use Rattle.records.specs.declared.Step.the-variants as step
 use Rattle.records.specs.declared.Holder.the-variants as holds
 use Rattle.records.specs.declared.Sending.the-variants as launches
 use Rattle.records.specs.declared.Resulted.the-variants.{Refused, Delivered, Dropped, Again}
+use Rattle.records.specs.declared.Notice.{Notice}
 use Rattle.records.specs.declared.Notice.the-variants.{Waiting}
 use Rattle.records.specs.Steps as steps
 use Rattle.records.specs.Steps.{nobody, isNobody, same, heldBy, forcedOff, isAbsent, isWaiting, isInFlight, sendingsDone, launched, withNotice, cleared, mostSendings, lastKind}
@@ -60,7 +61,7 @@ pub data Asked (list : List ℕ) (r : Record) (requester : Msisdn) (read : Optio
       → same (r .holder) named ≡ true → same (r .holder) requester ≡ true → Asked list r requester read false true (heldBy nobody r)
   -- a forced erasure by another
   forced : {f : Request} {named : Msisdn} → read ≡ some f → f .operation ≡ Erase → f .erasing ≡ Forced named
-      → same (r .holder) named ≡ true → isAbsent (r .notice) ≡ true
+      → same (r .holder) named ≡ true → same (r .holder) requester ≡ false → isAbsent (r .notice) ≡ true
       → hasFollowMe (flagsOf list (requester .0)) ≡ true → isSupervisor (flagsOf list (requester .0)) ≡ true
       → Asked list r requester read false true (forcedOff requester r)
 
@@ -68,10 +69,11 @@ pub data Asked (list : List ℕ) (r : Record) (requester : Msisdn) (read : Optio
 abbrev pub AskedIn : List ℕ → Record → Msisdn → Option Request → Visited → Type 0
 AskedIn list r requester read v = Asked list r requester read (isOutcome 1 (v .reply .answer)) (isOutcome 2 (v .reply .answer)) (v .next)
 
--- what a result returns where it clears the notice
-pub data Clears : Answer → Type 0 where
-  delivers : Clears delivered
-  drops : Clears dropped
+-- what a result of a kind returns where it clears the notice: delivered, dropped by kinds 1 to 4, dropped after the last sending by kind 5
+pub data Clears (kind : ℕ) (n : Notice) : Answer → Type 0 where
+  delivers : eqb kind 0 ≡ true → Clears kind n delivered
+  drops : eqb kind 0 ≡ false → ltb kind lastKind ≡ true → Clears kind n dropped
+  gives-up : ltb lastKind kind ≡ false → ltb kind lastKind ≡ false → leb mostSendings (sendingsDone n) ≡ true → Clears kind n dropped
 
 -- a call
 pub data Does (list : List ℕ) (r : Record) : Call → Visited → Type 0 where
@@ -80,9 +82,9 @@ pub data Does (list : List ℕ) (r : Record) : Call → Visited → Type 0 where
   sends : {now : ℕ} {number : FunctionalNumber} {buffer : List ℕ} → isWaiting (r .notice) ≡ true
       → Does list r (sending now number buffer) (sentStep number buffer r (launches.Launched (withNotice (launched (r .notice)) r)))
   untaken : {now kind n : ℕ} {number : FunctionalNumber} → Does list r (result now number kind) (visited (refusal n) [] r)
-  clears : {now kind : ℕ} {number : FunctionalNumber} {a : Answer} → Clears a
+  clears : {now kind : ℕ} {number : FunctionalNumber} {a : Answer} → isInFlight (r .notice) ≡ true → Clears kind (r .notice) a
       → Does list r (result now number kind) (visited a [] (cleared r))
-  goes-on : {now kind : ℕ} {number : FunctionalNumber} → leb mostSendings (sendingsDone (r .notice)) ≡ false
+  goes-on : {now kind : ℕ} {number : FunctionalNumber} → isInFlight (r .notice) ≡ true → leb mostSendings (sendingsDone (r .notice)) ≡ false
       → Does list r (result now number kind) (visited again [] (withNotice (Waiting (sendingsDone (r .notice)) (clockReading now)) r))
 
 module _ (list : List ℕ) (r : Record) (requester : Msisdn) (reply : List ℕ) where
@@ -115,7 +117,7 @@ module _ (list : List ℕ) (r : Record) (requester : Msisdn) (reply : List ℕ) 
         by-holder : (b : Bool) → same (r .holder) requester ≡ b → same (r .holder) named ≡ true → (not b && not (isAbsent (r .notice))) ≡ false
             → Requested (visitSaying 2 reply (cond b (heldBy nobody r) (forcedOff requester r)))
         by-holder true m h a = herself refl p q h m
-        by-holder false m h a = forced refl p q h (not-false _ a) right (not-false _ w)
+        by-holder false m h a = forced refl p q h m (not-false _ a) right (not-false _ w)
     by-operation Interrogate e p q w =
         decide-by (λ h. Requested (holderAnswered reply r h)) (map (answering holds.Stays) (recordChecks Interrogate e (f .number) requester r)) (holds.Held (r .holder))
         (negative, tt) (λ a. negative)
@@ -146,15 +148,26 @@ does list delay (sending now number buffer) r =
     (λ p. decide-by (λ s. Does list r (sending now number buffer) (sentStep number buffer r s)) (map (answering launches.Refused) (sentChecks delay (clockReading now) r))
     (launches.Launched (withNotice (launched (r .notice)) r)) (unsent, (unsent, (unsent, tt))) (λ a. sends (not-false _ (a .1 .0))))
 does list delay (result now number kind) r =
-    decide-by (λ s. Does list r (result now number kind) (resultStep r s))
+    decide-first (λ s. Does list r (result now number kind) (resultStep r s))
     ((ltb lastKind kind, Refused 3)
     ∷ (not (isInFlight (r .notice)), Refused 4)
     ∷ (eqb kind 0, Delivered (cleared r))
     ∷ (ltb kind lastKind, Dropped (cleared r))
     ∷ (leb mostSendings (sendingsDone (r .notice)), Dropped (cleared r))
     ∷ [])
-    (Again (withNotice (Waiting (sendingsDone (r .notice)) (clockReading now)) r))
-    (untaken, (untaken, (clears delivers, (clears drops, (clears drops, tt))))) (λ a. goes-on (a .1 .1 .1 .1 .0))
+    (Again (withNotice (Waiting (sendingsDone (r .notice)) (clockReading now)) r)) (
+      λ above. untaken,
+      λ most. (
+        λ absent. untaken,
+        λ flies. (
+          λ zero. clears (not-false _ flies) (delivers zero),
+          λ above. (
+            λ below. clears (not-false _ flies) (drops above below),
+            λ least. (λ all. clears (not-false _ flies) (gives-up most least all), λ left. goes-on (not-false _ flies) left),
+          ),
+        ),
+      ),
+    )
 
 -- ---- a list of calls, seen from the number k
 
@@ -209,7 +222,7 @@ missed-request-negative flags reply none = refl
 missed-request-negative flags reply (some f) =
     decide-each Negative (map (answering (λ n. replySaying n reply)) (rightChecks flags (f .erasing))) (replySaying 41 reply) (refl, (refl, tt)) refl
 
-missed-negative : (list : List ℕ) (c : Call) → Negative (missed list c)
+pub missed-negative : (list : List ℕ) (c : Call) → Negative (missed list c)
 missed-negative list (request requester scheme string reply) = missed-request-negative (flagsOf list (requester .0)) reply (requestOf string)
 missed-negative list (framed requester message frame) = go (insideOf message)
   where

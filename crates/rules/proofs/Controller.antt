@@ -49,7 +49,7 @@ use Rattle.rules.proofs.Calls.{calls-keep}
 use Rattle.rules.proofs.Framed.{as-bare, framed-says}
 use Rattle.rules.proofs.Visits.{found-back, single-visits}
 use Rattle.rules.proofs.Sound.{single-keeps, single-own}
-use Rattle.rules.proofs.Along.{Asked, negative, registration, erasure, herself, forced, Does, asks, unsent, sends, untaken, clears, goes-on, delivers, drops, along, answered-02, one-same, not-same}
+use Rattle.rules.proofs.Along.{Asked, negative, registration, erasure, herself, forced, Does, asks, unsent, sends, untaken, clears, goes-on, delivers, drops, gives-up, along, answered-02, one-same, not-same}
 
 -- a well-formed request names the number in its string
 pub form-names : (list : List ℕ) (requester : Msisdn) (scheme : ℕ) (string reply : List ℕ) (f : Request) → WellFormed list requester scheme string reply f
@@ -168,16 +168,17 @@ asked-frees negative u = no-path u
 asked-frees (registration p q w) u = no-path u
 asked-frees (erasure p q w m right) u = refl
 asked-frees (herself p q w m o) u = refl
-asked-frees (forced p q w m x y z) u = refl
+asked-frees (forced p q w m d x y z) u = refl
 
 erasure-frees : {list : List ℕ} {r : Record} {c : Call} {v : Visited} → Does list r c v → isOutcome 2 (v .reply .answer) ≡ true → v .next .holder ≡ nobody
 erasure-frees (asks i d) u = asked-frees d u
 erasure-frees unsent u = no-path u
 erasure-frees (sends w) u = no-path u
 erasure-frees untaken u = no-path u
-erasure-frees (clears delivers) u = no-path u
-erasure-frees (clears drops) u = no-path u
-erasure-frees (goes-on p) u = no-path u
+erasure-frees (clears w (delivers e)) u = no-path u
+erasure-frees (clears w (drops e l)) u = no-path u
+erasure-frees (clears w (gives-up e l m)) u = no-path u
+erasure-frees (goes-on w p) u = no-path u
 
 -- a crew's request is not answered 02
 bare-not-02 : (list : List ℕ) (requester : Msisdn) (scheme : ℕ) (string reply : List ℕ) (state : State)

@@ -65,7 +65,7 @@ asked-keeps negative a b = refl
 asked-keeps (registration p q h) a b = no-path (sym a)
 asked-keeps (erasure p q h m right) a b = no-path (sym b)
 asked-keeps (herself p q h m w) a b = no-path (sym b)
-asked-keeps (forced p q h m x y z) a b = no-path (sym b)
+asked-keeps (forced p q h m d x y z) a b = no-path (sym b)
 
 -- a request leaves the holder, or nobody, or gives the number to who registers it
 asked-gives : {list : List ℕ} {r next : Record} {q : Msisdn} {read : Option Request} {one two : Bool} → Asked list r q read one two next
@@ -74,7 +74,7 @@ asked-gives negative = inl refl
 asked-gives (registration p q h) = inr (inr (rw (p, q) refl, refl, refl))
 asked-gives (erasure p q h m right) = inr (inl refl)
 asked-gives (herself p q h m w) = inr (inl refl)
-asked-gives (forced p q h m x y z) = inr (inl refl)
+asked-gives (forced p q h m d x y z) = inr (inl refl)
 
 -- h holds the number still, or an erasure has ended her hold
 asked-ends : {list : List ℕ} {r next : Record} {q : Msisdn} {read : Option Request} {one two : Bool} → Asked list r q read one two next
@@ -90,7 +90,7 @@ asked-ends {r = r} {q = requester} (herself {named = named} p q w m o) h held so
     let of = one-same named h (sym (same-one (r .holder) named m) ∙ e) in
     let by = one-same requester h (sym (same-one (r .holder) requester o) ∙ e) in
     inr (refl, refl, λ b i. rw (p, q, w, of, by) refl)
-asked-ends {list} {r = r} {q = requester} (forced {named = named} p q w m x y z) h held sound e =
+asked-ends {list} {r = r} {q = requester} (forced {named = named} p q w m d x y z) h held sound e =
     let of = one-same named h (sym (same-one (r .holder) named m) ∙ e) in
     let flags = both-flags list (requester .0) sound y z in
     inr (refl, refl, λ b i. rw (p, q, w, of, flags, i x) (or-right (same requester h) true refl))
@@ -105,8 +105,8 @@ holding (asks i d) = asking i d
 holding unsent = keeping refl
 holding (sends w) = keeping refl
 holding untaken = keeping refl
-holding (clears e) = keeping refl
-holding (goes-on p) = keeping refl
+holding (clears f e) = keeping refl
+holding (goes-on f p) = keeping refl
 
 -- no sending and no result changes the holder, and no answer but 01 and 02
 unasked-keeps : {list : List ℕ} {r : Record} {c : Call} {v : Visited} → Holding list r c v → isRequest c ≡ false → v .next .holder ≡ r .holder

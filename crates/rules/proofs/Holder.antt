@@ -32,6 +32,7 @@ use Rattle.rules.specs.Run.{only, last, end, log}
 use Rattle.rules.specs.Calls.{Call, request, framed, sending, result, Reply, clockReading, nameOf, namesOne}
 use Rattle.rules.specs.Visits.{Visited, visited, visitSaying, stepped, holderAnswered, decides, decided, sentStep, resultStep, visitRequest, enveloped, visitInside, visit, replySaying, missedRequest, missedInside, missed}
 use Rattle.rules.specs.Demand.{requesterOf, decidesHolder, holderAfter, holderOf}
+use Rattle.rules.proofs.Runs.{last-more}
 use Rattle.rules.proofs.Once.{single}
 use Rattle.rules.proofs.Inside.{outcome-kept}
 use Rattle.rules.proofs.Visits.{recordChecks, sentChecks}
@@ -165,15 +166,9 @@ module _ (list : List ℕ) (delay k : ℕ) where
 
 -- ---- a list of calls
 
--- the holder before does not matter where there is a call
-any-before : (p : Call × Reply) (ps : List (Call × Reply)) (h g : ℕ) → holderAfter (last (p ∷ ps)) h ≡ holderAfter (last (p ∷ ps)) g
-any-before p [] h g = refl
-any-before p (q ∷ ps) h g = any-before q ps h g
-
 -- one call more in front
 one-more : (p : Call × Reply) (ps : List (Call × Reply)) (h : ℕ) → holderAfter (last ps) (holderAfter (some p) h) ≡ holderAfter (last (p ∷ ps)) h
-one-more p [] h = refl
-one-more p (q ∷ ps) h = any-before q ps (holderAfter (some p) h) h
+one-more = last-more holderAfter (λ h. refl) (λ p h g. refl)
 
 -- one call more in front, whatever it was answered
 turn : (c : Call) (a : Reply) (ps : List (Call × Reply)) (h : ℕ)

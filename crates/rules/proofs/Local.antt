@@ -36,7 +36,7 @@ module _ (list : List ℕ) (delay : ℕ) (c : Call) (t u : State) (st : stateSou
 
   alike-none : nameOf list c ≡ none → Alike
   alike-none n = (
-    let stops = single-stops list delay c n .1 in ap (λ x. x .0) (stops t st) ∙ sym (ap (λ x. x .0) (stops u su)),
+    let stops = single-stops list delay c n .2 in ap (λ x. x .0) (stops t st) ∙ sym (ap (λ x. x .0) (stops u su)),
     λ k m. no-path (ap (λ o. isNamed o k) (sym n) ∙ m),
   )
 

@@ -26,17 +26,17 @@ use Rattle.rules.specs.Run.{only, end, log}
 use Rattle.rules.specs.Notices.{noticeIn}
 use Rattle.rules.specs.Calls.{Call, Reply, request, framed, sending, result, call, namesOne, codesOf, steps}
 use Rattle.rules.specs.Visits.{Visited}
-use Rattle.rules.specs.Pending.{noticeFor, never, holdsAt, isSendingOf, isResultOf, sendingDone, resultTaken, ResultBetween, noticeCleared}
+use Rattle.rules.specs.Pending.{noticeFor, never, holdsAt, isSendingOf, isResultOf, sendingDone, resultTaken, Between, noticeCleared}
 use Rattle.rules.specs.Users.{isRequest}
 use Rattle.rules.proofs.Once.{single}
 use Rattle.rules.proofs.Visits.{found-sound}
 use Rattle.rules.proofs.Single.{call-single, singles-log}
 use Rattle.rules.proofs.Calls.{all-steps-single, singly-end, calls-keep}
-use Rattle.rules.proofs.Along.{Asked, negative, registration, erasure, herself, forced, Does, asks, unsent, sends, untaken, clears, goes-on, delivers, drops, Passed, unnamed, missing, refused, Along, ends, passes, visits, along, never-first}
+use Rattle.rules.proofs.Along.{Asked, negative, registration, erasure, herself, forced, Does, asks, unsent, sends, untaken, clears, goes-on, delivers, drops, gives-up, Passed, unnamed, missing, refused, Along, ends, passes, visits, along, never-first}
 
 -- ---- one visit
 
-launched-flies : (n : Notice) → isWaiting n ≡ true → isInFlight (launched n) ≡ true
+pub launched-flies : (n : Notice) → isWaiting n ≡ true → isInFlight (launched n) ≡ true
 launched-flies Absent w = w
 launched-flies (Waiting k s) w = refl
 launched-flies (InFlight k) w = refl
@@ -51,13 +51,13 @@ not-both Absent w f = no-path w
 not-both (Waiting k s) w f = no-path f
 not-both (InFlight k) w f = no-path w
 
-flies-pending : (n : Notice) → isInFlight n ≡ true → isAbsent n ≡ false
+pub flies-pending : (n : Notice) → isInFlight n ≡ true → isAbsent n ≡ false
 flies-pending Absent f = no-path f
 flies-pending (Waiting k s) f = refl
 flies-pending (InFlight k) f = refl
 
 -- one entry more, or none
-one-more : {X : Type 0} (b : Bool) (x : X) (xs : List X) → length (cond b (x ∷ xs) xs) ≡ cond b 1 0 + length xs
+pub one-more : {X : Type 0} (b : Bool) (x : X) (xs : List X) → length (cond b (x ∷ xs) xs) ≡ cond b 1 0 + length xs
 one-more true x xs = omega arith
 one-more false x xs = omega arith
 
@@ -68,7 +68,7 @@ asked-keeps negative n = refl
 asked-keeps (registration p q h) n = refl
 asked-keeps (erasure p q h m right) n = refl
 asked-keeps (herself p q h m w) n = refl
-asked-keeps (forced p q h m x y z) n = no-path (sym n ∙ x)
+asked-keeps (forced p q h m d x y z) n = no-path (sym n ∙ x)
 
 -- a request, framed or not, is neither a sending nor a result
 pub request-unsent : (k : ℕ) (c : Call) (a : Reply) → isRequest c ≡ true → sendingDone k (c, a) ≡ false
@@ -82,6 +82,10 @@ request-untaken k (request requester scheme string reply) a e = refl
 request-untaken k (framed requester message frame) a e = refl
 request-untaken k (sending now number buffer) a e = no-path e
 request-untaken k (result now number kind) a e = no-path e
+
+-- behind one entry more
+pub farther : {X : Type 0} {test : X → Bool} {x : X} {l : List X} {i n j : ℕ} → n ≤ suc i → Between test l i j → Between test (x ∷ l) n (suc j)
+farther h b = record { place = suc (b .place); behind = omega arith; before = omega arith; passes = b .passes }
 
 -- the notice of r is pending still in the record `next`, to the same addressee, from the same supervisor, and counts the entry if it is a sending of k that succeeded
 pub record StillPending (k : ℕ) (r : Record) (entry : Call × Reply) (next : Record) : Type 0 where
@@ -117,14 +121,14 @@ module _ (list : List ℕ) (k : ℕ) where
   passed-untaken (result now number kind) missing = and-no (eqb (number .0) k) false refl
 
   -- a sending that succeeds finds the notice waiting and leaves it in flight
-  sent-flies : {r : Record} {c : Call} {v : Visited} → Does list r c v → sendingDone k (c, v .reply) ≡ true
+  pub sent-flies : {r : Record} {c : Call} {v : Visited} → Does list r c v → sendingDone k (c, v .reply) ≡ true
       → (isWaiting (r .notice) ≡ true) × (isInFlight (v .next .notice) ≡ true)
   sent-flies {c = c} {v = v} (asks i d) s = no-path (sym (request-unsent k c (v .reply) i) ∙ s)
   sent-flies (unsent {number = number}) s = no-path (and-right (eqb (number .0) k) false s)
   sent-flies {r} (sends w) s = (w, launched-flies (r .notice) w)
   sent-flies untaken s = no-path s
-  sent-flies (clears e) s = no-path s
-  sent-flies (goes-on p) s = no-path s
+  sent-flies (clears w e) s = no-path s
+  sent-flies (goes-on w p) s = no-path s
 
   -- a notice in flight stays in flight, up to a result that is not refused
   flying-on : {r : Record} {c : Call} {v : Visited} → namesOne list c k ≡ true → Does list r c v → isInFlight (r .notice) ≡ true
@@ -133,9 +137,10 @@ module _ (list : List ℕ) (k : ℕ) where
   flying-on n unsent f u = f
   flying-on {r} n (sends w) f u = absurd (not-both (r .notice) w f)
   flying-on n untaken f u = f
-  flying-on n (clears delivers) f u = no-path (sym (rw n at u))
-  flying-on n (clears drops) f u = no-path (sym (rw n at u))
-  flying-on n (goes-on p) f u = no-path (sym (rw n at u))
+  flying-on n (clears w (delivers e)) f u = no-path (sym (rw n at u))
+  flying-on n (clears w (drops e l)) f u = no-path (sym (rw n at u))
+  flying-on n (clears w (gives-up e l m)) f u = no-path (sym (rw n at u))
+  flying-on n (goes-on w p) f u = no-path (sym (rw n at u))
 
   -- a pending notice is pending still, up to the result that clears it
   pub still-pending : {r : Record} {c : Call} {v : Visited} → namesOne list c k ≡ true → Does list r c v → isAbsent (r .notice) ≡ false
@@ -146,9 +151,10 @@ module _ (list : List ℕ) (k : ℕ) where
   still-pending {r} n (sends w) a u =
       record { pending = flies-pending (launched (r .notice)) (launched-flies (r .notice) w); addressee = refl; supervisor = refl; done = rw n (launched-one-more (r .notice) w) }
   still-pending n untaken a u = record { pending = a; addressee = refl; supervisor = refl; done = omega arith }
-  still-pending n (clears delivers) a u = no-path (sym (rw n at u))
-  still-pending n (clears drops) a u = no-path (sym (rw n at u))
-  still-pending n (goes-on p) a u = record { pending = refl; addressee = refl; supervisor = refl; done = omega arith }
+  still-pending n (clears w (delivers e)) a u = no-path (sym (rw n at u))
+  still-pending n (clears w (drops e l)) a u = no-path (sym (rw n at u))
+  still-pending n (clears w (gives-up e l m)) a u = no-path (sym (rw n at u))
+  still-pending n (goes-on w p) a u = record { pending = refl; addressee = refl; supervisor = refl; done = omega arith }
 
   -- a result that is taken after the last sending clears the notice
   last-clears : {r : Record} {c : Call} {v : Visited} → Does list r c v → sendingsDone (r .notice) ≡ mostSendings → resultTaken k (c, v .reply) ≡ true
@@ -157,31 +163,27 @@ module _ (list : List ℕ) (k : ℕ) where
   last-clears unsent m u = no-path u
   last-clears (sends w) m u = no-path u
   last-clears (untaken {number = number}) m u = no-path (and-right (eqb (number .0) k) false u)
-  last-clears (clears e) m u = refl
-  last-clears (goes-on p) m u = no-path (sym (rw m at p))
+  last-clears (clears w e) m u = refl
+  last-clears (goes-on w p) m u = no-path (sym (rw m at p))
 
   -- ---- the walk along the calls
 
-  -- behind one entry more
-  farther : {x : Call × Reply} {l : List (Call × Reply)} {i n j : ℕ} → n ≤ suc i → ResultBetween k l i j → ResultBetween k (x ∷ l) n (suc j)
-  farther h b = record { place = suc (b .place); behind = omega arith; before = omega arith; taken = b .taken }
-
   -- from a notice in flight, behind an entry x: before a sending that succeeds stands a result that is taken
   result-first : {r : Record} {l : List (Call × Reply)} {p : Option Record} → Along list k (some r) l p → isInFlight (r .notice) ≡ true
-      → (x : Call × Reply) (j : ℕ) → holdsAt (sendingDone k) l j ≡ true → ResultBetween k (x ∷ l) zero (suc j)
+      → (x : Call × Reply) (j : ℕ) → holdsAt (sendingDone k) l j ≡ true → Between (resultTaken k) (x ∷ l) zero (suc j)
   result-first ends f x j s = no-path s
   result-first (passes {c = c} n rest) f x zero s = no-path (sym (passed-unsent c n) ∙ s)
   result-first (passes n rest) f x (suc j) s = farther (omega arith) (result-first rest f _ j s)
   result-first {r} (visits n d rest) f x zero s = absurd (not-both (r .notice) (sent-flies d s .0) f)
   result-first (visits {c = c} {v = v} {l = l} n d rest) f x (suc j) s = go (resultTaken k (c, v .reply)) refl (λ f. result-first rest f (c, v .reply) j s)
     where
-      go : (b : Bool) → resultTaken k (c, v .reply) ≡ b → (isInFlight (v .next .notice) ≡ true → ResultBetween k ((c, v .reply) ∷ l) zero (suc j))
-          → ResultBetween k (x ∷ (c, v .reply) ∷ l) zero (suc (suc j))
-      go true u ih = record { place = suc zero; behind = omega arith; before = omega arith; taken = u }
+      go : (b : Bool) → resultTaken k (c, v .reply) ≡ b → (isInFlight (v .next .notice) ≡ true → Between (resultTaken k) ((c, v .reply) ∷ l) zero (suc j))
+          → Between (resultTaken k) (x ∷ (c, v .reply) ∷ l) zero (suc (suc j))
+      go true u ih = record { place = suc zero; behind = omega arith; before = omega arith; passes = u }
       go false u ih = farther (omega arith) (ih (flying-on n d f u))
 
   result-between : {o p : Option Record} {l : List (Call × Reply)} → Along list k o l p → (i j : ℕ) → i < j
-      → holdsAt (sendingDone k) l i ≡ true → holdsAt (sendingDone k) l j ≡ true → ResultBetween k l i j
+      → holdsAt (sendingDone k) l i ≡ true → holdsAt (sendingDone k) l j ≡ true → Between (resultTaken k) l i j
   result-between w i zero h s t = absurd (omega arith)
   result-between ends i (suc j) h s t = no-path s
   result-between (passes {c = c} n rest) zero (suc j) h s t = no-path (sym (passed-unsent c n) ∙ s)
@@ -205,7 +207,7 @@ module _ (list : List ℕ) (k : ℕ) where
   last-ends (visits n d ends) m u = last-clears d m u
 
 -- of a sound state no more than the most sendings are done
-state-most : (state : State) (k : ℕ) → stateSound state ≡ true → sendingsDone (noticeFor state k) ≤ mostSendings
+pub state-most : (state : State) (k : ℕ) → stateSound state ≡ true → sendingsDone (noticeFor state k) ≤ mostSendings
 state-most state k sound = go (rowFor state k) refl
   where
     go : (place : Found) → rowFor state k ≡ place → sendingsDone (noticeFor state k) ≤ mostSendings
@@ -243,7 +245,7 @@ module _ (list : List ℕ) (delay k : ℕ) (calls : List Call) (state : State) w
   seen = rw (got-singly, singly-end list delay calls state) (along list delay k (steps list calls) state)
 
   -- between two sendings of k that succeed stands a result naming k that was not refused
-  pub between-two-sendings : (i j : ℕ) → i < j → holdsAt (sendingDone k) got i ≡ true → holdsAt (sendingDone k) got j ≡ true → ResultBetween k got i j
+  pub between-two-sendings : (i j : ℕ) → i < j → holdsAt (sendingDone k) got i ≡ true → holdsAt (sendingDone k) got j ≡ true → Between (resultTaken k) got i j
   between-two-sendings = result-between list k seen
 
   -- while k's notice is pending, up to the result that clears it

@@ -1,10 +1,22 @@
--- Local calls, run one after the other, are local together: they read and write the records of the numbers that one of them names. Assumes nothing.
+-- Local calls, run one after the other, are local together: they read and write the records of the numbers that one of them names; and what the last of some entries decides. Assumes nothing.
 use mathlib.Core.Path.{_≡_, refl, sym, _∙_}
 use mathlib.Core.Bool.{Bool, true, false, _||_}
+use mathlib.Core.Option.{Option, none, some}
 use mathlib.Core.List.{List, [], _∷_}
 use Prim.Native.Nat.{ℕ}
 use Rattle.answers.proofs.Tests.{no-path, or-left, or-right, or-neither}
-use Rattle.rules.specs.Run.{end, log, Local}
+use Rattle.rules.specs.Run.{last, end, log, Local}
+
+-- what the last entry decides, whatever was before it: one entry more in front
+module _ {X A : Type 0} (after : Option X → A → A) (stays : (a : A) → after none a ≡ a)
+    (decides : (x : X) (a b : A) → after (some x) a ≡ after (some x) b) where
+  any-before : (x : X) (xs : List X) (a b : A) → after (last (x ∷ xs)) a ≡ after (last (x ∷ xs)) b
+  any-before x [] a b = decides x a b
+  any-before x (y ∷ xs) a b = any-before y xs a b
+
+  pub last-more : (x : X) (xs : List X) (a : A) → after (last xs) (after (some x) a) ≡ after (last (x ∷ xs)) a
+  last-more x [] a = stays (after (some x) a)
+  last-more x (y ∷ xs) a = any-before y xs (after (some x) a) a
 
 -- one of the calls names k
 abbrev pub anyNames : {C : Type 0} → (C → ℕ → Bool) → List C → ℕ → Bool

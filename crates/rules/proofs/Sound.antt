@@ -114,7 +114,7 @@ pub record Kept (t u : State) : Type 0 where
 kept-same : (t : State) → stateSound t ≡ true → Kept t t
 kept-same t s = record { sound = s; long = refl; numbers = λ i. refl }
 
-kept-twice : (t u v : State) → Kept t u → Kept u v → Kept t v
+pub kept-twice : (t u v : State) → Kept t u → Kept u v → Kept t v
 kept-twice t u v p q = record { sound = q .sound; long = q .long ∙ p .long; numbers = λ i. q .numbers i ∙ p .numbers i }
 
 kept-stored : (t : State) (i : ℕ) (r : Record) → stateSound t ≡ true → i < rowsIn (t .table) → recordSound r ≡ true → Kept t (storedIn t i r)
@@ -147,7 +147,7 @@ module _ (t : State) (sound : stateSound t ≡ true) (requester : Msisdn) (one :
           (decides-at-keeps i (row-found (t .table) (f .number .0) i e .0) (record-sound (t .table) i (found-sound t (f .number .0) i sound e)) (f .operation) (f .erasing) (f .number))
 
 -- the row of a record that the table has, and that there is none for one that it does not have
-record-place : (t : State) (k : ℕ) (r : Record) → recordFor t k ≡ some r → (i : ℕ) × (rowFor t k ≡ At i) × (recordIn t i ≡ r)
+pub record-place : (t : State) (k : ℕ) (r : Record) → recordFor t k ≡ some r → (i : ℕ) × (rowFor t k ≡ At i) × (recordIn t i ≡ r)
 unfolding recordOf
 record-place t k r e = go (rowFor t k) refl e
   where
@@ -179,7 +179,7 @@ module _ (list : List ℕ) (delay : ℕ) (c : Call) (t : State) (sound : stateSo
       placed k n (At i) e = rw (single-visits list delay t sound c k i n e) (kept-stored t i _ sound (row-found (t .table) k i e .0) (at-row k i n e))
 
       named : (n : Option ℕ) → nameOf list c ≡ n → Kept t (went .1)
-      named none n = rw (single-stops list delay c n .1 t sound) (kept-same t sound)
+      named none n = rw (single-stops list delay c n .2 t sound) (kept-same t sound)
       named (some k) n = placed k n (rowFor t k) refl
 
   -- the record of the number that the call names decides, and becomes the next one
@@ -207,7 +207,7 @@ module _ (list : List ℕ) (delay : ℕ) (c : Call) (t : State) (sound : stateSo
           ∙ other-record (t .table) i _ j e k (λ q. eqb-false j k (ap (λ o. isNamed o k) (sym n) ∙ m) (sym q))
 
       named : (n : Option ℕ) → nameOf list c ≡ n → recordFor (went .1) k ≡ recordFor t k
-      named none n = rw (single-stops list delay c n .1 t sound)
+      named none n = rw (single-stops list delay c n .2 t sound)
       named (some j) n = placed j n (rowFor t j) refl
 
 -- a list of calls leaves a sound state, with the same numbers in the same rows

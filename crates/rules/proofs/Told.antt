@@ -36,7 +36,7 @@ record Telling (h s : Msisdn) (r : Record) : Type 0 where
   supervisor : r .supervisor ≡ s
 
 -- the entry is a sending, and it tells h of s
-abbrev Tells : Msisdn → Msisdn → Call × Reply → Type 0
+abbrev pub Tells : Msisdn → Msisdn → Call × Reply → Type 0
 Tells h s (request requester scheme string reply, a) = ⊥
 Tells h s (framed requester message frame, a) = ⊥
 Tells h s (sending now number buffer, a) = a ≡ telling number h s buffer
@@ -44,13 +44,13 @@ Tells h s (result now number kind, a) = ⊥
 
 module _ (list : List ℕ) (k : ℕ) where
   -- a sending that succeeds tells the record's addressee of its supervisor
-  sending-tells : {r : Record} {c : Call} {v : Visited} → Does list r c v → sendingDone k (c, v .reply) ≡ true → Tells (r .addressee) (r .supervisor) (c, v .reply)
+  pub sending-tells : {r : Record} {c : Call} {v : Visited} → Does list r c v → sendingDone k (c, v .reply) ≡ true → Tells (r .addressee) (r .supervisor) (c, v .reply)
   sending-tells {c = c} {v = v} (asks i d) u = no-path (sym (request-unsent k c (v .reply) i) ∙ u)
   sending-tells (unsent {number = number}) u = no-path (and-right (eqb (number .0) k) false u)
   sending-tells (sends w) u = refl
   sending-tells untaken u = no-path u
-  sending-tells (clears e) u = no-path u
-  sending-tells (goes-on p) u = no-path u
+  sending-tells (clears w e) u = no-path u
+  sending-tells (goes-on w p) u = no-path u
 
   -- a forced erasure naming h, by another, answered 02, leaves a notice to h from her
   forced-tells : {r next : Record} {h s : Msisdn} {read : Option Request} {one two : Bool} {f : Request} → Asked list r s read one two next
@@ -61,7 +61,7 @@ module _ (list : List ℕ) (k : ℕ) where
   forced-tells {r} {h = h} (herself {named = named} p q w m o) t e d u =
       let one : h ≡ r .holder = cc (same-one (r .holder) named m) in
       no-path (sym d ∙ rw one o)
-  forced-tells {r} (forced {named = named} p q w m x y z) t e d u =
+  forced-tells {r} (forced {named = named} p q w m o x y z) t e d u =
       record { pending = refl; addressee = cc (same-one (r .holder) named m); supervisor = refl }
 
   call-tells : {r : Record} {c : Call} {v : Visited} {h : Msisdn} {f : Request} → Does list r c v → readOf c ≡ some f → f .erasing ≡ Forced h
@@ -70,8 +70,8 @@ module _ (list : List ℕ) (k : ℕ) where
   call-tells unsent t e o u = not-some t
   call-tells (sends w) t e o u = not-some t
   call-tells untaken t e o u = not-some t
-  call-tells (clears q) t e o u = not-some t
-  call-tells (goes-on p) t e o u = not-some t
+  call-tells (clears w q) t e o u = not-some t
+  call-tells (goes-on w p) t e o u = not-some t
 
   module _ (h s : Msisdn) where
     told-along : {r : Record} {l : List (Call × Reply)} {p : Option Record} → Along list k (some r) l p → Telling h s r → never (noticeCleared k) l ≡ true

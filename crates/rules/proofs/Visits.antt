@@ -10,7 +10,7 @@ use borrow.Author.Tests.{eqb-true, not-false}
 use Rattle.answers.specs.Checks.{decide, isNone, anyHolds}
 use Rattle.answers.proofs.Tests.{no-path, or-neither, or-right}
 use Rattle.answers.proofs.Checks.{not-some}
-use Rattle.answers.proofs.Decide.{chosen, answering, decide-of, all-pass, any-answering, none-holds, one-holds}
+use Rattle.answers.proofs.Decide.{chosen, answering, decide-of, decide-each, all-pass, any-answering, none-holds, one-holds}
 use Rattle.packing.specs.Packing.{unpacked}
 use Rattle.numbers.specs.Numbers.{isNumber}
 use Rattle.numbers.specs.declared.FunctionalNumber.{FunctionalNumber}
@@ -42,7 +42,7 @@ use Rattle.tables.proofs.Sound.{table-row}
 use Rattle.tables.proofs.Stored.{row-found}
 use Rattle.states.specs.States.{State, stateSound, rowFor, recordWhere, recordIn, storedIn}
 use Rattle.states.proofs.States.{state-table, state-right, stored-back}
-use Rattle.rules.specs.Answers.{Answer, refusal, error, delivered, dropped, again, Outcome, made, bufferRoom, refusing}
+use Rattle.rules.specs.Answers.{Answer, refusal, error, delivered, dropped, again, Outcome, made, bufferRoom, isOutcome, refusing}
 use Rattle.rules.specs.Requests as requests
 use Rattle.rules.specs.Requests.{Stepping, comesTo, says}
 use Rattle.rules.specs.Frames.{ownReply}
@@ -50,7 +50,7 @@ use Rattle.rules.specs.Notices as notices
 use Rattle.rules.specs.Calls.{Call, request, framed, sending, result, Reply, replied, clockReading, numberRead, nameOf}
 use Rattle.rules.specs.Visits.{stepAt, tellAt, decidesAt, visited, storing, leaving, visitSaying, stepped, holderAnswered, erases, decides, decided, sentStep, resultStep, visitSending, visitResult, visitRequest, visit, replySaying, missedSending, missedResult, missedRequest, missed, enveloped}
 use Rattle.rules.proofs.Once.{requestingOnce, single}
-use Rattle.rules.proofs.Inside.{turned, Opened, shut, carries, opened}
+use Rattle.rules.proofs.Inside.{turned, outcome-kept, Opened, shut, carries, opened}
 
 -- ---- the row of a number in a sound state
 
@@ -385,24 +385,28 @@ module _ (list : List ℕ) (delay : ℕ) (t : State) (sound : stateSound t ≡ t
   single-misses (sending now number buffer) k n e = ap replied (sending-misses t buffer number delay (clockReading now) sound (cc))
   single-misses (result now number kind) k n e = ap replied (result-misses t number kind (clockReading now) sound (cc))
 
--- the call names none: it gets the same over every sound state, which stays
+-- the call names none: it gets the same over every sound state, no outcome, and the state stays
 module _ (list : List ℕ) (delay : ℕ) where
   abbrev Stops : Call → Type 0
-  Stops c = (r : Reply) × ((t : State) → stateSound t ≡ true → single list delay c t ≡ (r, t))
+  Stops c = (r : Reply) × ((n : ℕ) → isOutcome n (r .answer) ≡ false) × ((t : State) → stateSound t ≡ true → single list delay c t ≡ (r, t))
 
   bare-stops : (requester : Msisdn) (scheme : ℕ) (string reply : List ℕ) → nameOf list (request requester scheme string reply) ≡ none
       → Stops (request requester scheme string reply)
-  bare-stops requester scheme string reply n =
-      (_, λ t sound. ap replied (request-stops list reply requester scheme string t sound (unnamed list reply requester scheme string n)))
+  bare-stops requester scheme string reply n = (
+    _,
+    λ m. decide-each (λ a. isOutcome m a ≡ false) (requests.refusalChecks true true list reply requester scheme string) (error 36)
+        (refl, (refl, (refl, (refl, (refl, (refl, (refl, (refl, tt)))))))) refl,
+    λ t sound. ap replied (request-stops list reply requester scheme string t sound (unnamed list reply requester scheme string n)),
+  )
 
   pub single-stops : (c : Call) → nameOf list c ≡ none → Stops c
   single-stops (request requester scheme string reply) n = bare-stops requester scheme string reply n
   single-stops (framed requester message frame) n = go (opened list frame message requester delay)
     where
       go : Opened list frame message requester delay → Stops (framed requester message frame)
-      go (shut r unsaid why nameless c s) = (r, s)
+      go (shut r unsaid why nameless c s) = (r, λ m. rw unsaid refl, s)
       go (carries j inside passes w) =
-          let (r, stops) = bare-stops requester (j .scheme) (j .string) ownReply (sym (w .name) ∙ n) in
-          (enveloped j frame r, λ t sound. w .singles t sound ∙ ap (turned (enveloped j frame)) (stops t sound))
+          let (r, unsaid, stops) = bare-stops requester (j .scheme) (j .string) ownReply (sym (w .name) ∙ n) in
+          (enveloped j frame r, λ m. outcome-kept j frame r m ∙ unsaid m, λ t sound. w .singles t sound ∙ ap (turned (enveloped j frame)) (stops t sound))
   single-stops (sending now number buffer) n = not-some (sym n)
   single-stops (result now number kind) n = not-some (sym n)

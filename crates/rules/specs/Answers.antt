@@ -130,6 +130,10 @@ isRefusedWith n a = isOf refusalClass a && eqb (numbersOf a .number) n
 abbrev pub isOutcome : ℕ → Answer → Bool
 isOutcome n a = isOf outcomeClass a && eqb (numbersOf a .number) n
 
+-- it is what a result returns, by its number
+abbrev pub isResult : ℕ → Answer → Bool
+isResult n a = isOf resultClass a && eqb (numbersOf a .number) n
+
 -- a negative outcome: none of 01, 02 and 03, and none of a crew's, 11 and 12
 abbrev pub isNegativeNumber : ℕ → Bool
 isNegativeNumber n = not (eqb n 1 || eqb n 2 || eqb n interrogationNumber || eqb n crewRegistered || eqb n crewErased)

@@ -33,6 +33,13 @@ module _ {X : Type 0} where
   abbrev pub holdsAt : (X → Bool) → List X → ℕ → Bool
   holdsAt test xs i = holdsOf test (getElem? xs i)
 
+  -- one stands behind place i and before place j
+  pub record Between (test : X → Bool) (xs : List X) (i j : ℕ) : Type 0 where
+    pub place : ℕ
+    pub behind : i < place
+    pub before : place < j
+    pub passes : holdsAt test xs place ≡ true
+
 -- ---- entries of a log: a call, and what it got
 
 -- a sending of the number k
@@ -56,13 +63,6 @@ sendingDone k entry = isSendingOf k (entry .0) && isSent (entry .1 .answer)
 -- a result naming k that was not refused
 abbrev pub resultTaken : ℕ → Call × Reply → Bool
 resultTaken k entry = isResultOf k (entry .0) && not (isRefusal (entry .1 .answer))
-
--- one stands in the log behind place i and before place j
-pub record ResultBetween (k : ℕ) (entries : List (Call × Reply)) (i j : ℕ) : Type 0 where
-  pub place : ℕ
-  pub behind : i < place
-  pub before : place < j
-  pub taken : holdsAt (resultTaken k) entries place ≡ true
 
 -- the result that clears k's notice: a result naming k, answered delivered or dropped
 abbrev pub noticeCleared : ℕ → Call × Reply → Bool

@@ -12,9 +12,9 @@ use lib.ListN.{getD}
 use lib.Dec.{eqb}
 use borrow.Author.Tests.{eq-eqb, ne-eqb}
 use Rattle.answers.specs.Checks.{onlyIf}
-use Rattle.answers.proofs.Tests.{same-or-not}
+use Rattle.answers.proofs.Tests.{same-or-not, less-or-not}
 use Rattle.answers.proofs.Checks.{not-some, onlyIf-some}
-use Rattle.records.specs.Steps.{isWaiting, isInFlight}
+use Rattle.records.specs.Steps.{isAbsent, isWaiting, isInFlight}
 use Rattle.rows.specs.Rows.{phaseAt, secondAt, noticeOf, recordAt}
 use Rattle.rows.proofs.Notices.{by-phase}
 use Rattle.tables.specs.declared.Figures.{Figures}
@@ -32,6 +32,17 @@ one-most false = omega arith
 pub many-most : (test : ℕ → Bool) (n : ℕ) → howMany test n ≤ n
 many-most test zero = omega arith
 many-most test (suc n) = omega (arith, many-most test n, one-most (test n))
+
+-- none of them, and just one
+pub many-none : (test : ℕ → Bool) (n : ℕ) → ((i : ℕ) → i < n → test i ≡ false) → howMany test n ≡ 0
+many-none test zero h = refl
+many-none test (suc n) h = omega (arith, many-none test n (λ i l. h i (omega arith)), ap one (h n (omega arith)))
+
+pub many-one : (test : ℕ → Bool) (n j : ℕ) → j < n → test j ≡ true → ((i : ℕ) → i < n → (i ≡ j → ⊥) → test i ≡ false) → howMany test n ≡ 1
+many-one test zero j l e h = absurd (omega arith)
+many-one test (suc n) j l e h =
+    ⊎-elim (λ below. omega (arith, many-one test n j below e (λ i k d. h i (omega arith) d), ap one (h n (omega arith) (λ q. omega arith))))
+    (λ above. let last : j ≡ n = omega arith in omega (arith, many-none test n (λ i k. h i (omega arith) (λ q. omega arith)), ap one (rw last at e))) (less-or-not j n)
 
 -- a row that is counted is among those counted
 pub many-has : (test : ℕ → Bool) (n i : ℕ) → i < n → one (test i) ≤ howMany test n
@@ -101,6 +112,10 @@ flies-by : (phase second : ℕ) → (eqb (phase % 2) 0 && not (eqb phase 0)) ≡
 flies-by phase second = by-phase (λ n. (eqb (phase % 2) 0 && not (eqb phase 0)) ≡ isInFlight n) phase second
     (λ e. rw e refl) (λ k e. rw (ne-eqb (phase % 2) 0 (λ q. omega arith)) refl) (λ k h e. rw (eq-eqb (phase % 2) 0 (omega arith), ne-eqb phase 0 (λ q. omega arith)) refl)
 
+pends-by : (phase second : ℕ) → not (eqb phase 0) ≡ not (isAbsent (noticeOf phase second))
+pends-by phase second = by-phase (λ n. not (eqb phase 0) ≡ not (isAbsent n)) phase second
+    (λ e. rw e refl) (λ k e. rw (ne-eqb phase 0 (λ q. omega arith)) refl) (λ k h e. rw (ne-eqb phase 0 (λ q. omega arith)) refl)
+
 pub row-waits : (t : List ℕ) (i : ℕ) → waitsAt t i ≡ isWaiting (recordAt t i .notice)
 unfolding recordAt
 row-waits t i = waits-by (phaseAt t i) (secondAt t i)
@@ -108,6 +123,10 @@ row-waits t i = waits-by (phaseAt t i) (secondAt t i)
 pub row-flies : (t : List ℕ) (i : ℕ) → fliesAt t i ≡ isInFlight (recordAt t i .notice)
 unfolding recordAt
 row-flies t i = flies-by (phaseAt t i) (secondAt t i)
+
+pub row-pends : (t : List ℕ) (i : ℕ) → hasNoticeAt t i ≡ not (isAbsent (recordAt t i .notice))
+unfolding recordAt
+row-pends t i = pends-by (phaseAt t i) (secondAt t i)
 
 -- ---- what the code says of a recount
 

@@ -10,6 +10,7 @@ use ffn::c;
 use oracle::generate::{Call, Generator, Random, Reply};
 use oracle::{Answer, Fields, Invoked, Message, Operation, Place, Released};
 
+pub mod account;
 pub mod radio;
 
 /// How often each kind of answer came up.

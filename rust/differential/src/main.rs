@@ -19,8 +19,11 @@ fn main() -> ExitCode {
         eprintln!("usage: differential [SEED] [CALLS]");
         return ExitCode::from(2);
     };
-    println!("seed {seed}, {calls} calls to the node, twice as many to radios");
+    println!(
+        "seed {seed}, {calls} calls to the node, as many along shared tables, twice as many to radios"
+    );
     let compared = differential::compare(seed, calls).and_then(|mut counts| {
+        counts.extend(differential::account::compare(seed, calls)?);
         counts.extend(differential::radio::compare(seed, calls)?);
         Ok(counts)
     });

@@ -26,9 +26,11 @@ use crate::rows::{
 use crate::string::{read_request, write_request, Additional, Fields, Operation};
 use crate::text::Text;
 
+mod along;
 mod frames;
 pub mod radio;
 
+pub use along::Along;
 pub use frames::changed_frames;
 
 /// Lengths of buffers around the limits.

@@ -13,6 +13,7 @@
 
 #![forbid(unsafe_code)]
 
+pub mod account;
 mod calls;
 mod crew;
 mod frame;

@@ -103,7 +103,7 @@ impl Generator {
     }
 
     /// A Register, broken once in three.
-    fn register(&mut self, scheme: u8, mut string: Vec<u8>) -> Vec<u8> {
+    pub(super) fn register(&mut self, scheme: u8, mut string: Vec<u8>) -> Vec<u8> {
         string.truncate(MAX_STRING);
         // The step that is broken, if it is one of those below.
         let broken = self.random.index(27);
