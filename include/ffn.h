@@ -22,10 +22,11 @@
  * supervisor; second of the last failure.
  * Figures. Three words beside the table: numbers held (with a holder), notices
  * waiting (in an odd phase), notices in flight (in an even phase above 0). A
- * caller recounts them once at the start, by ffn_recount; after that she only
- * lends the words with the table. Each request, sending and result that is not
- * refused leaves them equal to a recount of the table. Words that differ from
- * it, or of another length than three, are refused 10.
+ * caller recounts them once at the start, by ffn_recount, or has them from the
+ * image that she reads; after that she only lends the words with the table. Each
+ * request, sending and result that is not refused leaves them equal to a recount
+ * of the table. Words that differ from it, or of another length than three, are
+ * refused 10.
  * List. Two words a subscriber, at most 4,096, strictly ascending: MSISDN;
  * flags 0 to 3 (1 has Follow Me, 2 supervisor).
  *
@@ -37,6 +38,13 @@
  * sequence number of a mobile's messages. A caller whose stack leaves it in makes
  * the message's second octet (type & 0x3F) | 0x40 before she lends it, and one
  * who wants 0x3B written clears 0x40 in what was written.
+ *
+ * Images. Table and list as one run of octets, to move a node to new hardware:
+ * the rows, table then list, each word as eight octets, the low one first; then a
+ * trailer of three such words: the number of table rows, of list rows, and the
+ * distance in octets from the trailer's start back to the first row. Contents
+ * have one image, and an image has one reading. That of nothing is 24 zeros, that
+ * of 1,024 numbers and 4,096 subscribers has 114,712 octets.
  *
  * Refusals and errors touch no memory; only a framed request that is in error or
  * rejected writes the frame that says so. What a function writes stands at the
@@ -55,14 +63,14 @@ extern "C" {
 /* The classes of an answer. Refusals, errors and outcomes are numbered apart. */
 enum {
     FFN_WRITTEN = 0,  /* count: the octets or characters that were written */
-    FFN_REFUSAL = 1,  /* number: 1 to 11, see below */
+    FFN_REFUSAL = 1,  /* number: 1 to 11 or 30 to 34, see below */
     FFN_ERROR = 2,    /* number: 35, 36 or 71, the codes of TS 29.002 */
     FFN_OUTCOME = 3,  /* number: the outcome; count: the reply's or the frame's octets; value: of 03 the holder's MSISDN, otherwise 0 */
     FFN_SENT = 4,     /* count: the notice's octets; value: the addressee's MSISDN */
     FFN_RESULT = 5,   /* number: FFN_DELIVERED, FFN_DROPPED or FFN_AGAIN */
     FFN_FOUND = 6,    /* value: the lowest due functional number */
     FFN_NONE_DUE = 7, /* no notice is due */
-    FFN_READ = 8,     /* of the readers: the string or the message reads */
+    FFN_READ = 8,     /* of the readers: the string, the message or the image reads */
     /* Of frames. */
     FFN_RETURN_ERROR = 9, /* number: the error's code; count: the frame's octets */
     FFN_REJECT = 10,      /* number: the problem; count: the frame's octets */
@@ -100,6 +108,10 @@ enum {
  * not 0, or the transaction identifier is above 15; 10 the figures differ from a
  * recount of the table; 11 the message is wrong anywhere up to and with its
  * invoke number, or is no Release Complete that the node could have written.
+ * Of images: 30 the image has under 24 octets; 31 the distance is not the image's
+ * length less 24; 32 a count of rows is over its limit, 1,024 or 4,096; 33 a
+ * buffer is too small for the image, or for what it holds; 34 the rows do not
+ * fill the distance.
  * Errors: 35 the requester is no MSISDN, or the string has 0 octets; 36 the
  * string does not read; 71 the data coding scheme is not 0x0F.
  * Outcomes: 01 registered, 02 erased, 03 interrogated; 11 a crew's request to
@@ -147,6 +159,14 @@ struct ffn_figures {
     uint64_t held;      /* numbers held */
     uint64_t waiting;   /* notices waiting */
     uint64_t in_flight; /* notices in flight */
+};
+
+/* What an image reads as. With FFN_REFUSAL all but number is 0. */
+struct ffn_image_read {
+    uint32_t class_;    /* FFN_READ, or FFN_REFUSAL */
+    uint32_t number;    /* 30, 31, 32, 34, 33, 2 or 8 with FFN_REFUSAL, otherwise 0 */
+    size_t numbers;     /* the rows of the table */
+    size_t subscribers; /* the rows of the list */
 };
 
 /*
@@ -278,6 +298,25 @@ struct ffn_frame_read ffn_read_register(const uint8_t *message, size_t message_l
  * FFN_REFUSAL 11 for anything that the node's writer could not have written.
  */
 struct ffn_frame_read ffn_read_release(const uint8_t *message, size_t message_length);
+
+/*
+ * Writes table and list as one image. FFN_WRITTEN with its size, eight octets a
+ * word of table and list, and 24. Refused 8, 2, 10, 33 (image is shorter), in
+ * this order.
+ */
+struct ffn_answer ffn_write_image(const uint64_t *table, size_t table_words, const uint64_t *figures, size_t figure_words,
+                                  const uint64_t *list, size_t list_words, uint8_t *image, size_t image_length);
+
+/*
+ * Reads an image: FFN_READ with the counts of rows. The table's words, the list's
+ * words and the three figures, recounted, stand at the front of table, list and
+ * figures. Refused 30, 31, 32, 34, 33 (one of the three has no room), 2, 8, in
+ * this order. Counts are compared as they stand, so huge ones are refused and no
+ * product wraps. The contents are tested on the stack, which takes some 112 KiB,
+ * before any lent word changes.
+ */
+struct ffn_image_read ffn_read_image(const uint8_t *image, size_t image_length, uint64_t *table, size_t table_words,
+                                     uint64_t *list, size_t list_words, uint64_t *figures, size_t figure_words);
 
 #ifdef __cplusplus
 }

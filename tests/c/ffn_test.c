@@ -1,20 +1,8 @@
 /* The papers' examples and the limits of each function, through the C library. Ends at the first fact that does not hold, with its line. */
-#include <stdio.h>
-#include <stdlib.h>
 #include <string.h>
 
+#include "facts.h"
 #include "ffn.h"
-
-#define HOLDS(fact)                                                      \
-    do {                                                                 \
-        facts += 1;                                                      \
-        if (!(fact)) {                                                   \
-            fprintf(stderr, "%s:%d: %s\n", __FILE__, __LINE__, #fact);   \
-            exit(1);                                                     \
-        }                                                                \
-    } while (0)
-
-static int facts;
 
 /* The layout that the library was compiled with. */
 _Static_assert(sizeof(struct ffn_answer) == 24, "answer");
@@ -45,8 +33,7 @@ _Static_assert(offsetof(struct ffn_figures, in_flight) == 24, "in flight");
 static const uint64_t A = 14915100001, B = 14915100002, C = 14915100003, F = 10492123401;
 static const uint64_t LIST[6] = {14915100001, 1, 14915100002, 3, 14915100003, 0};
 
-/* What no function writes here: it shows which octets stayed. */
-enum { UNTOUCHED = 0xEE, ROOM = 200, MOST_CHARS = 160 };
+enum { ROOM = 200, MOST_CHARS = 160 };
 
 static uint8_t reply[ROOM];
 static uint64_t table[6], figures[3];
@@ -54,14 +41,6 @@ static uint64_t table[6], figures[3];
 static int is(struct ffn_answer a, uint32_t class_, uint32_t number, size_t count, uint64_t value)
 {
     return a.class_ == class_ && a.number == number && a.count == count && a.value == value;
-}
-
-static int untouched(const uint8_t *octets, size_t from, size_t to)
-{
-    for (size_t i = from; i < to; i++)
-        if (octets[i] != UNTOUCHED)
-            return 0;
-    return 1;
 }
 
 static int figures_are(uint64_t held, uint64_t waiting, uint64_t in_flight)
@@ -116,7 +95,7 @@ static struct ffn_answer ask(uint64_t requester, const char *text)
 {
     uint8_t string[ROOM];
     struct ffn_answer packed = pack(text, string, sizeof string);
-    memset(reply, UNTOUCHED, sizeof reply);
+    fill(reply, sizeof reply);
     return ffn_request(table, 6, figures, 3, LIST, 6, reply, sizeof reply, requester, 0x0F, string, packed.count);
 }
 
@@ -128,22 +107,22 @@ static int outcome(struct ffn_answer a, uint32_t number, const char *text)
 static void packing(void)
 {
     uint8_t out[ROOM];
-    memset(out, UNTOUCHED, sizeof out);
+    fill(out, sizeof out);
     HOLDS(is(pack("*#", out, sizeof out), FFN_WRITTEN, 0, 2, 0)); /* P1 */
-    HOLDS(memcmp(out, "\xAA\x11", 2) == 0 && untouched(out, 2, sizeof out));
+    HOLDS(begins_with(out, sizeof out, "\xAA\x11", 2));
     HOLDS(is(pack("1234567", out, sizeof out), FFN_WRITTEN, 0, 7, 0)); /* P2 */
-    HOLDS(memcmp(out, "\x31\xD9\x8C\x56\xB3\xDD\x1A", 7) == 0 && untouched(out, 7, sizeof out));
+    HOLDS(begins_with(out, sizeof out, "\x31\xD9\x8C\x56\xB3\xDD\x1A", 7));
     HOLDS(is(pack("12345678", out, sizeof out), FFN_WRITTEN, 0, 7, 0)); /* P3 */
     HOLDS(memcmp(out, "\x31\xD9\x8C\x56\xB3\xDD\x70", 7) == 0);
 
-    memset(out, UNTOUCHED, sizeof out);
+    fill(out, sizeof out);
     HOLDS(is(ffn_unpack((const uint8_t *)"\x31\xD9\x8C\x56\xB3\xDD\x00", 7, out, 8), FFN_WRITTEN, 0, 8, 0)); /* P4 */
-    HOLDS(memcmp(out, "1234567\0", 8) == 0 && untouched(out, 8, sizeof out));
-    memset(out, UNTOUCHED, sizeof out);
+    HOLDS(begins_with(out, sizeof out, "1234567\0", 8));
+    fill(out, sizeof out);
     HOLDS(is(ffn_unpack((const uint8_t *)"\x31\xD9\x8C\x56\xB3\xDD\x1A", 7, out, 8), FFN_WRITTEN, 0, 7, 0));
-    HOLDS(memcmp(out, "1234567", 7) == 0 && untouched(out, 7, sizeof out)); /* a dropped carriage return is not written */
+    HOLDS(begins_with(out, sizeof out, "1234567", 7)); /* a dropped carriage return is not written */
 
-    memset(out, UNTOUCHED, sizeof out);
+    fill(out, sizeof out);
     HOLDS(is(pack("12\r", out, 2), FFN_REFUSAL, 1, 0, 0)); /* the room comes first */
     HOLDS(is(pack("12\r", out, 3), FFN_REFUSAL, 9, 0, 0));
     HOLDS(is(ffn_unpack((const uint8_t *)"\x00\xFF", 2, out, 1), FFN_REFUSAL, 1, 0, 0));
@@ -170,12 +149,10 @@ static int as_by_bits(size_t n)
     for (size_t i = 0; i < n; i++)
         chars[i] = (uint8_t)((37 * i + 11 * n) % 128 == '\r' ? 127 : (37 * i + 11 * n) % 128);
     pack_bits(chars, n, bits);
-    memset(out, UNTOUCHED, sizeof out);
-    memset(back, UNTOUCHED, sizeof back);
-    return is(ffn_pack(chars, n, out, count), FFN_WRITTEN, 0, count, 0) && memcmp(out, bits, count) == 0
-        && untouched(out, count, sizeof out)
-        && is(ffn_unpack(out, count, back, room), FFN_WRITTEN, 0, n, 0) && memcmp(back, chars, n) == 0
-        && untouched(back, n, sizeof back);
+    fill(out, sizeof out);
+    fill(back, sizeof back);
+    return is(ffn_pack(chars, n, out, count), FFN_WRITTEN, 0, count, 0) && begins_with(out, sizeof out, bits, count)
+        && is(ffn_unpack(out, count, back, room), FFN_WRITTEN, 0, n, 0) && begins_with(back, sizeof back, chars, n);
 }
 
 /* A character behind the first group is not taken: refused before anything is stored. */
@@ -184,7 +161,7 @@ static int refused_whole(size_t n)
     uint8_t chars[MOST_CHARS], out[MOST_CHARS];
     memset(chars, '1', sizeof chars);
     chars[n - 1] = '\r';
-    memset(out, UNTOUCHED, sizeof out);
+    fill(out, sizeof out);
     return is(ffn_pack(chars, n, out, sizeof out), FFN_REFUSAL, 9, 0, 0) && untouched(out, 0, sizeof out);
 }
 
@@ -242,7 +219,7 @@ static void request_checks(void)
     uint8_t string[160];
     size_t count = pack("**214*0492123401***#", string, sizeof string).count;
     memcpy(broken, unsound, sizeof broken);
-    memset(reply, UNTOUCHED, sizeof reply);
+    fill(reply, sizeof reply);
     HOLDS(is(ffn_request(broken, 6, figures, 2, LIST, 5, reply, 79, 1, 0, string, 0), FFN_REFUSAL, 1, 0, 0));
     HOLDS(is(ffn_request(broken, 6, figures, 2, LIST, 5, reply, 80, 1, 0, string, 0), FFN_REFUSAL, 8, 0, 0));
     HOLDS(is(ffn_request(broken, 6, figures, 2, LIST, 6, reply, 80, 1, 0, string, 0), FFN_REFUSAL, 2, 0, 0));
@@ -257,7 +234,7 @@ static void request_checks(void)
 
 static struct ffn_answer send(uint64_t number, uint32_t delay, uint32_t now)
 {
-    memset(reply, UNTOUCHED, sizeof reply);
+    fill(reply, sizeof reply);
     return ffn_sending(table, 6, figures, 3, reply, sizeof reply, number, delay, now);
 }
 
@@ -302,17 +279,17 @@ static void strings(void)
 {
     uint8_t out[ROOM], text[ROOM];
     const uint8_t *field = (const uint8_t *)"TRAIN 4711";
-    memset(out, UNTOUCHED, sizeof out);
+    fill(out, sizeof out);
     struct ffn_answer written = ffn_write_request(FFN_ERASE, F, A, field, 10, out, sizeof out);
     HOLDS(is(written, FFN_WRITTEN, 0, 37, 0) && holds(out, written.count, "##214*0492123401*88*4915100001*TRAIN 4711#"));
 
-    memset(text, UNTOUCHED, sizeof text);
+    fill(text, sizeof text);
     struct ffn_request_read read = ffn_read_request(out, written.count, text, 42);
     HOLDS(read.class_ == FFN_READ && read.number == 0 && read.operation == FFN_ERASE);
     HOLDS(read.functional_number == F && read.msisdn == A && read.start == 31 && read.length == 10);
     HOLDS(read.crew == 0 && read.codes == 0);
     HOLDS(memcmp(text + read.start, field, 10) == 0 && text[41] == '#' && untouched(text, 42, ROOM));
-    memset(text, UNTOUCHED, sizeof text);
+    fill(text, sizeof text);
     read = ffn_read_request(out, written.count, text, 41); /* no room for its 42 characters: the fields alone */
     HOLDS(read.class_ == FFN_READ && read.start == 31 && read.length == 10 && untouched(text, 0, ROOM));
     read = ffn_read_request(out, written.count - 1, text, sizeof text);
@@ -320,7 +297,7 @@ static void strings(void)
     HOLDS(read.msisdn == 0 && read.start == 0 && read.length == 0 && untouched(text, 0, ROOM));
     HOLDS(read.crew == 0 && read.codes == 0);
 
-    memset(out, UNTOUCHED, sizeof out);
+    fill(out, sizeof out);
     HOLDS(is(ffn_write_request(3, F, 0, field, 10, out, 159), FFN_REFUSAL, 1, 0, 0));
     HOLDS(is(ffn_write_request(3, F, 0, field, 10, out, 160), FFN_REFUSAL, 9, 0, 0));
     HOLDS(is(ffn_write_request(FFN_REGISTER, F, A, field, 10, out, 160), FFN_REFUSAL, 9, 0, 0));
@@ -450,7 +427,7 @@ static struct ffn_answer ask_crew(uint64_t requester, uint64_t other, const char
     uint8_t string[ROOM];
     struct ffn_answer packed = pack(text, string, sizeof string);
     memcpy(rows, before, sizeof rows);
-    memset(reply, UNTOUCHED, sizeof reply);
+    fill(reply, sizeof reply);
     set_figures(other != 0, 1, 0);
     struct ffn_answer answer = ffn_request(rows, 12, figures, 3, LIST, 6, reply, sizeof reply, requester, 0x0F, string, packed.count);
     holders[0] = rows[1];
@@ -520,7 +497,7 @@ static struct ffn_answer ask_framed(uint64_t requester, size_t place, uint8_t oc
 {
     uint8_t message[40];
     change(message, place, octet);
-    memset(reply, UNTOUCHED, sizeof reply);
+    fill(reply, sizeof reply);
     return ffn_framed_request(table, 6, figures, 3, LIST, 6, reply, 120, requester, message, sizeof message);
 }
 
@@ -547,7 +524,7 @@ static void framed_requests(void)
 
     uint8_t message[120], none[1] = {0};
     struct ffn_answer made = ffn_write_register(0, 1, FFN_INTERROGATE, F, 0, none, 0, message, sizeof message);
-    memset(reply, UNTOUCHED, sizeof reply);
+    fill(reply, sizeof reply);
     struct ffn_answer held = ffn_framed_request(table, 6, figures, 3, LIST, 6, reply, sizeof reply, B, message, made.count);
     HOLDS(is(held, FFN_OUTCOME, 3, 33, A) && untouched(reply, 33, ROOM));
     uint8_t text[ROOM];
@@ -561,7 +538,7 @@ static void framed_checks(void)
     uint8_t wrong[40], rejected[40];
     change(wrong, 1, 0x3B);
     change(rejected, 11, 0x3C);
-    memset(reply, UNTOUCHED, sizeof reply);
+    fill(reply, sizeof reply);
     HOLDS(is(ffn_framed_request(broken, 6, figures, 2, LIST, 5, reply, 119, 1, wrong, 40), FFN_REFUSAL, 1, 0, 0));
     HOLDS(is(ffn_framed_request(broken, 6, figures, 2, LIST, 5, reply, 120, 1, wrong, 40), FFN_REFUSAL, 11, 0, 0));
     HOLDS(is(ffn_framed_request(broken, 6, figures, 2, LIST, 5, reply, 120, 1, rejected, 40), FFN_REFUSAL, 8, 0, 0));
@@ -579,14 +556,14 @@ static void registers(void)
     uint8_t frame[ROOM], message[240] = {0x0B, 0x7B, 0x1C, 0x92, 0xA1, 0x81, 0x8F, 0x02, 0x01, 0x01, 0x02, 0x01, 0x3B, 0x30, 0x81, 0x86,
         0x04, 0x01, 0x00, 0x04, 0x81, 0x80}, none[1] = {0};
     const uint8_t *field = (const uint8_t *)"ABCDEFGHIJKLMNOPQRSTUVWXYZ0123";
-    memset(frame, UNTOUCHED, sizeof frame);
+    fill(frame, sizeof frame);
     HOLDS(is(ffn_write_register(0, 1, FFN_REGISTER, F, 0, none, 0, frame, 120), FFN_WRITTEN, 0, 40, 0));
-    HOLDS(memcmp(frame, REGISTER, 40) == 0 && untouched(frame, 40, ROOM));
+    HOLDS(begins_with(frame, ROOM, REGISTER, 40));
     HOLDS(frame_is(ffn_read_register(REGISTER, 40), FFN_READ, 0, 0x0B, 1, 0x0F, 19, 18));
     struct ffn_answer longest = ffn_write_register(15, 255, FFN_ERASE, 1999999999999999, 1000000000000000, field, 30, frame, 120);
     HOLDS(is(longest, FFN_WRITTEN, 0, 85, 0) && untouched(frame, 85, ROOM));
     HOLDS(frame_is(ffn_read_register(frame, 85), FFN_READ, 0, 0xFB, 255, 0x0F, 19, 63));
-    memset(frame, UNTOUCHED, sizeof frame);
+    fill(frame, sizeof frame);
     HOLDS(is(ffn_write_register(16, 1, 3, F, 0, none, 0, frame, 119), FFN_REFUSAL, 1, 0, 0));
     HOLDS(is(ffn_write_register(16, 1, FFN_REGISTER, F, 0, none, 0, frame, 120), FFN_REFUSAL, 9, 0, 0));
     HOLDS(is(ffn_write_register(0, 1, 3, F, 0, none, 0, frame, 120), FFN_REFUSAL, 9, 0, 0));
@@ -634,6 +611,5 @@ int main(void)
     framed_checks();
     registers();
     releases();
-    printf("%d facts hold\n", facts);
-    return 0;
+    return all_hold();
 }

@@ -1,22 +1,23 @@
 // The program of document 01: it reads at most 64 KiB of standard input, and writes what its lines print. What is lost is said on standard error.
-use lines::LIST_WORDS;
 use lines::MOST_OUTPUT;
-use lines::TABLE_WORDS;
+use tables::FULL_LIST_WORDS;
+use tables::FULL_TABLE_WORDS;
 ghost use mathlib.Core.Path.{_≡_};
 ghost use lib.ListN.{length};
-ghost use Rattle.lines.specs.Memory.{tableWords, listWords, mostOutput};
+ghost use Rattle.lines.specs.Memory.{mostOutput};
+ghost use Rattle.tables.specs.Tables.{fullTableWords, fullListWords};
 
 // Memory for the table, the list and the output; a caller needs only its length.
-fn table_words() -> [u64; TABLE_WORDS]
-    ensures { λ r. ⌜ tableWords ≡ length r ⌝ }
+fn table_words() -> [u64; FULL_TABLE_WORDS]
+    ensures { λ r. ⌜ fullTableWords ≡ length r ⌝ }
 {
-    [0; TABLE_WORDS]
+    [0; FULL_TABLE_WORDS]
 }
 
-fn list_words() -> [u64; LIST_WORDS]
-    ensures { λ r. ⌜ listWords ≡ length r ⌝ }
+fn list_words() -> [u64; FULL_LIST_WORDS]
+    ensures { λ r. ⌜ fullListWords ≡ length r ⌝ }
 {
-    [0; LIST_WORDS]
+    [0; FULL_LIST_WORDS]
 }
 
 fn output_octets() -> [u8; MOST_OUTPUT]

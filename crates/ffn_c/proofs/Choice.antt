@@ -1,4 +1,4 @@
--- The C functions leave no choice: two outcomes that a contract allows are equal, the struct, the table, the figures and every octet. Assumes nothing.
+-- The C functions leave no choice: two outcomes that a contract allows are equal, the struct, the table, the figures and every octet; of the image's reader, `left-one` of `image` says so. Assumes nothing.
 use mathlib.Core.Path.{_≡_, sym, ap, _∙_}
 use mathlib.Core.List.{List}
 use Prim.Native.Nat.{ℕ}

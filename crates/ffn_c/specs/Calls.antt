@@ -14,12 +14,15 @@ use Rattle.strings.specs.Text.{Request, requestFrom}
 use Rattle.strings.specs.Outcomes.{requestOf, tell, writerRoom, writingRequest}
 use Rattle.frames.specs.Messages.{frameRoom}
 use Rattle.framers.specs.Written.{writingRegister}
+use Rattle.image.specs.Images.{SaidRead, RestoreOutcome, leaving}
 use Rattle.rules.specs.Answers as rules
 use Rattle.structs.specs.declared.Answer.{Answer}
 use Rattle.structs.specs.declared.Operating.{Operating}
 use Rattle.structs.specs.declared.Operating.the-variants.{Known, Unknown}
 use Rattle.structs.specs.declared.RequestRead.{RequestRead}
+use Rattle.structs.specs.declared.ImageCounts.{ImageCounts}
 use Rattle.structs.specs.Numbers.{ofSaid, ofAnswer, ofTold}
+use Rattle.structs.specs.Images.{ofImage}
 
 -- the struct, the table, the figures and the buffer afterwards; [] for what is not lent
 pub record Returned (S : Type 0) : Type 0 where
@@ -62,3 +65,9 @@ readingAs octets text (some f) = returning (ofTold (tell (unpacked octets) (some
 
 unfoldable pub readingInto : List ℕ → List ℕ → Returned RequestRead
 readingInto octets text = readingAs octets text (requestOf octets)
+
+-- ---- the image's reader
+
+-- the struct, and table, list and figures afterwards
+abbrev pub ofReading : RestoreOutcome SaidRead → RestoreOutcome ImageCounts
+ofReading o = leaving (ofImage (o .answer)) (o .table) (o .list) (o .figures)

@@ -7,6 +7,7 @@ use structs::Answer;
 use structs::ERROR;
 use structs::FiguresRead;
 use structs::FrameRead;
+use structs::ImageCounts;
 use structs::Operating;
 use structs::RequestRead;
 ghost use mathlib.Core.Path.{_≡_};
@@ -15,13 +16,14 @@ ghost use Rattle.packing.specs.Outcomes.{packing, unpacking};
 ghost use Rattle.frames.specs.Messages.{registerOf, releaseOf};
 ghost use Rattle.tables.specs.Figures.{recounted};
 ghost use Rattle.states.specs.States.{beside};
+ghost use Rattle.image.specs.Images.{leaving, writingImage, readingImage};
 ghost use Rattle.rules.specs.Crews.{requesting};
 ghost use Rattle.rules.specs.Frames.{framedRequest};
 ghost use Rattle.rules.specs.Notices as notices;
 ghost use Rattle.structs.specs.Numbers.{ofAnswer, operationOf, erasingOf};
 ghost use Rattle.structs.specs.Figures.{ofFigures};
 ghost use Rattle.structs.specs.Frames.{ofRegister, ofRelease};
-ghost use Rattle.ffn_c.specs.Calls.{returning, ofCall, ofWriter, writingFields, framingFields, readingInto};
+ghost use Rattle.ffn_c.specs.Calls.{returning, ofCall, ofWriter, writingFields, framingFields, readingInto, ofReading};
 
 // Packs the characters into out.
 #[no_mangle]
@@ -227,4 +229,30 @@ pub extern "C" fn ffn_read_release(message: &[u8]) -> FrameRead
     ensures { λ r. ⌜ r ≡ ofRelease (now (message .entry)) (releaseOf (now (message .entry))) ⌝ }
 {
     structs::of_release(message, frames::read_release(message))
+}
+
+// Writes table and list as one image.
+#[no_mangle]
+pub extern "C" fn ffn_write_image(
+    table: &[u64],
+    figures: &[u64],
+    list: &[u64],
+    image: &mut [u8],
+) -> Answer
+    ensures { λ r. ⌜ returning r [] [] (now (image .exit)) ≡ ofWriter (writingImage (beside (now (table .entry)) (now (figures .entry))) (now (list .entry)) (now (image .entry))) ⌝ }
+{
+    structs::of_image_written(image::write_image(table, figures, list, image))
+}
+
+// Reads an image back into lent words.
+#[no_mangle]
+pub extern "C" fn ffn_read_image(
+    image: &[u8],
+    table: &mut [u64],
+    list: &mut [u64],
+    figures: &mut [u64],
+) -> ImageCounts
+    ensures { λ r. ⌜ leaving r (now (table .exit)) (now (list .exit)) (now (figures .exit)) ≡ ofReading (readingImage (now (image .entry)) (now (table .entry)) (now (list .entry)) (now (figures .entry))) ⌝ }
+{
+    structs::of_image_read(image::read_image(image, table, list, figures))
 }

@@ -5,7 +5,7 @@ use mathlib.Core.Bool.{false}
 use mathlib.Core.List.{List}
 use lib.ListN.{length, take}
 use Rattle.rows.specs.Rows.{rowWords}
-use Rattle.tables.specs.Tables.{mostNumbers, subscriberWords, mostSubscribers}
+use Rattle.tables.specs.Tables.{subscriberWords, fullTableWords, fullListWords}
 use Rattle.tables.specs.Figures.{recount}
 use Rattle.states.specs.States.{State}
 use Rattle.rules.specs.Answers.{Outcome}
@@ -37,19 +37,12 @@ programIn s table list = record {
 abbrev pub begunIn : Progress → Progress
 begunIn s = record { numbers = s .numbers; subscribers = s .subscribers; filling = s .filling; delay = s .delay; fresh = false; figures = s .figures }
 
--- the words of the fullest table and list
-abbrev pub tableWords : ℕ
-tableWords = rowWords * mostNumbers
-
-abbrev pub listWords : ℕ
-listWords = subscriberWords * mostSubscribers
-
 -- the rows in use are within the lent words, which have room for the most, and the figures are a recount of the table's rows
 pub record Fits (s : Progress) (table list : List ℕ) : Type 0 where
   pub numbers : rowWords * s .numbers ≤ length table
   pub subscribers : subscriberWords * s .subscribers ≤ length list
-  pub tableRoom : tableWords ≤ length table
-  pub listRoom : listWords ≤ length list
+  pub tableRoom : fullTableWords ≤ length table
+  pub listRoom : fullListWords ≤ length list
   pub figures : s .figures ≡ recount (take (rowWords * s .numbers) table)
 
 -- room for the longest line: the letter, the space, what follows them and the line feed
@@ -93,8 +86,8 @@ mostOutput = outputRoom mostInput
 -- what is lent for an input
 pub record Lent (input table list out : List ℕ) : Type 0 where
   pub short : length input ≤ mostInput
-  pub tableRoom : tableWords ≤ length table
-  pub listRoom : listWords ≤ length list
+  pub tableRoom : fullTableWords ≤ length table
+  pub listRoom : fullListWords ≤ length list
   pub room : outputRoom (length input) ≤ length out
 
 -- how many octets the whole input prints, and what table, list and output then hold

@@ -17,7 +17,7 @@ ghost use Prim.Native.Nat.{ℕ, _+_, _*_, _≤_, _<_};
 ghost use lib.ListN.{length, take, set};
 ghost use Rattle.packing.specs.Packing.{octetsFor};
 ghost use Rattle.rows.specs.Rows.{rowWords};
-ghost use Rattle.tables.specs.Tables.{subscriberWords};
+ghost use Rattle.tables.specs.Tables.{subscriberWords, fullTableWords, fullListWords};
 ghost use Rattle.states.specs.States.{beside};
 ghost use Rattle.rules.specs.Notices as notices;
 ghost use Rattle.forms.specs.Lines.{lineFeed};
@@ -25,7 +25,7 @@ ghost use Rattle.lines.specs.Program.{questioned, lastKey, mayFollow, nu
 ghost use Rattle.forms.specs.Reads.{formIn, startIn};
 ghost use Rattle.answers.specs.Writing.{Stands};
 ghost use Rattle.replies.specs.Replies.{answerRoom};
-ghost use Rattle.lines.specs.Memory.{programIn, tableWords, listWords, Fits, lineRoom, Did, Answered, ending, packedRoom, Lent, ran, running};
+ghost use Rattle.lines.specs.Memory.{programIn, Fits, lineRoom, Did, Answered, ending, packedRoom, Lent, ran, running};
 
 // "It reads at most 64 KiB".
 const MOST_INPUT: usize = 65_536;
@@ -37,11 +37,6 @@ const PACKED_ROOM: usize = MOST_INPUT / 8 * 7;
 const LINE_ROOM: usize = 61;
 
 pub const MOST_OUTPUT: usize = 7 * MOST_INPUT + LINE_ROOM;
-
-// The words of the fullest table and list.
-pub const TABLE_WORDS: usize = ROW_WORDS * MOST_NUMBERS;
-
-pub const LIST_WORDS: usize = SUBSCRIBER_WORDS * MOST_SUBSCRIBERS;
 
 // M-107: document 01's listing goes by this delay.
 const PROGRAM_DELAY: u32 = 60;
@@ -111,7 +106,7 @@ fn question(state: Progress, out: &mut [u8]) -> Done
 
 // `N` number: a row more of the table.
 fn add_number(state: Progress, number: FunctionalNumber, table: &mut [u64], out: &mut [u8]) -> Done
-    requires { ⌜ (rowWords * state .numbers ≤ length (now table)) × (tableWords ≤ length (now table)) ⌝ }
+    requires { ⌜ (rowWords * state .numbers ≤ length (now table)) × (fullTableWords ≤ length (now table)) ⌝ }
     requires { ⌜ lineRoom ≤ length (now out) ⌝ }
     ensures { λ r. ⌜ ((list : List ℕ) → Fits state (now (table .entry)) list → Did (numbered number (programIn state (now (table .entry)) list)) state (now (table .entry)) list (now (out .entry)) r (now (table .exit)) list (now (out .exit))) ⌝ }
 {
@@ -150,7 +145,7 @@ fn add_subscriber(
     list: &mut [u64],
     out: &mut [u8],
 ) -> Done
-    requires { ⌜ (subscriberWords * state .subscribers ≤ length (now list)) × (listWords ≤ length (now list)) ⌝ }
+    requires { ⌜ (subscriberWords * state .subscribers ≤ length (now list)) × (fullListWords ≤ length (now list)) ⌝ }
     requires { ⌜ lineRoom ≤ length (now out) ⌝ }
     ensures { λ r. ⌜ ((table : List ℕ) → Fits state table (now (list .entry)) → Did (subscribed msisdn flags (programIn state table (now (list .entry)))) state table (now (list .entry)) (now (out .entry)) r table (now (list .exit)) (now (out .exit))) ⌝ }
 {

@@ -1,4 +1,5 @@
--- `Numbers`: an answer in document 01's words as the numbers of a C struct, and numbers as fields. `Frames`: the same of messages that are read. `Figures`: the same of a recount.
+-- `Numbers`: an answer in document 01's words as the numbers of a C struct, and numbers as fields. `Frames`: the same of messages that are read. `Figures`: the same of a recount. `Images`: the same of an image that is read.
 pub mod Numbers
 pub mod Frames
 pub mod Figures
+pub mod Images

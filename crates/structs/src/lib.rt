@@ -6,6 +6,8 @@ use frames::Body;
 use frames::RegisterRead;
 use frames::ReleaseRead;
 use frames::VERSION;
+use image::ImageRead;
+use image::ImageWritten;
 use numbers::Msisdn;
 use strings::CODING_SCHEME;
 use strings::Erasing;
@@ -21,10 +23,12 @@ ghost use Rattle.answers.specs.Writing.{said};
 ghost use Rattle.frames.specs.Messages.{registerOf, releaseOf};
 ghost use Rattle.frames.specs.Read.{toldRegister, toldRelease};
 ghost use Rattle.tables.specs.Figures.{saidRecount};
+ghost use Rattle.image.specs.Images.{saidWrite, saidRead};
 ghost use Rattle.visits.specs.Said.{saidRequest, saidSending, saidResult, saidFinding};
 ghost use Rattle.exchange.specs.Said.{saidFramed};
 ghost use Rattle.structs.specs.Numbers.{ofSaid, ofAnswer, ofOperation, ofErasing, ofCrew, codeCount, ofFields, structOf, operationOf, erasingOf};
 ghost use Rattle.structs.specs.Figures.{ofFigures};
+ghost use Rattle.structs.specs.Images.{ofImage};
 ghost use Rattle.structs.specs.Frames.{stringless, stringAt, ofRegister, ofRelease};
 
 // The classes of an answer.
@@ -104,6 +108,15 @@ pub struct FiguresRead {
     pub held: u64,
     pub waiting: u64,
     pub in_flight: u64,
+}
+
+// What an image's reader answers: the class; the number of a refusal; how many rows of the table and of the list it has.
+#[repr(C)]
+pub struct ImageCounts {
+    pub class: u32,
+    pub number: u32,
+    pub numbers: usize,
+    pub subscribers: usize,
 }
 
 // The operation that a number stands for.
@@ -265,6 +278,41 @@ pub fn of_recount(recounted: Recounted) -> FiguresRead
             held: figures.held,
             waiting: figures.waiting,
             in_flight: figures.flying,
+        },
+    }
+}
+
+// An image's size, or a refusal.
+pub fn of_image_written(written: ImageWritten) -> Answer
+    ensures { λ r. ⌜ r ≡ ofSaid (saidWrite written) ⌝ }
+{
+    match written {
+        ImageWritten::Refused(n) => numbered(REFUSAL, n as u32),
+        ImageWritten::Octets(count) => Answer {
+            class: WRITTEN,
+            number: 0,
+            count,
+            value: 0,
+        },
+    }
+}
+
+// The rows that an image had, or a refusal.
+pub fn of_image_read(read: ImageRead) -> ImageCounts
+    ensures { λ r. ⌜ r ≡ ofImage (saidRead read) ⌝ }
+{
+    match read {
+        ImageRead::Refused(n) => ImageCounts {
+            class: REFUSAL,
+            number: n as u32,
+            numbers: 0,
+            subscribers: 0,
+        },
+        ImageRead::Rows(numbers, subscribers) => ImageCounts {
+            class: READ,
+            number: 0,
+            numbers,
+            subscribers,
         },
     }
 }

@@ -139,10 +139,20 @@ module _ (l : List ℕ) (sound : listSound l ≡ true) where
   pub list-ascends : every (ascends (msisdnKey l)) (subscribersIn l) ≡ true
   list-ascends = keys-ascend (msisdnKey l) (subscriberSound l) (subscribersIn l) (list-standing .all)
 
+  pub list-whole : length l % subscriberWords ≡ 0
+  list-whole = list-standing .whole
+
+  pub list-few : subscribersIn l ≤ mostSubscribers
+  list-few = list-standing .few
+
+  pub list-row : (i : ℕ) → i < subscribersIn l → subscriberSound l i ≡ true
+  list-row = tests-hold (msisdnKey l) (subscriberSound l) (subscribersIn l) (list-standing .all)
+
+  pub subscriber-number : (i : ℕ) → i < subscribersIn l → isNumber (msisdnKey l i) ≡ true
+  subscriber-number i h = and-left (isNumber (msisdnKey l i)) (leb (flagsAt l i) mostFlags) (list-row i h)
+
   pub subscriber-flags : (i : ℕ) → i < subscribersIn l → flagsAt l i ≤ mostFlags
-  subscriber-flags i h =
-      leb-true (flagsAt l i) mostFlags
-      (and-right (isNumber (msisdnKey l i)) (leb (flagsAt l i) mostFlags) (tests-hold (msisdnKey l) (subscriberSound l) (subscribersIn l) (list-standing .all) i h))
+  subscriber-flags i h = leb-true (flagsAt l i) mostFlags (and-right (isNumber (msisdnKey l i)) (leb (flagsAt l i) mostFlags) (list-row i h))
 
 pub empty-list : listSound [] ≡ true
 unfolding listSound

@@ -89,3 +89,11 @@ flagsFound l (At i) = flagsAt l i
 
 unfoldable pub flagsOf : List ℕ → ℕ → ℕ
 flagsOf l msisdn = flagsFound l (placeOf (msisdnKey l) msisdn (subscribersIn l))
+
+-- ---- the fullest table and list
+
+abbrev pub fullTableWords : ℕ
+fullTableWords = rowWords * mostNumbers
+
+abbrev pub fullListWords : ℕ
+fullListWords = subscriberWords * mostSubscribers

@@ -51,6 +51,11 @@ pub const SUBSCRIBER_WORDS: usize = 2;
 
 const FLAGS: usize = 1;
 
+// The words of the fullest table and list.
+pub const FULL_TABLE_WORDS: usize = ROW_WORDS * MOST_NUMBERS;
+
+pub const FULL_LIST_WORDS: usize = SUBSCRIBER_WORDS * MOST_SUBSCRIBERS;
+
 // The end by which a word is tested: the one reached where the word lies below it, else that of the numbers as long as the word, which is twice the least of them.
 fn end_for(word: u64, end: u64) -> u64
     ensures { λ r. ⌜ r ≡ endFor end word ⌝ }

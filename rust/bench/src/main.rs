@@ -528,6 +528,62 @@ fn registers() {
     }
 }
 
+/// Full table and list written as one image, and read back from it, beside a bare
+/// copy of its octets.
+fn images() {
+    let (words, people) = (table(1024), list(4096));
+    let counts = figures(&words);
+    let size = ffn::image_size(1024, 4096);
+    let (mut a, mut b, mut copied) = (vec![1u8; size], vec![1u8; size], vec![1u8; size]);
+    oracle::write_image(&words, &counts, &people, &mut b).unwrap();
+    let image = b.clone();
+    println!("\nimages, full table and list, the bare pass a copy of the octets:");
+    let t = best(
+        50,
+        &mut [
+            &mut || {
+                let (words, people) = (black_box(&words), black_box(&people));
+                black_box(c::write_image(words, &counts, people, &mut a));
+            },
+            &mut || {
+                let (words, people) = (black_box(&words), black_box(&people));
+                black_box(oracle::write_image(words, &counts, people, &mut b).ok());
+            },
+            &mut || {
+                copied.copy_from_slice(black_box(&image));
+                black_box(&copied);
+            },
+        ],
+    );
+    assert!(a == image && b == image, "the same image");
+    line(&mut Vec::new(), "writing", 1024, 4096, t);
+
+    let mut left = (vec![1; words.len()], vec![1; people.len()], [1; 3]);
+    let mut right = left.clone();
+    let t = best(
+        50,
+        &mut [
+            &mut || {
+                let (table, list, figures) = &mut left;
+                black_box(c::read_image(black_box(&image), table, list, figures));
+            },
+            &mut || {
+                let (table, list, figures) = &mut right;
+                black_box(oracle::read_image(black_box(&image), table, list, figures).ok());
+            },
+            &mut || {
+                copied.copy_from_slice(black_box(&image));
+                black_box(&copied);
+            },
+        ],
+    );
+    assert!(
+        left == right && left == (words, people, counts),
+        "the same contents"
+    );
+    line(&mut Vec::new(), "reading", 1024, 4096, t);
+}
+
 /// Nanoseconds that one row more costs, between two sizes.
 fn growth(lines: &[Line]) {
     let at = |call, numbers, subscribers| {
@@ -590,6 +646,7 @@ fn main() {
     }
     growth(&lines);
     recount();
+    images();
     crews();
     framed();
     registers();
@@ -598,12 +655,12 @@ fn main() {
         row[2..].copy_from_slice(&[3, addressee, addressee + 1, 77]);
     });
     harder("half of them free, without pattern", |i, row| {
-        if draw(i) % 2 == 0 {
+        if draw(i).is_multiple_of(2) {
             row[1] = 0;
         }
     });
     harder("holders of two lengths, without pattern", |i, row| {
-        if draw(i) % 2 == 0 {
+        if draw(i).is_multiple_of(2) {
             row[1] += 9 * SUBSCRIBERS;
         }
     });

@@ -29,6 +29,7 @@ enum Said {
     IsNumber(bool),
     Register(Result<Message<Invoked>, u8>),
     Release(Result<Message<Released<Place>>, u8>),
+    Rows(Result<(usize, usize), u8>),
 }
 
 /// A call with its memory, and the text that the request reader is lent.
@@ -97,6 +98,7 @@ fn ask_oracle(lent: &mut Lent) -> Said {
         Reply::IsNumber(is_number) => Said::IsNumber(is_number),
         Reply::Register(read) => Said::Register(read),
         Reply::Release(read) => Said::Release(read),
+        Reply::Rows(rows) => Said::Rows(rows),
         Reply::Fields(fields) => Said::Fields(fields.map(|f| {
             let additional = f.additional.as_ref().to_vec();
             let codes = oracle::crew_codes(&additional).map(<[_]>::len);
@@ -183,6 +185,18 @@ fn ask_library(lent: &mut Lent) -> Said {
         }
         Call::ReadRegister { message } => Said::Register(register(c::read_register(message))),
         Call::ReadRelease { message } => Said::Release(release(c::read_release(message))),
+        Call::WriteImage {
+            table,
+            figures,
+            list,
+            image,
+        } => Said::Count(count(c::write_image(table, figures, list, image))),
+        Call::ReadImage {
+            image,
+            table,
+            list,
+            figures,
+        } => Said::Rows(rows(c::read_image(image, table, list, figures))),
     }
 }
 
@@ -370,6 +384,15 @@ fn figures(counted: c::Figures) -> Option<[u64; 3]> {
     }
 }
 
+/// What an image reads as; with a refusal all but its number is 0.
+fn rows(read: c::ImageRead) -> Result<(usize, usize), u8> {
+    match (read.class, read.number, read.numbers, read.subscribers) {
+        (c::READ, 0, numbers, subscribers) => Ok((numbers, subscribers)),
+        (c::REFUSAL, number, 0, 0) => Err(octet(number)),
+        _ => panic!("{read:?}"),
+    }
+}
+
 fn octet(number: u32) -> u8 {
     u8::try_from(number).expect("the papers' numbers are below 256")
 }
@@ -391,6 +414,8 @@ fn kind(call: &Call, said: &Said) -> String {
         Call::WriteRegister { .. } => "write register",
         Call::ReadRegister { .. } => "read register",
         Call::ReadRelease { .. } => "read release",
+        Call::WriteImage { .. } => "write image",
+        Call::ReadImage { .. } => "read image",
     };
     let said = match said {
         Said::Answer(Answer::Refusal(n)) | Said::Count(Err(n)) => format!("refused {n}"),
@@ -408,7 +433,9 @@ fn kind(call: &Call, said: &Said) -> String {
         Said::Fields(Some((fields, None))) => format!("{:?}", fields.operation).to_lowercase(),
         Said::Fields(None) => "error 36".into(),
         Said::IsNumber(is_number) => is_number.to_string(),
-        Said::Register(Err(n)) | Said::Release(Err(n)) => format!("refused {n}"),
+        Said::Register(Err(n)) | Said::Release(Err(n)) | Said::Rows(Err(n)) => {
+            format!("refused {n}")
+        }
         Said::Register(Ok(read)) => match read.content {
             Invoked::Request { .. } => "request".into(),
             Invoked::Problem(problem) => format!("problem {problem}"),
@@ -418,6 +445,7 @@ fn kind(call: &Call, said: &Said) -> String {
             Released::Error(_) => "error".into(),
             Released::Reject(_) => "reject".into(),
         },
+        Said::Rows(Ok(_)) => "read".into(),
     };
     format!("{call}: {said}")
 }
@@ -463,5 +491,15 @@ mod tests {
         );
         expected("read register", "request, problem 1, problem 2, refused 11");
         expected("read release", "result, error, reject, refused 11");
+        expected(
+            "write image",
+            "refused 8, refused 2, refused 10, refused 33",
+        );
+        expected("write image", "written");
+        expected(
+            "read image",
+            "refused 30, refused 31, refused 32, refused 34",
+        );
+        expected("read image", "refused 33, refused 2, refused 8, read");
     }
 }

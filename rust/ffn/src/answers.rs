@@ -67,6 +67,11 @@ reason! {
         Unfit = 9: "the fields break the string's rules, a value is not one that the packer takes, unused bits are not 0, or the transaction identifier is above 15",
         Figures = 10: "the figures differ from a recount of the table",
         Message = 11: "the message is wrong anywhere up to its invoke number, or is no Release Complete of the node",
+        NoTrailer = 30: "the image has under 24 octets",
+        Distance = 31: "the distance is not the image's length less 24",
+        Limit = 32: "a count of rows is over its limit",
+        ImageRoom = 33: "a buffer is too small for the image, or for what it holds",
+        Unfilled = 34: "the rows do not fill the distance",
     }
 }
 

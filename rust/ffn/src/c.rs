@@ -14,7 +14,7 @@ pub const SENT: u32 = 4;
 pub const RESULT: u32 = 5;
 pub const FOUND: u32 = 6;
 pub const NONE_DUE: u32 = 7;
-/// Of [`read_request`], [`read_register`] and [`read_release`].
+/// Of [`read_request`], [`read_register`], [`read_release`] and [`read_image`].
 pub const READ: u32 = 8;
 /// Of frames.
 pub const RETURN_ERROR: u32 = 9;
@@ -83,6 +83,19 @@ pub struct Figures {
     pub in_flight: u64,
 }
 
+/// `struct ffn_image_read`. With a refusal all but its number is 0.
+#[repr(C)]
+#[derive(Clone, Copy, Debug, PartialEq, Eq)]
+pub struct ImageRead {
+    pub class: u32,
+    /// Of a refusal.
+    pub number: u32,
+    /// The rows of the table.
+    pub numbers: usize,
+    /// The rows of the list.
+    pub subscribers: usize,
+}
+
 /// `struct ffn_radio_entry`.
 #[repr(C)]
 #[derive(Clone, Copy, Debug, Default, PartialEq, Eq)]
@@ -125,7 +138,7 @@ pub struct RadioDoing {
 }
 
 mod linked {
-    use super::{Answer, Figures, FrameRead, Radio, RadioDoing, RequestRead};
+    use super::{Answer, Figures, FrameRead, ImageRead, Radio, RadioDoing, RequestRead};
 
     extern "C" {
         pub fn ffn_pack(
@@ -217,6 +230,26 @@ mod linked {
         ) -> Answer;
         pub fn ffn_read_register(message: *const u8, message_length: usize) -> FrameRead;
         pub fn ffn_read_release(message: *const u8, message_length: usize) -> FrameRead;
+        pub fn ffn_write_image(
+            table: *const u64,
+            table_words: usize,
+            figures: *const u64,
+            figure_words: usize,
+            list: *const u64,
+            list_words: usize,
+            image: *mut u8,
+            image_length: usize,
+        ) -> Answer;
+        pub fn ffn_read_image(
+            image: *const u8,
+            image_length: usize,
+            table: *mut u64,
+            table_words: usize,
+            list: *mut u64,
+            list_words: usize,
+            figures: *mut u64,
+            figure_words: usize,
+        ) -> ImageRead;
         pub fn ffn_radio_store(radio: *mut Radio, number: u64) -> RadioDoing;
         pub fn ffn_radio_notice(
             radio: *mut Radio,
@@ -407,6 +440,41 @@ pub fn read_register(message: &[u8]) -> FrameRead {
 
 pub fn read_release(message: &[u8]) -> FrameRead {
     unsafe { linked::ffn_read_release(message.as_ptr(), message.len()) }
+}
+
+pub fn write_image(table: &[u64], figures: &[u64], list: &[u64], image: &mut [u8]) -> Answer {
+    unsafe {
+        linked::ffn_write_image(
+            table.as_ptr(),
+            table.len(),
+            figures.as_ptr(),
+            figures.len(),
+            list.as_ptr(),
+            list.len(),
+            image.as_mut_ptr(),
+            image.len(),
+        )
+    }
+}
+
+pub fn read_image(
+    image: &[u8],
+    table: &mut [u64],
+    list: &mut [u64],
+    figures: &mut [u64],
+) -> ImageRead {
+    unsafe {
+        linked::ffn_read_image(
+            image.as_ptr(),
+            image.len(),
+            table.as_mut_ptr(),
+            table.len(),
+            list.as_mut_ptr(),
+            list.len(),
+            figures.as_mut_ptr(),
+            figures.len(),
+        )
+    }
 }
 
 pub fn radio_store(radio: &mut Radio, number: u64) -> RadioDoing {

@@ -12,6 +12,9 @@
 //! says so; what a call writes stands at the start of the buffer, and
 //! everything beyond its count stays.
 //!
+//! Table and list move to new hardware as one image, whose figures are recounted
+//! where it is read.
+//!
 //! The archives are x86-64 code. Without the feature `archive` the numbers and
 //! answers are there alone, on any processor.
 
@@ -25,6 +28,7 @@ mod crews;
 mod figures;
 #[cfg(feature = "archive")]
 mod frames;
+mod image;
 mod number;
 pub mod radio;
 
@@ -41,4 +45,9 @@ pub use crews::{Codes, Crew, CrewField};
 pub use figures::Figures;
 #[cfg(feature = "archive")]
 pub use frames::{framed_request, read_register, read_release, write_register, FRAME_ROOM};
+pub use image::{
+    image_size, ReadImage, MOST_NUMBERS, MOST_SUBSCRIBERS, NUMBER_WORDS, SUBSCRIBER_WORDS,
+};
+#[cfg(feature = "archive")]
+pub use image::{read_image, write_image};
 pub use number::{FunctionalNumber, Msisdn, NumberError};

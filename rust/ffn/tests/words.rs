@@ -5,7 +5,8 @@ use std::error::Error;
 
 use ffn::radio::{self, Doing, Question};
 use ffn::{
-    Failure, Figures, FunctionalNumber, Msisdn, NumberError, Problem, Refusal, RequestError,
+    image_size, Failure, Figures, FunctionalNumber, Msisdn, NumberError, Problem, Refusal,
+    RequestError, MOST_NUMBERS, MOST_SUBSCRIBERS, NUMBER_WORDS, SUBSCRIBER_WORDS,
 };
 
 #[test]
@@ -92,7 +93,7 @@ fn words_that_are_no_numbers_are_malformed() {
 
 #[test]
 fn every_refusal_has_its_number_and_words() {
-    let said: Vec<String> = (0..=20)
+    let said: Vec<String> = (0..=40)
         .filter_map(Refusal::from_number)
         .map(|refusal| refusal.to_string())
         .collect();
@@ -112,6 +113,11 @@ fn every_refusal_has_its_number_and_words() {
             "refusal 10: the figures differ from a recount of the table",
             "refusal 11: the message is wrong anywhere up to its invoke number, or is no \
              Release Complete of the node",
+            "refusal 30: the image has under 24 octets",
+            "refusal 31: the distance is not the image's length less 24",
+            "refusal 32: a count of rows is over its limit",
+            "refusal 33: a buffer is too small for the image, or for what it holds",
+            "refusal 34: the rows do not fill the distance",
         ]
     );
 }
@@ -191,8 +197,17 @@ fn figures_are_three_words() {
 }
 
 #[test]
+fn an_image_has_a_trailer_and_its_rows() {
+    assert_eq!(image_size(0, 0), 24);
+    assert_eq!(image_size(1, 0), 24 + 8 * NUMBER_WORDS);
+    assert_eq!(image_size(0, 1), 24 + 8 * SUBSCRIBER_WORDS);
+    let full = 8 * (1024 * NUMBER_WORDS + 4096 * SUBSCRIBER_WORDS) + 24;
+    assert_eq!(image_size(MOST_NUMBERS, MOST_SUBSCRIBERS), full);
+}
+
+#[test]
 fn a_failure_speaks_as_its_reason_does() {
-    for refusal in (1..=11).filter_map(Refusal::from_number) {
+    for refusal in (1..=34).filter_map(Refusal::from_number) {
         assert_eq!(Failure::Refused(refusal).to_string(), refusal.to_string());
     }
     for error in [35, 36, 71].map(|n| RequestError::from_number(n).unwrap()) {

@@ -16,6 +16,7 @@ use crate::crew::{crew_codes, member, LEAD};
 use crate::frame::{
     read_register, read_release, write_register, Invoked, Message, Place, Released,
 };
+use crate::image::{read_image, write_image};
 use crate::node::{finding, framed_request, request, result, sending, Answer};
 use crate::number::{digit_count, is_number};
 use crate::packing::{pack, unpack};
@@ -28,6 +29,7 @@ use crate::text::Text;
 
 mod along;
 mod frames;
+mod images;
 pub mod radio;
 
 pub use along::Along;
@@ -270,6 +272,18 @@ pub enum Call {
     ReadRelease {
         message: Vec<u8>,
     },
+    WriteImage {
+        table: Vec<u64>,
+        figures: Vec<u64>,
+        list: Vec<u64>,
+        image: Vec<u8>,
+    },
+    ReadImage {
+        image: Vec<u8>,
+        table: Vec<u64>,
+        list: Vec<u64>,
+        figures: Vec<u64>,
+    },
 }
 
 /// What a call returns.
@@ -279,7 +293,8 @@ pub enum Reply {
     Answer(Answer),
     /// Of a recount.
     Figures(Option<[u64; FIGURES]>),
-    /// Of the packer, the unpacker, or the writer of a request or a Register.
+    /// Of the packer, the unpacker, or the writer of a request, a Register or an
+    /// image.
     Count(Result<usize, u8>),
     /// Of the request reader.
     Fields(Option<Fields<Additional>>),
@@ -288,6 +303,8 @@ pub enum Reply {
     /// Of the readers of frames.
     Register(Result<Message<Invoked>, u8>),
     Release(Result<Message<Released<Place>>, u8>),
+    /// Of the reader of images: the counts of table and list rows.
+    Rows(Result<(usize, usize), u8>),
 }
 
 impl Call {
@@ -345,6 +362,18 @@ impl Call {
             } => Reply::Count(write_register(*transaction, *invoke, fields, frame)),
             Self::ReadRegister { message } => Reply::Register(read_register(message)),
             Self::ReadRelease { message } => Reply::Release(read_release(message)),
+            Self::WriteImage {
+                table,
+                figures,
+                list,
+                image,
+            } => Reply::Count(write_image(table, figures, list, image)),
+            Self::ReadImage {
+                image,
+                table,
+                list,
+                figures,
+            } => Reply::Rows(read_image(image, table, list, figures)),
         }
     }
 }
@@ -1026,6 +1055,15 @@ fn crew_numbers(fields: &Fields<Vec<u8>>) -> Vec<u64> {
 impl Generator {
     /// Any call.
     pub fn call(&mut self) -> Call {
+        match self.random.below(31) {
+            0 => self.writing_image(),
+            1 => self.reading_image(),
+            _ => self.line_call(),
+        }
+    }
+
+    /// Any call that the program `calls` makes: it makes none of images.
+    fn line_call(&mut self) -> Call {
         match self.random.below(29) {
             0..=8 => self.request(),
             9..=11 => self.sending(),
@@ -1499,7 +1537,7 @@ impl Generator {
             self.put_numbered_request(input);
             return 1;
         }
-        let call = self.call();
+        let call = self.line_call();
         let number = match &call {
             Call::Sending { number, .. } | Call::Result { number, .. } => Some(*number),
             _ => None,
@@ -1654,6 +1692,9 @@ impl Generator {
             }
             Call::ReadRegister { message } => [b"registered", &*self.tail(&message)].concat(),
             Call::ReadRelease { message } => [b"released", &*self.tail(&message)].concat(),
+            Call::WriteImage { .. } | Call::ReadImage { .. } => {
+                unreachable!("the program makes no calls of images")
+            }
         };
         self.put_line(input, line, 48);
     }

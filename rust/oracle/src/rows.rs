@@ -1,9 +1,16 @@
 //! The lent table and list: their rows, whether they are sound, and lookup.
 
+use std::borrow::Borrow;
+
 use crate::number::{is_number, Ascent};
 
 /// One number's record.
-pub(crate) type Record = [u64; 6];
+pub(crate) type Record = [u64; RECORD_WORDS];
+pub(crate) const RECORD_WORDS: usize = 6;
+
+/// One subscriber: MSISDN and flags.
+pub(crate) type Subscriber = [u64; SUBSCRIBER_WORDS];
+pub(crate) const SUBSCRIBER_WORDS: usize = 2;
 
 /// The words of a record.
 pub(crate) const NUMBER: usize = 0;
@@ -46,11 +53,14 @@ const LARGEST_FAILURE: [u64; 2 * MAX_SENDINGS + 1] = {
 /// each sound by itself.
 pub fn table_is_sound(table: &[u64]) -> bool {
     let (records, rest) = table.as_chunks();
-    if !rest.is_empty() || records.len() > MAX_RECORDS {
-        return false;
-    }
+    rest.is_empty() && records.len() <= MAX_RECORDS && records_are_sound(records)
+}
+
+/// Whether records ascend strictly, and each is sound by itself.
+pub(crate) fn records_are_sound(records: impl IntoIterator<Item = impl Borrow<Record>>) -> bool {
     let mut ascent = Ascent::new();
     for record in records {
+        let record = record.borrow();
         if !ascent.rises_to(record[NUMBER]) || !record_is_sound(record) {
             return false;
         }
@@ -100,11 +110,16 @@ pub(crate) fn figures_of(records: &[Record]) -> [u64; FIGURES] {
 /// flags 0 to 3.
 pub fn list_is_sound(list: &[u64]) -> bool {
     let (rows, rest) = list.as_chunks();
-    if !rest.is_empty() || rows.len() > MAX_SUBSCRIBERS {
-        return false;
-    }
+    rest.is_empty() && rows.len() <= MAX_SUBSCRIBERS && subscribers_are_sound(rows)
+}
+
+/// Whether subscribers ascend strictly, with flags 0 to 3.
+pub(crate) fn subscribers_are_sound(
+    rows: impl IntoIterator<Item = impl Borrow<Subscriber>>,
+) -> bool {
     let mut ascent = Ascent::new();
-    for &[msisdn, flags] in rows {
+    for row in rows {
+        let &[msisdn, flags] = row.borrow();
         if !ascent.rises_to(msisdn) || flags > 3 {
             return false;
         }
@@ -132,7 +147,7 @@ pub(crate) fn find_record(records: &mut [Record], number: u64) -> Option<&mut Re
 
 /// The flags of `msisdn` in a sound list, none if it is absent.
 pub(crate) fn find_flags(list: &[u64], msisdn: u64) -> u64 {
-    let rows: &[[u64; 2]] = list.as_chunks().0;
+    let rows: &[Subscriber] = list.as_chunks().0;
     match rows.binary_search_by_key(&msisdn, |row| row[0]) {
         Ok(place) => rows[place][1],
         Err(_) => 0,

@@ -8,8 +8,9 @@ use std::collections::BTreeMap;
 use common::{register, release};
 use oracle::generate::{changed_frames, Call, Generator, Reply};
 use oracle::{
-    crew_codes, is_number, read_register, read_release, read_request, recount, request, run,
-    run_calls, table_is_sound, unpack, write_request, Answer, Fields, Invoked, Message, Released,
+    crew_codes, is_number, read_image, read_register, read_release, read_request, recount, request,
+    run, run_calls, table_is_sound, unpack, write_image, write_request, Answer, Fields, Invoked,
+    Message, Released,
 };
 
 const CALLS: usize = 200_000;
@@ -115,12 +116,23 @@ fn label(before: &Call, after: &Call, reply: &Reply) -> String {
             Ok(Released::Error(_)) => "read release: error".into(),
             Ok(Released::Reject(_)) => "read release: reject".into(),
         },
+        (Call::WriteImage { .. }, Reply::Count(count)) => match count {
+            Err(number) => format!("write image: refusal {number}"),
+            Ok(24) => "write image: count, of nothing".into(),
+            Ok(_) => "write image: count".into(),
+        },
+        (Call::ReadImage { .. }, Reply::Rows(rows)) => match rows {
+            Err(number) => format!("read image: refusal {number}"),
+            Ok((0, 0)) => "read image: rows, none".into(),
+            Ok((1024, 4096)) => "read image: rows, full".into(),
+            Ok(_) => "read image: rows".into(),
+        },
         _ => panic!("{reply:?} does not belong to {before:?}"),
     }
 }
 
 /// What each call must come to at least a hundred times.
-const REACHED: [&str; 119] = [
+const REACHED: [&str; 132] = [
     "request: Refusal(1)",
     "request: Refusal(8)",
     "request: Refusal(2)",
@@ -240,6 +252,19 @@ const REACHED: [&str; 119] = [
     "read release: error",
     "read release: reject",
     "read release: refusal 11",
+    "write image: count",
+    "write image: refusal 8",
+    "write image: refusal 2",
+    "write image: refusal 10",
+    "write image: refusal 33",
+    "read image: rows",
+    "read image: refusal 30",
+    "read image: refusal 31",
+    "read image: refusal 32",
+    "read image: refusal 34",
+    "read image: refusal 33",
+    "read image: refusal 2",
+    "read image: refusal 8",
 ];
 
 #[test]
@@ -267,7 +292,8 @@ fn calls_reach_every_answer() {
         let count = counts.get(label).copied().unwrap_or(0);
         assert!(count >= 100, "{label}: {count}");
     }
-    // And nothing else but what reading and the test for a number return.
+    // And nothing else but images of nothing and full ones, and what reading and
+    // the test for a number return.
     let others: Vec<&String> = counts
         .keys()
         .filter(|label| !REACHED.contains(&label.as_str()))
@@ -277,9 +303,12 @@ fn calls_reach_every_answer() {
         [
             "number: false",
             "number: true",
+            "read image: rows, full",
+            "read image: rows, none",
             "read: crew",
             "read: error 36",
-            "read: fields"
+            "read: fields",
+            "write image: count, of nothing"
         ]
     );
 }
@@ -503,6 +532,14 @@ fn check(before: &Call, after: &Call, reply: &Reply) {
                 assert_eq!(release(read.first, read.invoke, content), *message);
             }
         }
+        (Call::WriteImage { .. }, _) => match reply {
+            Reply::Count(Ok(count)) => check_written(before, after, *count),
+            _ => assert_eq!(before, after),
+        },
+        (Call::ReadImage { .. }, _) => match reply {
+            Reply::Rows(Ok(rows)) => check_restored(before, after, *rows),
+            _ => assert_eq!(before, after),
+        },
         (Call::ReadRequest { octets }, _) => {
             if let Reply::Fields(Some(fields)) = reply {
                 let mut out = [0; 160];
@@ -512,6 +549,64 @@ fn check(before: &Call, after: &Call, reply: &Reply) {
         }
         _ => assert_eq!(before, after),
     }
+}
+
+/// A written image reads as what it was written from, and the rest stays.
+fn check_written(before: &Call, after: &Call, count: usize) {
+    let (
+        Call::WriteImage {
+            table,
+            figures,
+            list,
+            image: old,
+        },
+        Call::WriteImage { image: new, .. },
+    ) = (before, after)
+    else {
+        unreachable!("a writing");
+    };
+    check_beyond(old, new, count);
+    let (mut rows, mut people) = (vec![0; table.len()], vec![0; list.len()]);
+    let mut counts = vec![0; 3];
+    let read = read_image(&new[..count], &mut rows, &mut people, &mut counts);
+    assert!(read.is_ok(), "{read:?}");
+    assert_eq!((&rows, &people, &counts), (table, list, figures));
+}
+
+/// An image that reads is the one image of what it reads as, and the rest of each
+/// room stays.
+fn check_restored(before: &Call, after: &Call, (rows, people): (usize, usize)) {
+    let (
+        Call::ReadImage {
+            image,
+            table: old_table,
+            list: old_list,
+            figures: old_figures,
+        },
+        Call::ReadImage {
+            image: same,
+            table,
+            list,
+            figures,
+        },
+    ) = (before, after)
+    else {
+        unreachable!("a reading");
+    };
+    assert_eq!(image, same);
+    let words = image.len() / 8 - 3 - 2 * people;
+    assert_eq!(words % rows.max(1), 0);
+    assert_eq!(table[words..], old_table[words..]);
+    assert_eq!(list[2 * people..], old_list[2 * people..]);
+    assert_eq!(figures[3..], old_figures[3..]);
+    let mut out = vec![0; image.len()];
+    let written = write_image(
+        &table[..words],
+        &figures[..3],
+        &list[..2 * people],
+        &mut out,
+    );
+    assert_eq!((written, &out), (Ok(image.len()), image));
 }
 
 /// The table of a call, and the figures that it is lent beside it.
