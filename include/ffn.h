@@ -17,16 +17,19 @@
  * form: its digits with a 1 put in front, read as a decimal. 0492123401 is
  * 10492123401. 0 means nobody.
  *
- * Table. Six words a number, at most 1,024 numbers, strictly ascending by the
+ * Table. Seven words a number, at most 1,024 numbers, strictly ascending by the
  * first word: functional number; holder, or 0; phase; the notice's addressee;
- * supervisor; second of the last failure.
+ * supervisor; second of the last failure; 0 where the number is open, 1 where it
+ * is closed. A closed number is not registered; all else goes on, and requests,
+ * sendings and results leave the word.
+ *
  * Figures. Three words beside the table: numbers held (with a holder), notices
  * waiting (in an odd phase), notices in flight (in an even phase above 0). A
  * caller recounts them once at the start, by ffn_recount, or has them from the
  * image that she reads; after that she only lends the words with the table. Each
  * request, sending and result that is not refused leaves them equal to a recount
- * of the table. Words that differ from it, or of another length than three, are
- * refused 10.
+ * of the table; closing, compacting and adding change none of them. Words that
+ * differ from it, or of another length than three, are refused 10.
  * List. Two words a subscriber, at most 4,096, strictly ascending: MSISDN;
  * flags 0 to 3 (1 has Follow Me, 2 supervisor).
  *
@@ -44,11 +47,19 @@
  * trailer of three such words: the number of table rows, of list rows, and the
  * distance in octets from the trailer's start back to the first row. Contents
  * have one image, and an image has one reading. That of nothing is 24 zeros, that
- * of 1,024 numbers and 4,096 subscribers has 114,712 octets.
+ * of 1,024 numbers and 4,096 subscribers has 122,904 octets. One that was written
+ * before rows had their seventh word is refused 34, unless it has no numbers.
+ *
+ * Withdrawn numbers. ffn_close closes a number, which keeps its holder and its
+ * notice until they run out. ffn_compact then removes its row, and ffn_add uses
+ * the row again. Both are lent a buffer of words with a table at its front, and
+ * the count of rows in use, and return the count; the buffer need not be whole
+ * rows.
  *
  * Refusals and errors touch no memory; only a framed request that is in error or
  * rejected writes the frame that says so. What a function writes stands at the
- * start of the buffer; everything beyond its count stays as it was.
+ * start of the buffer; everything beyond its count stays as it was, but that
+ * ffn_compact makes the words that it frees 0.
  */
 #ifndef FFN_H
 #define FFN_H
@@ -63,7 +74,7 @@ extern "C" {
 /* The classes of an answer. Refusals, errors and outcomes are numbered apart. */
 enum {
     FFN_WRITTEN = 0,  /* count: the octets or characters that were written */
-    FFN_REFUSAL = 1,  /* number: 1 to 11 or 30 to 34, see below */
+    FFN_REFUSAL = 1,  /* number: 1 to 11, 30 to 34 or 50 to 52, see below */
     FFN_ERROR = 2,    /* number: 35, 36 or 71, the codes of TS 29.002 */
     FFN_OUTCOME = 3,  /* number: the outcome; count: the reply's or the frame's octets; value: of 03 the holder's MSISDN, otherwise 0 */
     FFN_SENT = 4,     /* count: the notice's octets; value: the addressee's MSISDN */
@@ -75,7 +86,10 @@ enum {
     FFN_RETURN_ERROR = 9, /* number: the error's code; count: the frame's octets */
     FFN_REJECT = 10,      /* number: the problem; count: the frame's octets */
     /* Of a recount. */
-    FFN_COUNTED = 11 /* held, waiting, in_flight: the figures */
+    FFN_COUNTED = 11, /* held, waiting, in_flight: the figures */
+    /* Of withdrawn numbers. */
+    FFN_CLOSED = 12, /* the number is closed */
+    FFN_ROWS = 13    /* count: the rows now in use; value: of ffn_compact how many went, otherwise 0 */
 };
 
 /* The problems with which a framed request is rejected. */
@@ -112,12 +126,16 @@ enum {
  * length less 24; 32 a count of rows is over its limit, 1,024 or 4,096; 33 a
  * buffer is too small for the image, or for what it holds; 34 the rows do not
  * fill the distance.
+ * Of withdrawn numbers: 50 the table has 1,024 rows, or the buffer has no room for
+ * one more; 51 the functional number is already in the table; 52 it is not in the
+ * table.
  * Errors: 35 the requester is no MSISDN, or the string has 0 octets; 36 the
  * string does not read; 71 the data coding scheme is not 0x0F.
  * Outcomes: 01 registered, 02 erased, 03 interrogated; 11 a crew's request to
  * register, 12 one to erase, whatever became of its numbers; 22, 41, 42, 61, 62,
  * 63, 67, 68 as in document 01's table (63 not for a plain erasure by the
- * subscriber whose own digits the number has).
+ * subscriber whose own digits the number has); 64 a registration of a closed
+ * number, directly after 67, also by its holder.
  */
 
 /* An answer. A field that its class does not name is 0. */
@@ -218,7 +236,7 @@ struct ffn_request_read ffn_read_request(const uint8_t *octets, size_t octets_le
  * single requests; it leaves table and figures as they do. Its outcome is 11 or 12,
  * also where every number failed, or 42 before any of them. Behind the two
  * digits the reply of 11 and 12 says which succeeded (01 or 02) and which failed
- * (41, 61, 62, 63, 67): a space, the count of successes, a space, their codes
+ * (41, 61, 62, 63, 64, 67): a space, the count of successes, a space, their codes
  * and a space if there are any, the count of failures, and a space and their
  * codes if there are any. The lead's code is 01: "11 2 0102 0". It has at most
  * 28 characters, 25 octets.
@@ -312,11 +330,38 @@ struct ffn_answer ffn_write_image(const uint64_t *table, size_t table_words, con
  * words and the three figures, recounted, stand at the front of table, list and
  * figures. Refused 30, 31, 32, 34, 33 (one of the three has no room), 2, 8, in
  * this order. Counts are compared as they stand, so huge ones are refused and no
- * product wraps. The contents are tested on the stack, which takes some 112 KiB,
+ * product wraps. The contents are tested on the stack, which takes some 120 KiB,
  * before any lent word changes.
  */
 struct ffn_image_read ffn_read_image(const uint8_t *image, size_t image_length, uint64_t *table, size_t table_words,
                                      uint64_t *list, size_t list_words, uint64_t *figures, size_t figure_words);
+
+/*
+ * Closes a number: FFN_CLOSED. It keeps its holder and its notice, and nobody
+ * registers it any more; closing it again changes nothing. Refused 2, 10, 7 (the
+ * number is malformed), 52, in this order.
+ */
+struct ffn_answer ffn_close(uint64_t *table, size_t table_words, const uint64_t *figures, size_t figure_words,
+                            uint64_t functional_number);
+
+/*
+ * Removes the closed rows without holder and notice from the rows in use at the
+ * front of words: FFN_ROWS with the count now in use, and as its value how many
+ * went. The others keep their order; the words that they leave free become 0, and
+ * what lies behind the rows stays. Refused 2 (the rows are more than the words, or
+ * unsound), 10, in this order. Counts are compared as they stand, so huge ones are
+ * refused and no product wraps.
+ */
+struct ffn_answer ffn_compact(uint64_t *words, size_t word_count, size_t rows, const uint64_t *figures, size_t figure_words);
+
+/*
+ * Puts an open number without holder in its place among the rows in use at the
+ * front of words, and moves the rows behind it by one: FFN_ROWS with the count now
+ * in use. What lies behind them stays. Refused 2 and 10 as by ffn_compact, 7 (the
+ * number is malformed), 51 (also where it is closed), 50, in this order.
+ */
+struct ffn_answer ffn_add(uint64_t *words, size_t word_count, size_t rows, const uint64_t *figures, size_t figure_words,
+                          uint64_t functional_number);
 
 #ifdef __cplusplus
 }

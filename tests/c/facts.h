@@ -1,4 +1,4 @@
-/* What the C tests share: facts that are counted, and octets that show whether something wrote there. */
+/* What the C tests share: facts that are counted, a row's width, and octets that show whether something wrote there. */
 #ifndef FACTS_H
 #define FACTS_H
 
@@ -18,6 +18,9 @@
     } while (0)
 
 static int facts;
+
+/* The words of a row of the table. */
+enum { ROW = 7 };
 
 /* What the test itself returns. */
 static inline int all_hold(void)

@@ -36,7 +36,7 @@ static const uint64_t LIST[6] = {14915100001, 1, 14915100002, 3, 14915100003, 0}
 enum { ROOM = 200, MOST_CHARS = 160 };
 
 static uint8_t reply[ROOM];
-static uint64_t table[6], figures[3];
+static uint64_t table[ROW], figures[3];
 
 static int is(struct ffn_answer a, uint32_t class_, uint32_t number, size_t count, uint64_t value)
 {
@@ -51,14 +51,14 @@ static int figures_are(uint64_t held, uint64_t waiting, uint64_t in_flight)
 /* The figures are those of the table. */
 static int counted(void)
 {
-    struct ffn_figures n = ffn_recount(table, 6);
+    struct ffn_figures n = ffn_recount(table, ROW);
     return n.class_ == FFN_COUNTED && n.number == 0 && figures_are(n.held, n.waiting, n.in_flight);
 }
 
 /* The record, and its figures. */
 static int record_is(uint64_t number, uint64_t holder, uint64_t phase, uint64_t addressee, uint64_t supervisor, uint64_t failure)
 {
-    const uint64_t record[6] = {number, holder, phase, addressee, supervisor, failure};
+    const uint64_t record[ROW] = {number, holder, phase, addressee, supervisor, failure, 0};
     return memcmp(table, record, sizeof record) == 0 && counted();
 }
 
@@ -71,7 +71,7 @@ static void set_figures(uint64_t held, uint64_t waiting, uint64_t in_flight)
 
 static void set_record(uint64_t holder, uint64_t phase, uint64_t addressee, uint64_t supervisor, uint64_t failure)
 {
-    const uint64_t record[6] = {F, holder, phase, addressee, supervisor, failure};
+    const uint64_t record[ROW] = {F, holder, phase, addressee, supervisor, failure, 0};
     memcpy(table, record, sizeof record);
     set_figures(holder != 0, phase % 2 == 1, phase != 0 && phase % 2 == 0);
 }
@@ -96,7 +96,7 @@ static struct ffn_answer ask(uint64_t requester, const char *text)
     uint8_t string[ROOM];
     struct ffn_answer packed = pack(text, string, sizeof string);
     fill(reply, sizeof reply);
-    return ffn_request(table, 6, figures, 3, LIST, 6, reply, sizeof reply, requester, 0x0F, string, packed.count);
+    return ffn_request(table, ROW, figures, 3, LIST, 6, reply, sizeof reply, requester, 0x0F, string, packed.count);
 }
 
 static int outcome(struct ffn_answer a, uint32_t number, const char *text)
@@ -214,52 +214,52 @@ static void own_number(void)
 /* A request that is refused or in error, in the order of the checks; it touches nothing. */
 static void request_checks(void)
 {
-    const uint64_t unsound[6] = {4915100001, 0, 0, 0, 0, 0};
-    uint64_t broken[6];
+    const uint64_t unsound[ROW] = {4915100001, 0, 0, 0, 0, 0, 0};
+    uint64_t broken[ROW];
     uint8_t string[160];
     size_t count = pack("**214*0492123401***#", string, sizeof string).count;
     memcpy(broken, unsound, sizeof broken);
     fill(reply, sizeof reply);
-    HOLDS(is(ffn_request(broken, 6, figures, 2, LIST, 5, reply, 79, 1, 0, string, 0), FFN_REFUSAL, 1, 0, 0));
-    HOLDS(is(ffn_request(broken, 6, figures, 2, LIST, 5, reply, 80, 1, 0, string, 0), FFN_REFUSAL, 8, 0, 0));
-    HOLDS(is(ffn_request(broken, 6, figures, 2, LIST, 6, reply, 80, 1, 0, string, 0), FFN_REFUSAL, 2, 0, 0));
+    HOLDS(is(ffn_request(broken, ROW, figures, 2, LIST, 5, reply, 79, 1, 0, string, 0), FFN_REFUSAL, 1, 0, 0));
+    HOLDS(is(ffn_request(broken, ROW, figures, 2, LIST, 5, reply, 80, 1, 0, string, 0), FFN_REFUSAL, 8, 0, 0));
+    HOLDS(is(ffn_request(broken, ROW, figures, 2, LIST, 6, reply, 80, 1, 0, string, 0), FFN_REFUSAL, 2, 0, 0));
     set_record(0, 0, 0, 0, 0);
-    HOLDS(is(ffn_request(table, 6, figures, 2, LIST, 6, reply, 80, 1, 0, string, 0), FFN_REFUSAL, 10, 0, 0));
-    HOLDS(is(ffn_request(table, 6, figures, 3, LIST, 6, reply, 80, 1, 0, string, 0), FFN_ERROR, 35, 0, 0));
-    HOLDS(is(ffn_request(table, 6, figures, 3, LIST, 6, reply, 80, A, 0, string, 0), FFN_ERROR, 71, 0, 0));
-    HOLDS(is(ffn_request(table, 6, figures, 3, LIST, 6, reply, 80, A, 0x0F, string, 0), FFN_ERROR, 35, 0, 0));
-    HOLDS(is(ffn_request(table, 6, figures, 3, LIST, 6, reply, 80, A, 0x0F, string, count - 1), FFN_ERROR, 36, 0, 0));
+    HOLDS(is(ffn_request(table, ROW, figures, 2, LIST, 6, reply, 80, 1, 0, string, 0), FFN_REFUSAL, 10, 0, 0));
+    HOLDS(is(ffn_request(table, ROW, figures, 3, LIST, 6, reply, 80, 1, 0, string, 0), FFN_ERROR, 35, 0, 0));
+    HOLDS(is(ffn_request(table, ROW, figures, 3, LIST, 6, reply, 80, A, 0, string, 0), FFN_ERROR, 71, 0, 0));
+    HOLDS(is(ffn_request(table, ROW, figures, 3, LIST, 6, reply, 80, A, 0x0F, string, 0), FFN_ERROR, 35, 0, 0));
+    HOLDS(is(ffn_request(table, ROW, figures, 3, LIST, 6, reply, 80, A, 0x0F, string, count - 1), FFN_ERROR, 36, 0, 0));
     HOLDS(untouched(reply, 0, ROOM) && record_is(F, 0, 0, 0, 0, 0) && memcmp(broken, unsound, sizeof broken) == 0);
 }
 
 static struct ffn_answer send(uint64_t number, uint32_t delay, uint32_t now)
 {
     fill(reply, sizeof reply);
-    return ffn_sending(table, 6, figures, 3, reply, sizeof reply, number, delay, now);
+    return ffn_sending(table, ROW, figures, 3, reply, sizeof reply, number, delay, now);
 }
 
 static struct ffn_answer take(uint64_t number, uint32_t kind, uint32_t now)
 {
-    return ffn_result(table, 6, figures, 3, number, kind, now);
+    return ffn_result(table, ROW, figures, 3, number, kind, now);
 }
 
 static void notices(void)
 {
     set_record(0, 3, A, B, 4294967290); /* P13 */
-    HOLDS(is(ffn_finding(table, 6, 60, 53), FFN_NONE_DUE, 0, 0, 0));
+    HOLDS(is(ffn_finding(table, ROW, 60, 53), FFN_NONE_DUE, 0, 0, 0));
     HOLDS(is(send(F, 60, 53), FFN_REFUSAL, 5, 0, 0) && untouched(reply, 0, ROOM) && record_is(F, 0, 3, A, B, 4294967290));
-    HOLDS(is(ffn_finding(table, 6, 60, 54), FFN_FOUND, 0, 0, F));
+    HOLDS(is(ffn_finding(table, ROW, 60, 54), FFN_FOUND, 0, 0, F));
     struct ffn_answer sent = send(F, 60, 54);
     HOLDS(is(sent, FFN_SENT, 0, 28, A) && holds(reply, sent.count, "##214*0492123401*88*4915100002*#"));
     HOLDS(record_is(F, 0, 4, A, B, 0));
     HOLDS(is(send(F, 60, 54), FFN_REFUSAL, 4, 0, 0));
     HOLDS(is(send(F, 59, 54), FFN_REFUSAL, 6, 0, 0));
     HOLDS(is(send(F + 1, 59, 54), FFN_REFUSAL, 7, 0, 0));
-    HOLDS(is(ffn_sending(table, 5, figures, 2, reply, 79, F, 60, 54), FFN_REFUSAL, 1, 0, 0));
-    HOLDS(is(ffn_sending(table, 5, figures, 2, reply, 80, F, 60, 54), FFN_REFUSAL, 2, 0, 0));
-    HOLDS(is(ffn_sending(table, 6, figures, 2, reply, 80, F + 1, 59, 54), FFN_REFUSAL, 10, 0, 0));
-    HOLDS(is(ffn_result(table, 5, figures, 2, F + 1, 6, 60), FFN_REFUSAL, 2, 0, 0));
-    HOLDS(is(ffn_result(table, 6, figures, 2, F + 1, 6, 60), FFN_REFUSAL, 10, 0, 0));
+    HOLDS(is(ffn_sending(table, ROW - 1, figures, 2, reply, 79, F, 60, 54), FFN_REFUSAL, 1, 0, 0));
+    HOLDS(is(ffn_sending(table, ROW - 1, figures, 2, reply, 80, F, 60, 54), FFN_REFUSAL, 2, 0, 0));
+    HOLDS(is(ffn_sending(table, ROW, figures, 2, reply, 80, F + 1, 59, 54), FFN_REFUSAL, 10, 0, 0));
+    HOLDS(is(ffn_result(table, ROW - 1, figures, 2, F + 1, 6, 60), FFN_REFUSAL, 2, 0, 0));
+    HOLDS(is(ffn_result(table, ROW, figures, 2, F + 1, 6, 60), FFN_REFUSAL, 10, 0, 0));
     HOLDS(is(take(F + 1, 6, 60), FFN_REFUSAL, 7, 0, 0));
     HOLDS(is(take(F, 6, 60), FFN_REFUSAL, 3, 0, 0));
     HOLDS(is(take(F, 5, 60), FFN_RESULT, FFN_AGAIN, 0, 0) && record_is(F, 0, 5, A, B, 60));
@@ -271,8 +271,8 @@ static void notices(void)
     HOLDS(is(take(F, 5, 77), FFN_RESULT, FFN_DROPPED, 0, 0) && record_is(F, B, 0, 0, 0, 0));
     set_record(B, 2, A, B, 0);
     HOLDS(is(take(F, 0, 77), FFN_RESULT, FFN_DELIVERED, 0, 0) && record_is(F, B, 0, 0, 0, 0));
-    HOLDS(is(ffn_finding(table, 6, 601, 0), FFN_REFUSAL, 6, 0, 0));
-    HOLDS(is(ffn_finding(table, 5, 601, 0), FFN_REFUSAL, 2, 0, 0));
+    HOLDS(is(ffn_finding(table, ROW, 601, 0), FFN_REFUSAL, 6, 0, 0));
+    HOLDS(is(ffn_finding(table, ROW - 1, 601, 0), FFN_REFUSAL, 2, 0, 0));
 }
 
 static void strings(void)
@@ -326,14 +326,14 @@ static int other_figures(uint64_t held, uint64_t waiting, uint64_t in_flight)
 
 static void the_figures(void)
 {
-    uint64_t rows[13 * 6]; /* one of each phase, the first three held */
+    uint64_t rows[13 * ROW]; /* one of each phase, the first three held */
     for (uint64_t i = 0; i < 13; i++) {
-        const uint64_t row[6] = {F + i, i < 3 ? C : 0, i, i == 0 ? 0 : A, i == 0 ? 0 : B, 0};
-        memcpy(rows + 6 * i, row, sizeof row);
+        const uint64_t row[ROW] = {F + i, i < 3 ? C : 0, i, i == 0 ? 0 : A, i == 0 ? 0 : B, 0, 0};
+        memcpy(rows + ROW * i, row, sizeof row);
     }
-    HOLDS(recounts(rows, 0, 0, 0, 0) && recounts(rows, 6, 1, 0, 0) && recounts(rows, 12, 2, 1, 0));
-    HOLDS(recounts(rows, 18, 3, 1, 1) && recounts(rows, 72, 3, 6, 5) && recounts(rows, 78, 3, 6, 6));
-    struct ffn_figures unsound = ffn_recount(rows, 77);
+    HOLDS(recounts(rows, 0, 0, 0, 0) && recounts(rows, ROW, 1, 0, 0) && recounts(rows, 2 * ROW, 2, 1, 0));
+    HOLDS(recounts(rows, 3 * ROW, 3, 1, 1) && recounts(rows, 12 * ROW, 3, 6, 5) && recounts(rows, 13 * ROW, 3, 6, 6));
+    struct ffn_figures unsound = ffn_recount(rows, 13 * ROW - 1);
     HOLDS(unsound.class_ == FFN_REFUSAL && unsound.number == 2);
     HOLDS(unsound.held == 0 && unsound.waiting == 0 && unsound.in_flight == 0);
 
@@ -344,7 +344,7 @@ static void the_figures(void)
     HOLDS(is(send(F, 0, 100), FFN_SENT, 0, 28, A) && figures_are(0, 0, 1));
     HOLDS(is(take(F, 5, 101), FFN_RESULT, FFN_AGAIN, 0, 0) && figures_are(0, 1, 0));
     HOLDS(is(send(F, 0, 400), FFN_REFUSAL, 5, 0, 0) && figures_are(0, 1, 0)); /* 0 means 300 seconds */
-    HOLDS(is(ffn_finding(table, 6, 0, 400), FFN_NONE_DUE, 0, 0, 0) && is(ffn_finding(table, 6, 0, 401), FFN_FOUND, 0, 0, F));
+    HOLDS(is(ffn_finding(table, ROW, 0, 400), FFN_NONE_DUE, 0, 0, 0) && is(ffn_finding(table, ROW, 0, 401), FFN_FOUND, 0, 0, F));
     HOLDS(is(send(F, 0, 401), FFN_SENT, 0, 28, A) && figures_are(0, 0, 1));
     HOLDS(is(take(F, 1, 402), FFN_RESULT, FFN_DROPPED, 0, 0) && figures_are(0, 0, 0));
     HOLDS(outcome(ask(B, "**214*0492123401***#"), 1, "01") && figures_are(1, 0, 0));
@@ -356,20 +356,20 @@ static void the_figures(void)
     uint64_t lent[4];
     memcpy(lent, four, sizeof lent);
     for (size_t words = 0; words <= 4; words++) {
-        struct ffn_answer a = ffn_result(table, 6, lent, words, F, 0, 54);
+        struct ffn_answer a = ffn_result(table, ROW, lent, words, F, 0, 54);
         HOLDS(is(a, FFN_REFUSAL, words == 3 ? 4 : 10, 0, 0) && memcmp(lent, four, sizeof lent) == 0);
     }
 
-    uint64_t ten[60]; /* a crew of ten */
+    uint64_t ten[10 * ROW]; /* a crew of ten */
     for (uint64_t i = 0; i < 10; i++) {
-        const uint64_t row[6] = {F + i, 0, 0, 0, 0, 0};
-        memcpy(ten + 6 * i, row, sizeof row);
+        const uint64_t row[ROW] = {F + i, 0, 0, 0, 0, 0, 0};
+        memcpy(ten + ROW * i, row, sizeof row);
     }
     uint8_t string[ROOM];
     size_t count = pack("**214*0492123401***BULK9 020304050607080910#", string, sizeof string).count;
     set_figures(0, 0, 0);
-    HOLDS(ffn_request(ten, 60, figures, 3, LIST, 6, reply, 80, A, 0x0F, string, count).number == 11);
-    HOLDS(figures_are(10, 0, 0) && recounts(ten, 60, 10, 0, 0));
+    HOLDS(ffn_request(ten, 10 * ROW, figures, 3, LIST, 6, reply, 80, A, 0x0F, string, count).number == 11);
+    HOLDS(figures_are(10, 0, 0) && recounts(ten, 10 * ROW, 10, 0, 0));
 }
 
 /* The request of one additional field, written and read back. */
@@ -422,19 +422,19 @@ static void crews(void)
 /* A request on F, free, and the number behind it, 02, held by `other` or free; only holders may change. */
 static struct ffn_answer ask_crew(uint64_t requester, uint64_t other, const char *text, uint64_t holders[2])
 {
-    const uint64_t before[12] = {F, 0, 0, 0, 0, 0, F + 1, other, 3, A, B, 9};
-    uint64_t rows[12];
+    const uint64_t before[2 * ROW] = {F, 0, 0, 0, 0, 0, 0, F + 1, other, 3, A, B, 9, 0};
+    uint64_t rows[2 * ROW];
     uint8_t string[ROOM];
     struct ffn_answer packed = pack(text, string, sizeof string);
     memcpy(rows, before, sizeof rows);
     fill(reply, sizeof reply);
     set_figures(other != 0, 1, 0);
-    struct ffn_answer answer = ffn_request(rows, 12, figures, 3, LIST, 6, reply, sizeof reply, requester, 0x0F, string, packed.count);
+    struct ffn_answer answer = ffn_request(rows, 2 * ROW, figures, 3, LIST, 6, reply, sizeof reply, requester, 0x0F, string, packed.count);
     holders[0] = rows[1];
-    holders[1] = rows[7];
+    holders[1] = rows[ROW + 1];
     HOLDS(figures_are((uint64_t)(holders[0] != 0) + (holders[1] != 0), 1, 0));
     rows[1] = before[1];
-    rows[7] = before[7];
+    rows[ROW + 1] = before[ROW + 1];
     HOLDS(memcmp(rows, before, sizeof rows) == 0);
     return answer;
 }
@@ -498,7 +498,7 @@ static struct ffn_answer ask_framed(uint64_t requester, size_t place, uint8_t oc
     uint8_t message[40];
     change(message, place, octet);
     fill(reply, sizeof reply);
-    return ffn_framed_request(table, 6, figures, 3, LIST, 6, reply, 120, requester, message, sizeof message);
+    return ffn_framed_request(table, ROW, figures, 3, LIST, 6, reply, 120, requester, message, sizeof message);
 }
 
 /* The frame is this one, but for its first octet and its invoke number, and the rest of the buffer stayed. */
@@ -525,7 +525,7 @@ static void framed_requests(void)
     uint8_t message[120], none[1] = {0};
     struct ffn_answer made = ffn_write_register(0, 1, FFN_INTERROGATE, F, 0, none, 0, message, sizeof message);
     fill(reply, sizeof reply);
-    struct ffn_answer held = ffn_framed_request(table, 6, figures, 3, LIST, 6, reply, sizeof reply, B, message, made.count);
+    struct ffn_answer held = ffn_framed_request(table, ROW, figures, 3, LIST, 6, reply, sizeof reply, B, message, made.count);
     HOLDS(is(held, FFN_OUTCOME, 3, 33, A) && untouched(reply, 33, ROOM));
     uint8_t text[ROOM];
     HOLDS(is(ffn_unpack(reply + 21, 12, text, sizeof text), FFN_WRITTEN, 0, 13, 0) && memcmp(text, "03 4915100001", 13) == 0);
@@ -534,20 +534,20 @@ static void framed_requests(void)
 /* A framed request that is refused, in the order of the checks; it touches nothing. */
 static void framed_checks(void)
 {
-    uint64_t broken[6] = {4915100001, 0, 0, 0, 0, 0};
+    uint64_t broken[ROW] = {4915100001, 0, 0, 0, 0, 0, 0};
     uint8_t wrong[40], rejected[40];
     change(wrong, 1, 0x3B);
     change(rejected, 11, 0x3C);
     fill(reply, sizeof reply);
-    HOLDS(is(ffn_framed_request(broken, 6, figures, 2, LIST, 5, reply, 119, 1, wrong, 40), FFN_REFUSAL, 1, 0, 0));
-    HOLDS(is(ffn_framed_request(broken, 6, figures, 2, LIST, 5, reply, 120, 1, wrong, 40), FFN_REFUSAL, 11, 0, 0));
-    HOLDS(is(ffn_framed_request(broken, 6, figures, 2, LIST, 5, reply, 120, 1, rejected, 40), FFN_REFUSAL, 8, 0, 0));
-    HOLDS(is(ffn_framed_request(broken, 6, figures, 2, LIST, 6, reply, 120, 1, rejected, 40), FFN_REFUSAL, 2, 0, 0));
-    HOLDS(is(ffn_framed_request(broken, 6, figures, 2, LIST, 6, reply, 120, 1, REGISTER, 0), FFN_REFUSAL, 11, 0, 0));
+    HOLDS(is(ffn_framed_request(broken, ROW, figures, 2, LIST, 5, reply, 119, 1, wrong, 40), FFN_REFUSAL, 1, 0, 0));
+    HOLDS(is(ffn_framed_request(broken, ROW, figures, 2, LIST, 5, reply, 120, 1, wrong, 40), FFN_REFUSAL, 11, 0, 0));
+    HOLDS(is(ffn_framed_request(broken, ROW, figures, 2, LIST, 5, reply, 120, 1, rejected, 40), FFN_REFUSAL, 8, 0, 0));
+    HOLDS(is(ffn_framed_request(broken, ROW, figures, 2, LIST, 6, reply, 120, 1, rejected, 40), FFN_REFUSAL, 2, 0, 0));
+    HOLDS(is(ffn_framed_request(broken, ROW, figures, 2, LIST, 6, reply, 120, 1, REGISTER, 0), FFN_REFUSAL, 11, 0, 0));
     set_record(A, 0, 0, 0, 0);
-    HOLDS(is(ffn_framed_request(table, 6, figures, 2, LIST, 6, reply, 120, 1, rejected, 40), FFN_REFUSAL, 10, 0, 0));
+    HOLDS(is(ffn_framed_request(table, ROW, figures, 2, LIST, 6, reply, 120, 1, rejected, 40), FFN_REFUSAL, 10, 0, 0));
     change(rejected, 12, 0x31);
-    HOLDS(is(ffn_framed_request(table, 6, figures, 2, LIST, 6, reply, 120, 1, rejected, 40), FFN_REFUSAL, 10, 0, 0));
+    HOLDS(is(ffn_framed_request(table, ROW, figures, 2, LIST, 6, reply, 120, 1, rejected, 40), FFN_REFUSAL, 10, 0, 0));
     HOLDS(untouched(reply, 0, ROOM) && broken[0] == 4915100001 && record_is(F, A, 0, 0, 0, 0));
 }
 

@@ -11,15 +11,16 @@ _Static_assert(offsetof(struct ffn_image_read, numbers) == 8, "numbers");
 _Static_assert(offsetof(struct ffn_image_read, subscribers) == 16, "subscribers");
 
 /* Words of a row, octets of a word and of the trailer; the arrays have room for one row more than the most, and for something behind. */
-enum { ROW = 6, SUBSCRIBER = 2, FIGURES = 3, WORD = 8, TRAILER = 24, MOST_NUMBERS = 1024, MOST_SUBSCRIBERS = 4096, BEHIND = 5 };
+enum { SUBSCRIBER = 2, FIGURES = 3, WORD = 8, TRAILER = 24, MOST_NUMBERS = 1024, MOST_SUBSCRIBERS = 4096, BEHIND = 5 };
 enum { TABLE_ROOM = ROW * (MOST_NUMBERS + 1) + BEHIND, LIST_ROOM = SUBSCRIBER * (MOST_SUBSCRIBERS + 1) + BEHIND };
 enum { FIGURES_ROOM = FIGURES + BEHIND, IMAGE_ROOM = WORD * (TABLE_ROOM + LIST_ROOM) + TRAILER + BEHIND };
 
 static const uint64_t A = 14915100001, B = 14915100002, F = 10492123401;
 
-/* F, free, and A, who has Follow Me: 10492123401 is 271611909 in base 16, 14915100001 is 379025D61, the distance is 64. */
-static const uint8_t BY_HAND[88] = {
+/* F, open and free, and A, who has Follow Me: 10492123401 is 271611909 in base 16, 14915100001 is 379025D61, the distance is 72. */
+static const uint8_t BY_HAND[96] = {
     0x09, 0x19, 0x61, 0x71, 0x02, 0, 0, 0,
+    0, 0, 0, 0, 0, 0, 0, 0,
     0, 0, 0, 0, 0, 0, 0, 0,
     0, 0, 0, 0, 0, 0, 0, 0,
     0, 0, 0, 0, 0, 0, 0, 0,
@@ -29,7 +30,7 @@ static const uint8_t BY_HAND[88] = {
     1, 0, 0, 0, 0, 0, 0, 0,
     1, 0, 0, 0, 0, 0, 0, 0,
     1, 0, 0, 0, 0, 0, 0, 0,
-    64, 0, 0, 0, 0, 0, 0, 0};
+    72, 0, 0, 0, 0, 0, 0, 0};
 
 /* Contents with their counts of words, their figures, and their image. */
 static uint64_t table[TABLE_ROOM], list[LIST_ROOM], figures[FIGURES_ROOM];
@@ -47,7 +48,7 @@ static void recount(void)
     figures[2] = n.in_flight;
 }
 
-/* Numbers, every second one with a notice, and subscribers. */
+/* Numbers, every second one with a notice, every fifth closed, and subscribers. */
 static void set_contents(size_t numbers, size_t subscribers)
 {
     table_words = ROW * numbers;
@@ -63,6 +64,7 @@ static void set_contents(size_t numbers, size_t subscribers)
             row[4] = B;
             row[5] = row[2] % 2 == 1 && row[2] > 1 ? 4294967295 - i : 0;
         }
+        row[6] = i % 5 == 4; /* closed */
     }
     for (size_t i = 0; i < subscribers; i++) {
         list[SUBSCRIBER * i] = A + 7 * i;
@@ -71,7 +73,7 @@ static void set_contents(size_t numbers, size_t subscribers)
     recount();
 }
 
-/* F, free, and A, who has Follow Me. */
+/* F, open and free, and A, who has Follow Me. */
 static void set_by_hand(void)
 {
     set_contents(1, 1);
@@ -166,16 +168,16 @@ static void nothing(void)
 static void by_hand(void)
 {
     set_by_hand();
-    HOLDS(is(write_into(sizeof BY_HAND), FFN_WRITTEN, 0, 88) && begins_with(image, sizeof image, BY_HAND, 88));
-    HOLDS(is_written(88) && is_written(89) && is_written(IMAGE_ROOM));
-    HOLDS(restored(read_whole(BY_HAND, 88)) && restored(read_into(BY_HAND, 88, ROW, SUBSCRIBER, FIGURES)));
+    HOLDS(is(write_into(sizeof BY_HAND), FFN_WRITTEN, 0, 96) && begins_with(image, sizeof image, BY_HAND, 96));
+    HOLDS(is_written(96) && is_written(97) && is_written(IMAGE_ROOM));
+    HOLDS(restored(read_whole(BY_HAND, 96)) && restored(read_into(BY_HAND, 96, ROW, SUBSCRIBER, FIGURES)));
 }
 
 static void full_contents(void)
 {
     set_contents(MOST_NUMBERS, MOST_SUBSCRIBERS);
     size_t size = WORD * (table_words + list_words) + TRAILER;
-    HOLDS(size == 114712 && is_written(size) && restored(read_whole(image, size)));
+    HOLDS(size == 122904 && is_written(size) && restored(read_whole(image, size)));
     HOLDS(restored(read_into(expected, size, table_words, list_words, FIGURES)));
     HOLDS(not_written(write_into(size - 1), 33));
     HOLDS(refused(read_into(expected, size, table_words - 1, list_words, FIGURES), 33));
@@ -199,25 +201,25 @@ static void writing_checks(void)
     table[1] = 7;
     figures[0] = 1;
     list[1] = 4;
-    HOLDS(not_written(write_into(0), 8) && not_written(write_into(88), 8));
+    HOLDS(not_written(write_into(0), 8) && not_written(write_into(96), 8));
     list[1] = 1;
-    HOLDS(not_written(write_into(0), 2) && not_written(write_into(88), 2));
+    HOLDS(not_written(write_into(0), 2) && not_written(write_into(96), 2));
     table[1] = 0;
-    HOLDS(not_written(write_into(0), 10) && not_written(write_into(88), 10));
+    HOLDS(not_written(write_into(0), 10) && not_written(write_into(96), 10));
     figures[0] = 0;
-    for (size_t length = 0; length < 88; length++)
+    for (size_t length = 0; length < 96; length++)
         HOLDS(not_written(write_into(length), 33));
-    HOLDS(is_written(88));
+    HOLDS(is_written(96));
 
     for (size_t words = 0; words <= 4; words++) { /* figures of another length */
         fill(image, sizeof image);
         figures[3] = 0;
-        struct ffn_answer a = ffn_write_image(table, table_words, figures, words, list, list_words, image, 88);
-        HOLDS(words == FIGURES ? is(a, FFN_WRITTEN, 0, 88) : not_written(a, 10));
+        struct ffn_answer a = ffn_write_image(table, table_words, figures, words, list, list_words, image, 96);
+        HOLDS(words == FIGURES ? is(a, FFN_WRITTEN, 0, 96) : not_written(a, 10));
     }
     for (size_t i = 0; i < FIGURES; i++) { /* and others */
         figures[i] = (uint64_t)1 << 32;
-        HOLDS(not_written(write_into(88), 10));
+        HOLDS(not_written(write_into(96), 10));
         figures[i] = 0;
     }
 
@@ -240,36 +242,36 @@ static void short_images(void)
     uint8_t zeros[TRAILER] = {0};
     for (size_t length = 0; length < TRAILER; length++) {
         HOLDS(refused_before_rooms(zeros, length, 30));
-        HOLDS(refused_before_rooms(BY_HAND, length, 30) && refused_before_rooms(BY_HAND + 88 - length, length, 30));
+        HOLDS(refused_before_rooms(BY_HAND, length, 30) && refused_before_rooms(BY_HAND + 96 - length, length, 30));
     }
-    HOLDS(refused_before_rooms(BY_HAND + 64, TRAILER, 31)); /* the trailer alone */
+    HOLDS(refused_before_rooms(BY_HAND + 72, TRAILER, 31)); /* the trailer alone */
 }
 
 /* The image by hand with this distance. */
-static void other_distance(uint64_t distance, uint8_t octets[88])
+static void other_distance(uint64_t distance, uint8_t octets[96])
 {
-    memcpy(octets, BY_HAND, 88);
-    put_words(octets, 80, &distance, 1);
+    memcpy(octets, BY_HAND, 96);
+    put_words(octets, 88, &distance, 1);
 }
 
 static void distances(void)
 {
-    const uint64_t others[] = {0, 16, 48, 63, 65, 88, 64 + ((uint64_t)1 << 8), 64 + ((uint64_t)1 << 32), 64 + ((uint64_t)1 << 63), UINT64_MAX};
-    uint8_t octets[89];
+    const uint64_t others[] = {0, 16, 56, 71, 73, 96, 72 + ((uint64_t)1 << 8), 72 + ((uint64_t)1 << 32), 72 + ((uint64_t)1 << 63), UINT64_MAX};
+    uint8_t octets[97];
     for (size_t i = 0; i < sizeof others / sizeof *others; i++) {
         other_distance(others[i], octets);
-        HOLDS(refused_before_rooms(octets, 88, 31));
-        memset(octets, 0xFF, 80); /* and counts that are over their limits */
-        HOLDS(refused_before_rooms(octets, 88, 31));
+        HOLDS(refused_before_rooms(octets, 96, 31));
+        memset(octets, 0xFF, 88); /* and counts that are over their limits */
+        HOLDS(refused_before_rooms(octets, 96, 31));
     }
-    for (size_t length = TRAILER; length < 88; length++) /* cut in front */
-        HOLDS(refused_before_rooms(BY_HAND + 88 - length, length, 31));
-    memcpy(octets + 1, BY_HAND, 88); /* an octet in front, and one behind */
+    for (size_t length = TRAILER; length < 96; length++) /* cut in front */
+        HOLDS(refused_before_rooms(BY_HAND + 96 - length, length, 31));
+    memcpy(octets + 1, BY_HAND, 96); /* an octet in front, and one behind */
     octets[0] = 0;
-    HOLDS(refused_before_rooms(octets, 89, 31));
-    memcpy(octets, BY_HAND, 88);
-    octets[88] = 0;
-    HOLDS(refused_before_rooms(octets, 89, 31));
+    HOLDS(refused_before_rooms(octets, 97, 31));
+    memcpy(octets, BY_HAND, 96);
+    octets[96] = 0;
+    HOLDS(refused_before_rooms(octets, 97, 31));
 }
 
 /* Contents with these counts in the trailer are refused before rooms and contents. */
@@ -299,10 +301,10 @@ static void counts(void)
     HOLDS(counts_refused(2, 1, 34) && counts_refused(1, 2, 34) && counts_refused(MOST_NUMBERS, MOST_SUBSCRIBERS, 34));
 
     for (size_t more = 1; more < WORD; more++) { /* parts of a word */
-        const uint64_t trailer[3] = {1, 1, 64 + more};
-        memcpy(image, BY_HAND, 64);
-        memset(image + 64, 0, more);
-        size_t length = put_words(image, 64 + more, trailer, 3);
+        const uint64_t trailer[3] = {1, 1, 72 + more};
+        memcpy(image, BY_HAND, 72);
+        memset(image + 72, 0, more);
+        size_t length = put_words(image, 72 + more, trailer, 3);
         HOLDS(refused_before_rooms(image, length, 34));
     }
     set_contents(SUBSCRIBER, 0); /* other rows fill the same distance */
@@ -319,11 +321,11 @@ static void rooms(void)
         for (size_t l = 0; l <= SUBSCRIBER + 2; l++)
             for (size_t f = 0; f <= FIGURES + 2; f++) {
                 int fits = t >= ROW && l >= SUBSCRIBER && f >= FIGURES;
-                struct ffn_image_read r = read_into(BY_HAND, 88, t, l, f);
+                struct ffn_image_read r = read_into(BY_HAND, 96, t, l, f);
                 HOLDS(fits ? restored(r) : refused(r, 33));
-                memcpy(image, BY_HAND, 88);
+                memcpy(image, BY_HAND, 96);
                 image[8] = 7; /* a holder that is no number: behind the rooms */
-                HOLDS(refused(read_into(image, 88, t, l, f), fits ? 2 : 33));
+                HOLDS(refused(read_into(image, 96, t, l, f), fits ? 2 : 33));
             }
 }
 
@@ -354,6 +356,37 @@ static void unsound_contents(void)
     HOLDS(contents_refused(2));
     table[1] = A;
     HOLDS(contents_refused(8));
+}
+
+/* The seventh word of a row is 0 or 1. */
+static void seventh_words(void)
+{
+    set_contents(3, 1);
+    for (size_t i = 0; i < 3; i++) {
+        uint64_t *closed = table + ROW * i + 6;
+        *closed = 1;
+        size_t size = put_image(expected, 3, 1);
+        HOLDS(is_written(size) && restored(read_whole(image, size)));
+        *closed = 2;
+        HOLDS(contents_refused(2) && not_written(write_into(IMAGE_ROOM), 2));
+        *closed = (uint64_t)1 << 32;
+        HOLDS(contents_refused(2) && not_written(write_into(IMAGE_ROOM), 2));
+        *closed = 0;
+    }
+}
+
+/* Images from before rows had seven words: those with numbers do not fill the distance. */
+static void old_images(void)
+{
+    enum { OLD_ROW = 6 };
+    for (size_t numbers = 0; numbers <= 14; numbers++) {
+        set_contents(numbers, 3);
+        for (size_t i = 0; i < numbers; i++)
+            memmove(table + OLD_ROW * i, table + ROW * i, OLD_ROW * WORD);
+        table_words = OLD_ROW * numbers;
+        size_t length = put_image(image, numbers, 3);
+        HOLDS(numbers > 0 ? refused_before_rooms(image, length, 34) : restored(read_whole(image, length)));
+    }
 }
 
 /* One bit of a small image changed: refused, or the image of other contents. */
@@ -398,6 +431,8 @@ int main(void)
     counts();
     rooms();
     unsound_contents();
+    seventh_words();
+    old_images();
     single_bits();
     return all_hold();
 }

@@ -404,14 +404,15 @@ static void short_buffers(void)
 }
 
 /* The node's table: F and 02 are A's, 03 is free, 04 is C's, 05 is not there; G is C's. */
-static uint64_t table[30], figures[3];
+enum { TABLE = 5 * ROW };
+static uint64_t table[TABLE], figures[3];
 
 static void fill_table(void)
 {
-    const uint64_t rows[30] = {F, A, 0, 0, 0, 0, F + 1, A, 0, 0, 0, 0, F + 2, 0, 0, 0, 0, 0,
-        F + 3, C, 0, 0, 0, 0, G, C, 0, 0, 0, 0};
+    const uint64_t rows[TABLE] = {F, A, 0, 0, 0, 0, 0, F + 1, A, 0, 0, 0, 0, 0, F + 2, 0, 0, 0, 0, 0, 0,
+        F + 3, C, 0, 0, 0, 0, 0, G, C, 0, 0, 0, 0, 0};
     memcpy(table, rows, sizeof rows);
-    struct ffn_figures n = ffn_recount(table, 30);
+    struct ffn_figures n = ffn_recount(table, TABLE);
     figures[0] = n.held;
     figures[1] = n.waiting;
     figures[2] = n.in_flight;
@@ -423,9 +424,9 @@ static struct ffn_radio_doing force_off(const uint64_t list[6])
     uint8_t string[ROOM], buffer[80];
     fill_table();
     size_t count = pack("##214*0492123401*88*4915100001*#", string);
-    struct ffn_answer erased = ffn_request(table, 30, figures, 3, list, 6, buffer, sizeof buffer, B, 0x0F, string, count);
+    struct ffn_answer erased = ffn_request(table, TABLE, figures, 3, list, 6, buffer, sizeof buffer, B, 0x0F, string, count);
     HOLDS(erased.class_ == FFN_OUTCOME && erased.number == 2);
-    struct ffn_answer sent = ffn_sending(table, 30, figures, 3, buffer, sizeof buffer, F, 60, 100);
+    struct ffn_answer sent = ffn_sending(table, TABLE, figures, 3, buffer, sizeof buffer, F, 60, 100);
     HOLDS(sent.class_ == FFN_SENT && sent.value == A);
     lend();
     return ffn_radio_notice(&radio, buffer, sent.count, question, QUESTION_ROOM);
@@ -439,7 +440,7 @@ static int round_with_node(const uint64_t list[6])
     struct ffn_radio_doing d = force_off(list);
     HOLDS(d.refusal == 0 && d.respond == 1);
     for (; d.octets != 0; questions++) {
-        struct ffn_answer a = ffn_request(table, 30, figures, 3, list, 6, answer, sizeof answer, radio.own, 0x0F, question, d.octets);
+        struct ffn_answer a = ffn_request(table, TABLE, figures, 3, list, 6, answer, sizeof answer, radio.own, 0x0F, question, d.octets);
         HOLDS(a.class_ == FFN_OUTCOME);
         lend();
         d = ffn_radio_reply(&radio, d.invoke, answer, a.count, question, QUESTION_ROOM);

@@ -95,13 +95,13 @@ static void ends_with(const uint8_t *frame, size_t count, struct msgb *theirs, c
 /* A framed request by A with one octet changed, or none where the place is 0; F is free. */
 static struct ffn_answer ask(uint8_t invoke, size_t place, uint8_t octet, uint8_t *frame, size_t frame_length)
 {
-    uint64_t table[6] = {F, 0, 0, 0, 0, 0}, figures[3] = {0, 0, 0};
+    uint64_t table[7] = {F, 0, 0, 0, 0, 0, 0}, figures[3] = {0, 0, 0};
     uint8_t message[120], none[1] = {0};
     struct ffn_answer made = ffn_write_register(1, invoke, FFN_REGISTER, F, 0, none, 0, message, sizeof message);
 
     if (place > 0)
         message[place] = octet;
-    return ffn_framed_request(table, 6, figures, 3, LIST, 2, frame, frame_length, A, message, made.count);
+    return ffn_framed_request(table, 7, figures, 3, LIST, 2, frame, frame_length, A, message, made.count);
 }
 
 static void frames(void)

@@ -54,10 +54,12 @@ use tables::Recounted;
 use texts::Fields;
 use texts::OctetsRead;
 ghost use mathlib.Core.Path.{_≡_};
+ghost use Prim.Native.Nat.{_*_};
 ghost use lib.ListN.{length};
+ghost use Rattle.rows.specs.Rows.{rowWords};
 
 // Room for the words of a table and a list, more than either may have.
-const TABLE: usize = 6_600;
+const TABLE: usize = ROW_WORDS * 1_100;
 
 const LIST: usize = 8_400;
 
@@ -107,7 +109,7 @@ struct State {
 }
 
 fn table_words() -> [u64; TABLE]
-    ensures { λ r. ⌜ 6600 ≡ length r ⌝ }
+    ensures { λ r. ⌜ rowWords * 1100 ≡ length r ⌝ }
 {
     [0; TABLE]
 }

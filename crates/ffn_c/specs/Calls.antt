@@ -15,6 +15,7 @@ use Rattle.strings.specs.Outcomes.{requestOf, tell, writerRoom, writingRequest}
 use Rattle.frames.specs.Messages.{frameRoom}
 use Rattle.framers.specs.Written.{writingRegister}
 use Rattle.image.specs.Images.{SaidRead, RestoreOutcome, leaving}
+use Rattle.timetable.specs.Timetable as timetable
 use Rattle.rules.specs.Answers as rules
 use Rattle.structs.specs.declared.Answer.{Answer}
 use Rattle.structs.specs.declared.Operating.{Operating}
@@ -23,6 +24,7 @@ use Rattle.structs.specs.declared.RequestRead.{RequestRead}
 use Rattle.structs.specs.declared.ImageCounts.{ImageCounts}
 use Rattle.structs.specs.Numbers.{ofSaid, ofAnswer, ofTold}
 use Rattle.structs.specs.Images.{ofImage}
+use Rattle.structs.specs.Changes.{ofChange}
 
 -- the struct, the table, the figures and the buffer afterwards; [] for what is not lent
 pub record Returned (S : Type 0) : Type 0 where
@@ -71,3 +73,8 @@ readingInto octets text = readingAs octets text (requestOf octets)
 -- the struct, and table, list and figures afterwards
 abbrev pub ofReading : RestoreOutcome SaidRead → RestoreOutcome ImageCounts
 ofReading o = leaving (ofImage (o .answer)) (o .table) (o .list) (o .figures)
+
+-- ---- closing, compacting and adding
+
+abbrev pub ofTimetable : timetable.Outcome → Returned Answer
+ofTimetable o = returning (ofChange (o .answer)) (o .words) [] []

@@ -17,13 +17,14 @@ ghost use Rattle.frames.specs.Messages.{registerOf, releaseOf};
 ghost use Rattle.tables.specs.Figures.{recounted};
 ghost use Rattle.states.specs.States.{beside};
 ghost use Rattle.image.specs.Images.{leaving, writingImage, readingImage};
+ghost use Rattle.timetable.specs.Timetable.{closingNumber, compacting, adding};
 ghost use Rattle.rules.specs.Crews.{requesting};
 ghost use Rattle.rules.specs.Frames.{framedRequest};
 ghost use Rattle.rules.specs.Notices as notices;
 ghost use Rattle.structs.specs.Numbers.{ofAnswer, operationOf, erasingOf};
 ghost use Rattle.structs.specs.Figures.{ofFigures};
 ghost use Rattle.structs.specs.Frames.{ofRegister, ofRelease};
-ghost use Rattle.ffn_c.specs.Calls.{returning, ofCall, ofWriter, writingFields, framingFields, readingInto, ofReading};
+ghost use Rattle.ffn_c.specs.Calls.{returning, ofCall, ofWriter, writingFields, framingFields, readingInto, ofReading, ofTimetable};
 
 // Packs the characters into out.
 #[no_mangle]
@@ -255,4 +256,28 @@ pub extern "C" fn ffn_read_image(
     ensures { λ r. ⌜ leaving r (now (table .exit)) (now (list .exit)) (now (figures .exit)) ≡ ofReading (readingImage (now (image .entry)) (now (table .entry)) (now (list .entry)) (now (figures .entry))) ⌝ }
 {
     structs::of_image_read(image::read_image(image, table, list, figures))
+}
+
+// Closes a number.
+#[no_mangle]
+pub extern "C" fn ffn_close(table: &mut [u64], figures: &[u64], number: u64) -> Answer
+    ensures { λ r. ⌜ returning r (now (table .exit)) [] [] ≡ ofTimetable (closingNumber (beside (now (table .entry)) (now (figures .entry))) number) ⌝ }
+{
+    structs::of_closed(timetable::close(table, figures, FunctionalNumber(number)))
+}
+
+// Removes the closed rows that have run out.
+#[no_mangle]
+pub extern "C" fn ffn_compact(words: &mut [u64], rows: usize, figures: &[u64]) -> Answer
+    ensures { λ r. ⌜ returning r (now (words .exit)) [] [] ≡ ofTimetable (compacting (now (words .entry)) rows (now (figures .entry))) ⌝ }
+{
+    structs::of_compacted(timetable::compact(words, rows, figures))
+}
+
+// Adds a number.
+#[no_mangle]
+pub extern "C" fn ffn_add(words: &mut [u64], rows: usize, figures: &[u64], number: u64) -> Answer
+    ensures { λ r. ⌜ returning r (now (words .exit)) [] [] ≡ ofTimetable (adding (now (words .entry)) rows (now (figures .entry)) number) ⌝ }
+{
+    structs::of_added(timetable::add(words, rows, figures, FunctionalNumber(number)))
 }

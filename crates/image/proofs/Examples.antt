@@ -27,10 +27,10 @@ pub empty-read : readingImage zeros (7 ∷ []) [] (9 ∷ 9 ∷ 9 ∷ 9 ∷ []) �
 unfolding octetsOf digits wordAt wordsFrom valueOf tableRows listRows distance tableIn listIn isNumber noticeUpTo rowUpTo tableUpTo listSound recount readingImage
 empty-read = refl
 
--- ---- one number, free, and one subscriber with flags 1: a word a line, and the trailer 1, 1, 64
+-- ---- one number, free and open, and one subscriber with flags 1: a word a line, and the trailer 1, 1, 72
 
 abbrev number : List ℕ
-number = 10492123401 ∷ 0 ∷ 0 ∷ 0 ∷ 0 ∷ 0 ∷ []
+number = 10492123401 ∷ 0 ∷ 0 ∷ 0 ∷ 0 ∷ 0 ∷ 0 ∷ []
 
 abbrev subscriber : List ℕ
 subscriber = 14915100001 ∷ 1 ∷ []
@@ -43,11 +43,12 @@ small =
     ∷ 0 ∷ 0 ∷ 0 ∷ 0 ∷ 0 ∷ 0 ∷ 0 ∷ 0
     ∷ 0 ∷ 0 ∷ 0 ∷ 0 ∷ 0 ∷ 0 ∷ 0 ∷ 0
     ∷ 0 ∷ 0 ∷ 0 ∷ 0 ∷ 0 ∷ 0 ∷ 0 ∷ 0
+    ∷ 0 ∷ 0 ∷ 0 ∷ 0 ∷ 0 ∷ 0 ∷ 0 ∷ 0
     ∷ 97 ∷ 93 ∷ 2 ∷ 121 ∷ 3 ∷ 0 ∷ 0 ∷ 0
     ∷ 1 ∷ 0 ∷ 0 ∷ 0 ∷ 0 ∷ 0 ∷ 0 ∷ 0
     ∷ 1 ∷ 0 ∷ 0 ∷ 0 ∷ 0 ∷ 0 ∷ 0 ∷ 0
     ∷ 1 ∷ 0 ∷ 0 ∷ 0 ∷ 0 ∷ 0 ∷ 0 ∷ 0
-    ∷ 64 ∷ 0 ∷ 0 ∷ 0 ∷ 0 ∷ 0 ∷ 0 ∷ 0
+    ∷ 72 ∷ 0 ∷ 0 ∷ 0 ∷ 0 ∷ 0 ∷ 0 ∷ 0
     ∷ []
 
 pub small-image : imageOf number subscriber ≡ small
@@ -102,12 +103,19 @@ unfolding octetsOf digits wordAt wordsFrom valueOf tableRows listRows distance t
 wraps-round = (refl, refl)
 
 -- 34, before 33: two rows said, and one there
-pub not-filled : read (octetsOf (number ++ (2 ∷ 0 ∷ 48 ∷ []))) none none none ≡ refusal 34
+pub not-filled : read (octetsOf (number ++ (2 ∷ 0 ∷ 56 ∷ []))) none none none ≡ refusal 34
 unfolding octetsOf digits wordAt wordsFrom valueOf tableRows listRows distance tableIn listIn isNumber noticeUpTo rowUpTo tableUpTo listSound recount readingImage
 not-filled = refl
 
+-- M-110: "an old one with numbers in it is refused 34"; one without is read, above and here
+pub old-image :
+    (read (octetsOf (10492123401 ∷ 0 ∷ 0 ∷ 0 ∷ 0 ∷ 0 ∷ 1 ∷ 0 ∷ 48 ∷ [])) number none three ≡ refusal 34)
+    × (read (octetsOf (14915100001 ∷ 1 ∷ 0 ∷ 1 ∷ 16 ∷ [])) none subscriber three ≡ counts 0 1)
+unfolding octetsOf digits wordAt wordsFrom valueOf tableRows listRows distance tableIn listIn isNumber noticeUpTo rowUpTo tableUpTo listSound recount readingImage
+old-image = (refl, refl)
+
 -- 33: a word too few of the table, of the list, of the figures; exactly as many are read above
-pub table-short : read small (0 ∷ 0 ∷ 0 ∷ 0 ∷ 0 ∷ []) subscriber three ≡ refusal 33
+pub table-short : read small (0 ∷ 0 ∷ 0 ∷ 0 ∷ 0 ∷ 0 ∷ []) subscriber three ≡ refusal 33
 unfolding octetsOf digits wordAt wordsFrom valueOf tableRows listRows distance tableIn listIn isNumber noticeUpTo rowUpTo tableUpTo listSound recount readingImage
 table-short = refl
 
@@ -121,7 +129,7 @@ figures-short = refl
 
 -- 2 for a number that is none, before 8 for flags 4
 abbrev image : ℕ → ℕ → List ℕ
-image first flags = octetsOf (first ∷ 0 ∷ 0 ∷ 0 ∷ 0 ∷ 0 ∷ 14915100001 ∷ flags ∷ 1 ∷ 1 ∷ 64 ∷ [])
+image first flags = octetsOf (first ∷ 0 ∷ 0 ∷ 0 ∷ 0 ∷ 0 ∷ 0 ∷ 14915100001 ∷ flags ∷ 1 ∷ 1 ∷ 72 ∷ [])
 
 pub unsound : (read (image 1 4) number subscriber three ≡ refusal 2) × (read (image 10492123401 4) number subscriber three ≡ refusal 8) × (read (image 10492123401 3) number subscriber three ≡ counts 1 1)
 unfolding octetsOf digits wordAt wordsFrom valueOf tableRows listRows distance tableIn listIn isNumber noticeUpTo rowUpTo tableUpTo listSound recount readingImage

@@ -43,7 +43,7 @@ list = A ∷ 1 ∷ B ∷ 3 ∷ []
 
 -- A was forced off 0492123401 by B, and holds 0492123402
 abbrev table : State
-table = beside (10492123401 ∷ 0 ∷ 1 ∷ A ∷ B ∷ 0 ∷ 10492123402 ∷ A ∷ 0 ∷ 0 ∷ 0 ∷ 0 ∷ []) (1 ∷ 1 ∷ 0 ∷ [])
+table = beside (10492123401 ∷ 0 ∷ 1 ∷ A ∷ B ∷ 0 ∷ 0 ∷ 10492123402 ∷ A ∷ 0 ∷ 0 ∷ 0 ∷ 0 ∷ 0 ∷ []) (1 ∷ 1 ∷ 0 ∷ [])
 
 -- A's radio: three numbers of that root, one marked, and one of another root, marked; its next question is the 255th
 abbrev radio : Radio

@@ -33,7 +33,7 @@ same m n = eqb (m .0) (n .0)
 
 -- the record, held by m
 abbrev pub heldBy : Msisdn → Record → Record
-heldBy m r = record { holder = m; notice = r .notice; addressee = r .addressee; supervisor = r .supervisor }
+heldBy m r = record { holder = m; notice = r .notice; addressee = r .addressee; supervisor = r .supervisor; closed = r .closed }
 
 -- ---- notices
 
@@ -64,15 +64,15 @@ sendingsDone (InFlight k) = k
 
 -- the record with another notice to the same addressee, from the same supervisor
 abbrev pub withNotice : Notice → Record → Record
-withNotice n r = record { holder = r .holder; notice = n; addressee = r .addressee; supervisor = r .supervisor }
+withNotice n r = record { holder = r .holder; notice = n; addressee = r .addressee; supervisor = r .supervisor; closed = r .closed }
 
 -- the record with its notice cleared
 abbrev pub cleared : Record → Record
-cleared r = record { holder = r .holder; notice = Absent; addressee = nobody; supervisor = nobody }
+cleared r = record { holder = r .holder; notice = Absent; addressee = nobody; supervisor = nobody; closed = r .closed }
 
 -- the holder forced off by a supervisor, with a notice to her: "the phase becomes 1 with addressee and supervisor set"
 abbrev pub forcedOff : Msisdn → Record → Record
-forcedOff supervisor r = record { holder = nobody; notice = Waiting 0 0; addressee = r .holder; supervisor = supervisor }
+forcedOff supervisor r = record { holder = nobody; notice = Waiting 0 0; addressee = r .holder; supervisor = supervisor; closed = r .closed }
 
 -- ---- requests
 
@@ -84,12 +84,13 @@ isOwn number requester = eqb (number .0) (requester .0)
 abbrev pub mayErase : FunctionalNumber → Msisdn → Msisdn → Bool
 mayErase number requester holder = same holder requester || isOwn number requester
 
--- 67: "registration where number and requester have the same digits"; 61: "registration, another holder".
+-- 67: "registration where number and requester have the same digits"; M-110: 64 "for registering a closed number, another holder or not, directly after 67"; 61: "registration, another holder".
 -- "registration answers 01 and the requester holds the number"
 unfoldable pub registered : FunctionalNumber → Msisdn → Record → Step
 registered number requester r =
     decide
     ((isOwn number requester, step.Stays 67)
+    ∷ (r .closed, step.Stays 64)
     ∷ (not (isNobody (r .holder)) && not (same (r .holder) requester), step.Stays 61)
     ∷ [])
     (step.Becomes (heldBy requester r))
@@ -143,7 +144,7 @@ isDue delay clock Absent = false
 isDue delay clock (Waiting k s) = eqb k 0 || leb (delayOf delay) (elapsed clock s)
 isDue delay clock (InFlight k) = false
 
--- one more sending done: "the phase grows by 1, the last word becomes 0"
+-- one more sending done: "the phase grows by 1, the last word becomes 0": word six, before M-110 the last
 abbrev pub launched : Notice → Notice
 launched Absent = Absent
 launched (Waiting k s) = InFlight (k + 1)
@@ -175,3 +176,17 @@ resulted kind clock r =
     ∷ (leb mostSendings (sendingsDone (r .notice)), Dropped (cleared r))
     ∷ [])
     (Again (withNotice (Waiting (sendingsDone (r .notice)) clock) r))
+
+-- ---- withdrawing a number, M-110
+
+-- "Closing a number keeps its holder, forbids new registration, and lets erasure and notices run out"
+abbrev pub closing : Record → Record
+closing r = record { holder = r .holder; notice = r .notice; addressee = r .addressee; supervisor = r .supervisor; closed = true }
+
+-- "Adding puts an open number without holder"
+abbrev pub freeRecord : Record
+freeRecord = record { holder = nobody; notice = Absent; addressee = nobody; supervisor = nobody; closed = false }
+
+-- "Compacting removes closed rows with no holder and no notice"
+unfoldable pub hasRunOut : Record → Bool
+hasRunOut r = r .closed && (isNobody (r .holder) && isAbsent (r .notice))

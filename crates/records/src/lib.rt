@@ -3,7 +3,7 @@ use numbers::FunctionalNumber;
 use numbers::Msisdn;
 ghost use mathlib.Core.Path.{_≡_};
 ghost use Prim.Native.Nat.{_≤_};
-ghost use Rattle.records.specs.Steps.{mostSendings, sendingsDone, registered, erased, forced, interrogated, sent, resulted, heldBy, forcedOff, cleared, withNotice, elapsed as elapsedOf, delayOf, delayAllowed, isDue};
+ghost use Rattle.records.specs.Steps.{mostSendings, sendingsDone, registered, erased, forced, interrogated, sent, resulted, heldBy, forcedOff, cleared, withNotice, closing, elapsed as elapsedOf, delayOf, delayAllowed, isDue};
 
 // "a notice is absent, waiting or in flight": with the sendings done, and the second of the last failure.
 pub enum Notice {
@@ -12,12 +12,13 @@ pub enum Notice {
     InFlight(u8),
 }
 
-// The record of one functional number; holder, addressee and supervisor 0 are nobody.
+// The record of one functional number; holder, addressee and supervisor 0 are nobody. M-110: a closed number is not registered any more.
 pub struct Record {
     pub holder: Msisdn,
     pub notice: Notice,
     pub addressee: Msisdn,
     pub supervisor: Msisdn,
+    pub closed: bool,
 }
 
 // What a request makes of a record: it stays, by the paper's number of the outcome, or becomes the next record.
@@ -108,6 +109,7 @@ impl Record {
             notice,
             addressee,
             supervisor,
+            closed: self.closed,
         }
     }
 
@@ -123,6 +125,7 @@ impl Record {
             notice,
             addressee,
             supervisor,
+            closed: self.closed,
         }
     }
 
@@ -137,6 +140,7 @@ impl Record {
             notice: Notice::Absent,
             addressee: nobody,
             supervisor: nobody,
+            closed: self.closed,
         }
     }
 
@@ -152,6 +156,7 @@ impl Record {
             notice,
             addressee,
             supervisor,
+            closed: self.closed,
         }
     }
 
@@ -163,6 +168,9 @@ impl Record {
         let requester_word = requester.0;
         if number_word == requester_word {
             return Step::Stays(67);
+        }
+        if self.closed {
+            return Step::Stays(64);
         }
         if (holder_word != 0) & (holder_word != requester_word) {
             return Step::Stays(61);
@@ -258,5 +266,22 @@ impl Record {
             return Resulted::Dropped(ended);
         }
         Resulted::Again(self.with_notice(Notice::Waiting(sendings, clock)))
+    }
+
+    // The number is closed; holder and notice stay.
+    pub fn close(self) -> Record
+        ensures { λ r. ⌜ r ≡ closing self ⌝ }
+    {
+        let holder = self.holder;
+        let notice = self.notice;
+        let addressee = self.addressee;
+        let supervisor = self.supervisor;
+        Record {
+            holder,
+            notice,
+            addressee,
+            supervisor,
+            closed: true,
+        }
     }
 }

@@ -12,7 +12,7 @@ use borrow.Author.Tests.{eqb-true}
 use Rattle.answers.proofs.Tests.{or-cases, less-or-not}
 use Rattle.numbers.specs.Numbers.{isNumber}
 use Rattle.numbers.proofs.Lengths.{number-below}
-use Rattle.rows.specs.Rows.{rowWords, word, numberAt, holderAt, phaseAt, addresseeAt, supervisorAt, secondAt, lastPhase, holderSound, noticeSound, rowSound}
+use Rattle.rows.specs.Rows.{rowWords, word, numberAt, holderAt, phaseAt, addresseeAt, supervisorAt, secondAt, closedAt, closedSound, lastPhase, holderSound, noticeSound, rowSound}
 use Rattle.rows.proofs.Notices.{pending, absent-words, notice-bounds}
 use Rattle.rows.proofs.Rows.{sound-row}
 
@@ -29,6 +29,9 @@ notice-fits phase addressee supervisor second e =
     (λ h. let z : phase ≡ 0 = omega arith in let w = absent-words addressee supervisor second (rw z at e) in (omega (arith, w .0), omega (arith, w .1)))
     (less-or-not 0 phase)
 
+closed-fits : (w : ℕ) → closedSound w ≡ true → w < 2 ^ 64
+closed-fits w h = ⊎-elim (λ z. omega (arith, eqb-true w 0 z)) (λ o. omega (arith, eqb-true w 1 o)) (or-cases (eqb w 0) (eqb w 1) h)
+
 module _ (t : List ℕ) (i : ℕ) (e : rowSound t i ≡ true) where
   notice-words : (addresseeAt t i < 2 ^ 64) × (supervisorAt t i < 2 ^ 64)
   notice-words = notice-fits (phaseAt t i) (addresseeAt t i) (supervisorAt t i) (secondAt t i) (sound-row t i e .notice)
@@ -43,4 +46,5 @@ module _ (t : List ℕ) (i : ℕ) (e : rowSound t i ≡ true) where
   row-fits (suc (suc (suc zero))) l = notice-words .0
   row-fits (suc (suc (suc (suc zero)))) l = notice-words .1
   row-fits (suc (suc (suc (suc (suc zero))))) l = omega (arith, phase-and-second .1)
-  row-fits (suc (suc (suc (suc (suc (suc place)))))) l = absurd (omega arith)
+  row-fits (suc (suc (suc (suc (suc (suc zero)))))) l = closed-fits (closedAt t i) (sound-row t i e .closed)
+  row-fits (suc (suc (suc (suc (suc (suc (suc place))))))) l = absurd (omega arith)

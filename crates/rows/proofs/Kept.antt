@@ -83,8 +83,8 @@ module _ (r : Record) (s : recordSound r ≡ true) where
   unfolding registered
   registered-sound number requester n =
       decide-each SoundStep
-      ((isOwn number requester, Stays 67) ∷ (not (isNobody (r .holder)) && not (same (r .holder) requester), Stays 61) ∷ [])
-      (Becomes (heldBy requester r)) (tt, (tt, tt)) (held-sound requester (or-right (eqb (requester .0) 0) (isNumber (requester .0)) n))
+      ((isOwn number requester, Stays 67) ∷ (r .closed, Stays 64) ∷ (not (isNobody (r .holder)) && not (same (r .holder) requester), Stays 61) ∷ [])
+      (Becomes (heldBy requester r)) (tt, (tt, (tt, tt))) (held-sound requester (or-right (eqb (requester .0) 0) (isNumber (requester .0)) n))
 
   pub erased-sound : (number : FunctionalNumber) (requester : Msisdn) → SoundStep (erased number requester r)
   unfolding erased

@@ -6,10 +6,11 @@ use Prim.Native.Nat.{ℕ, _+_, _*_, _/_, _%_, _^_, _≤_, _<_}
 use native.Mathlib.Omega.{arith}
 use lib.Dec.{eqb, ltb, leb}
 use borrow.Author.Tests.{eq-eqb, ne-eqb, eqb-true, eqb-false, leb-true, le-leb, ltb-true, lt-ltb}
-use Rattle.answers.proofs.Tests.{and-left, and-right, and-three, or-cases, less-or-not}
+use Rattle.answers.proofs.Tests.{no-path, and-left, and-right, and-three, or-cases, less-or-not}
 use Rattle.numbers.specs.Numbers.{isNumber}
 use Rattle.records.specs.declared.Notice.{Notice}
 use Rattle.records.specs.declared.Notice.the-variants.{Absent, Waiting, InFlight}
+use Rattle.records.specs.Steps.{isAbsent, isWaiting, isInFlight}
 use Rattle.rows.specs.Rows.{lastPhase, failedOnce, noticeUpTo, noticeSound, noticeOf, phaseOf, secondOf, sentOnce}
 
 -- ---- what the words of a notice say
@@ -114,3 +115,9 @@ notice-back (Waiting k s) e =
 notice-back (InFlight k) e =
     let h = leb-true 1 k e in
     simp (ne-eqb (2 * k) 0 (λ q. omega arith), ne-eqb ((2 * k) % 2) 1 (λ q. omega arith)) (ap InFlight (omega arith))
+
+-- no notice neither waits nor is in flight
+pub absent-still : (n : Notice) → isAbsent n ≡ true → (isWaiting n ≡ false) × (isInFlight n ≡ false)
+absent-still Absent a = (refl, refl)
+absent-still (Waiting k s) a = no-path a
+absent-still (InFlight k) a = no-path a

@@ -1,16 +1,18 @@
 -- A row and its record: each is known by the other, and a stored record leaves all else in the table. Assumes nothing.
 use mathlib.Core.Path.{_≡_, refl, sym, ap, _∙_}
 use mathlib.Core.Logic.{inl, inr, ⊎-elim}
-use mathlib.Core.Bool.{true}
+use mathlib.Core.Bool.{Bool, true, false, _&&_}
 use mathlib.Core.List.{List}
 use Prim.Native.Nat.{ℕ, zero, suc, _+_, _*_, _/_, _≤_, _<_}
 use native.Mathlib.Omega.{arith}
 use lib.ListN.{length, getD, set}
+use lib.Dec.{eqb}
+use borrow.Author.Tests.{eqb-true}
 use lib.Seq.{length-sets}
-use Rattle.answers.proofs.Tests.{and-three, less-or-not}
+use Rattle.answers.proofs.Tests.{and-left, and-right, and-three, or-cases, less-or-not}
 use Rattle.numbers.specs.Numbers.{isNumber}
 use Rattle.records.specs.declared.Record.{Record}
-use Rattle.rows.specs.Rows.{rowWords, word, numberAt, holderAt, phaseAt, addresseeAt, supervisorAt, secondAt, holderSound, noticeSound, rowUpTo, rowSound, phaseOf, secondOf, recordAt, wordsOf, stored, sentOnce, recordSound}
+use Rattle.rows.specs.Rows.{rowWords, word, numberAt, holderAt, phaseAt, addresseeAt, supervisorAt, secondAt, closedAt, closedSound, one, holderSound, noticeSound, rowUpTo, rowSound, phaseOf, secondOf, recordAt, wordsOf, stored, sentOnce, recordSound}
 use Rattle.rows.proofs.Notices.{phase-back, second-back, once-back, notice-back}
 use Rattle.rows.proofs.Stores.{sets-other, sets-at, sets-same}
 
@@ -20,12 +22,14 @@ pub record SoundRow (t : List ℕ) (i : ℕ) : Type 0 where
   pub number : isNumber (numberAt t i) ≡ true
   pub holder : holderSound (holderAt t i) ≡ true
   pub notice : noticeSound (phaseAt t i) (addresseeAt t i) (supervisorAt t i) (secondAt t i) ≡ true
+  pub closed : closedSound (closedAt t i) ≡ true
 
 pub sound-row : (t : List ℕ) (i : ℕ) → rowSound t i ≡ true → SoundRow t i
 unfolding rowUpTo
 sound-row t i e =
-    let w = and-three (isNumber (numberAt t i)) (holderSound (holderAt t i)) (noticeSound (phaseAt t i) (addresseeAt t i) (supervisorAt t i) (secondAt t i)) e in
-    record { number = w .0; holder = w .1; notice = w .2 }
+    let notice = noticeSound (phaseAt t i) (addresseeAt t i) (supervisorAt t i) (secondAt t i) in
+    let w = and-three (isNumber (numberAt t i)) (holderSound (holderAt t i)) (notice && closedSound (closedAt t i)) e in
+    record { number = w .0; holder = w .1; notice = and-left notice (closedSound (closedAt t i)) (w .2); closed = and-right notice (closedSound (closedAt t i)) (w .2) }
 
 pub record SoundRecord (r : Record) : Type 0 where
   pub holder : holderSound (r .holder .0) ≡ true
@@ -59,30 +63,44 @@ module _ (t : List ℕ) (i : ℕ) (u : List ℕ) (j : ℕ) (same : SameWords t i
   pub same-record : recordAt t i ≡ recordAt u j
   unfolding recordAt
   same-record =
-      simp (same 1 (omega arith) (omega arith), same 2 (omega arith) (omega arith), same 3 (omega arith) (omega arith), same 4 (omega arith) (omega arith), same 5 (omega arith) (omega arith))
+      simp (same 1 (omega arith) (omega arith), same 2 (omega arith) (omega arith), same 3 (omega arith) (omega arith), same 4 (omega arith) (omega arith), same 5 (omega arith) (omega arith), same 6 (omega arith) (omega arith))
 
   pub same-row : numberAt t i ≡ numberAt u j → rowSound t i ≡ rowSound u j
   unfolding rowUpTo
   same-row e =
-      simp (e, same 1 (omega arith) (omega arith), same 2 (omega arith) (omega arith), same 3 (omega arith) (omega arith), same 4 (omega arith) (omega arith), same 5 (omega arith) (omega arith))
+      simp (e, same 1 (omega arith) (omega arith), same 2 (omega arith) (omega arith), same 3 (omega arith) (omega arith), same 4 (omega arith) (omega arith), same 5 (omega arith) (omega arith), same 6 (omega arith) (omega arith))
+
+-- ---- the seventh word
+
+closed-word : (w : ℕ) → closedSound w ≡ true → one (eqb w 1) ≡ w
+closed-word w s = ⊎-elim (λ z. rw (eqb-true w 0 z) refl) (λ z. rw (eqb-true w 1 z) refl) (or-cases (eqb w 0) (eqb w 1) s)
+
+closed-back : (b : Bool) → eqb (one b) 1 ≡ b
+closed-back true = refl
+closed-back false = refl
+
+closed-sound : (b : Bool) → closedSound (one b) ≡ true
+closed-sound true = refl
+closed-sound false = refl
 
 -- ---- the words of a sound row are those of its record
 
-words-back : (t : List ℕ) (i : ℕ) → rowSound t i ≡ true → (k : ℕ) → k < 5 → getD (wordsOf (recordAt t i)) k 0 ≡ getD t (rowWords * i + 1 + k) 0
+words-back : (t : List ℕ) (i : ℕ) → rowSound t i ≡ true → (k : ℕ) → k < 6 → getD (wordsOf (recordAt t i)) k 0 ≡ getD t (rowWords * i + 1 + k) 0
 unfolding recordAt
 words-back t i e k l = go k l
   where
     at : (place k : ℕ) → place ≡ 1 + k → word t i place ≡ getD t (rowWords * i + 1 + k) 0
     at place k q = ap (λ (j : ℕ). getD t j 0) (omega arith)
 
-    go : (k : ℕ) → k < 5 → getD (wordsOf (recordAt t i)) k 0 ≡ getD t (rowWords * i + 1 + k) 0
+    go : (k : ℕ) → k < 6 → getD (wordsOf (recordAt t i)) k 0 ≡ getD t (rowWords * i + 1 + k) 0
     go zero l = at 1 0 refl
     go (suc zero) l = phase-back (phaseAt t i) (secondAt t i) ∙ at 2 1 refl
     go (suc (suc zero)) l = at 3 2 refl
     go (suc (suc (suc zero))) l = at 4 3 refl
     go (suc (suc (suc (suc zero)))) l =
         second-back (phaseAt t i) (addresseeAt t i) (supervisorAt t i) (secondAt t i) (sound-row t i e .notice) ∙ at 5 4 refl
-    go (suc (suc (suc (suc (suc k))))) l = absurd (omega arith)
+    go (suc (suc (suc (suc (suc zero))))) l = closed-word (closedAt t i) (sound-row t i e .closed) ∙ at 6 5 refl
+    go (suc (suc (suc (suc (suc (suc k)))))) l = absurd (omega arith)
 
 -- encoding what was decoded gives the words
 pub words-stored : (t : List ℕ) (i : ℕ) → rowSound t i ≡ true → stored t i (recordAt t i) ≡ t
@@ -100,16 +118,17 @@ same-words t i u j st su e (suc k) l m = at t i ∙ sym (words-back t i st k (om
 -- ---- a stored record
 
 -- word by word, as straight-line code stores it
-pub five-stores : (t : List ℕ) (i : ℕ) (r : Record) (phase second : ℕ) → phase ≡ phaseOf (r .notice) → second ≡ secondOf (r .notice)
-    → set (set (set (set (set t (rowWords * i + 1) (r .holder .0)) (rowWords * i + 2) phase) (rowWords * i + 3) (r .addressee .0)) (rowWords * i + 4) (r .supervisor .0)) (rowWords * i + 5) second
+pub six-stores : (t : List ℕ) (i : ℕ) (r : Record) (phase second closed : ℕ) → phase ≡ phaseOf (r .notice) → second ≡ secondOf (r .notice) → closed ≡ one (r .closed)
+    → set (set (set (set (set (set t (rowWords * i + 1) (r .holder .0)) (rowWords * i + 2) phase) (rowWords * i + 3) (r .addressee .0)) (rowWords * i + 4) (r .supervisor .0)) (rowWords * i + 5) second) (rowWords * i + 6) closed
     ≡ stored t i r
 unfolding stored
-five-stores t i r phase second p s =
+six-stores t i r phase second closed p s c =
     let two : rowWords * i + 2 ≡ suc (rowWords * i + 1) = omega arith in
     let three : rowWords * i + 3 ≡ suc (suc (rowWords * i + 1)) = omega arith in
     let four : rowWords * i + 4 ≡ suc (suc (suc (rowWords * i + 1))) = omega arith in
     let five : rowWords * i + 5 ≡ suc (suc (suc (suc (rowWords * i + 1)))) = omega arith in
-    rw (two, three, four, five, p, s)
+    let six : rowWords * i + 6 ≡ suc (suc (suc (suc (suc (rowWords * i + 1))))) = omega arith in
+    rw (two, three, four, five, six, p, s, c)
 
 module _ (t : List ℕ) (i : ℕ) (r : Record) where
   pub stored-length : length (stored t i r) ≡ length t
@@ -133,7 +152,7 @@ module _ (t : List ℕ) (i : ℕ) (r : Record) where
   row-other j n = same-row (stored t i r) j t j (stored-words j n) (stored-number j)
 
 module _ (t : List ℕ) (i : ℕ) (r : Record) (within : i < length t / rowWords) where
-  stored-own : (place k : ℕ) → place ≡ 1 + k → k < 5 → word (stored t i r) i place ≡ getD (wordsOf r) k 0
+  stored-own : (place k : ℕ) → place ≡ 1 + k → k < 6 → word (stored t i r) i place ≡ getD (wordsOf r) k 0
   unfolding stored
   stored-own place k q l =
       let e : rowWords * i + place ≡ rowWords * i + 1 + k = omega arith in
@@ -143,11 +162,11 @@ module _ (t : List ℕ) (i : ℕ) (r : Record) (within : i < length t / rowWords
   pub record-stored : recordSound r ≡ true → recordAt (stored t i r) i ≡ r
   unfolding recordAt
   record-stored s =
-      simp (stored-own 1 0 refl (omega arith), stored-own 2 1 refl (omega arith), stored-own 3 2 refl (omega arith), stored-own 4 3 refl (omega arith), stored-own 5 4 refl (omega arith), notice-back (r .notice) (sound-record r s .once))
+      simp (stored-own 1 0 refl (omega arith), stored-own 2 1 refl (omega arith), stored-own 3 2 refl (omega arith), stored-own 4 3 refl (omega arith), stored-own 5 4 refl (omega arith), stored-own 6 5 refl (omega arith), closed-back (r .closed), notice-back (r .notice) (sound-record r s .once))
 
   -- a sound record keeps its row sound
   pub row-stored : rowSound t i ≡ true → recordSound r ≡ true → rowSound (stored t i r) i ≡ true
   unfolding rowUpTo
   row-stored e s =
       let w = sound-record r s in
-      simp (stored-number t i r i, sound-row t i e .number, stored-own 1 0 refl (omega arith), w .holder, stored-own 2 1 refl (omega arith), stored-own 3 2 refl (omega arith), stored-own 4 3 refl (omega arith), stored-own 5 4 refl (omega arith), w .notice)
+      simp (stored-number t i r i, sound-row t i e .number, stored-own 1 0 refl (omega arith), w .holder, stored-own 2 1 refl (omega arith), stored-own 3 2 refl (omega arith), stored-own 4 3 refl (omega arith), stored-own 5 4 refl (omega arith), stored-own 6 5 refl (omega arith), w .notice, closed-sound (r .closed))

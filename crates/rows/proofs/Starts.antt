@@ -12,7 +12,7 @@ use Rattle.numbers.specs.Numbers.{isNumber}
 use Rattle.numbers.specs.Least.{leastFor, isFrom}
 use Rattle.numbers.proofs.Least.{Starts, starts-for, least-tells}
 use Rattle.records.specs.Steps.{mostSendings}
-use Rattle.rows.specs.Rows.{numberAt, holderAt, phaseAt, addresseeAt, supervisorAt, secondAt, lastPhaseOf, failedOnce, holderSound, noticeUpTo, noticeSound, rowUpTo, rowSound}
+use Rattle.rows.specs.Rows.{numberAt, holderAt, phaseAt, addresseeAt, supervisorAt, secondAt, closedAt, closedSound, lastPhaseOf, failedOnce, holderSound, noticeUpTo, noticeBy, noticeSound, rowUpTo, rowSound}
 use Rattle.rows.specs.Starts.{nearFrom, holderStart, restFrom}
 
 -- the start that the next holder is tested by
@@ -38,8 +38,9 @@ holder-tells near h s = go (eqb h 0) (isFrom near h) refl
 pub row-tells : (near : ℕ) (t : List ℕ) (i : ℕ) → Starts near → rowSound t i ≡ (isNumber (numberAt t i) && restFrom (holderStart near (holderAt t i)) t i)
 unfolding rowUpTo restFrom
 row-tells near t i s =
-    and-assoc (isNumber (numberAt t i)) (holderSound (holderAt t i)) (noticeSound (phaseAt t i) (addresseeAt t i) (supervisorAt t i) (secondAt t i))
-    ∙ ap (λ (b : Bool). isNumber (numberAt t i) && (b && noticeSound (phaseAt t i) (addresseeAt t i) (supervisorAt t i) (secondAt t i))) (holder-tells near (holderAt t i) s)
+    let rest = noticeSound (phaseAt t i) (addresseeAt t i) (supervisorAt t i) (secondAt t i) && closedSound (closedAt t i) in
+    and-assoc (isNumber (numberAt t i)) (holderSound (holderAt t i)) rest
+    ∙ ap (λ (b : Bool). isNumber (numberAt t i) && (b && rest)) (holder-tells near (holderAt t i) s)
 
 -- what is sound with fewer numbers and fewer sendings is sound with more
 notice-more : (few many : ℕ) (a b : Bool) (phase addressee supervisor second : ℕ) → few ≤ many → (a ≡ true → b ≡ true) → noticeUpTo few a phase addressee supervisor second ≡ true → noticeUpTo many b phase addressee supervisor second ≡ true
@@ -60,17 +61,24 @@ pub row-more : (few many : ℕ) → few ≤ many → (t : List ℕ) (i : ℕ) �
 unfolding rowUpTo
 row-more few many h t i e =
     let w = and-three (isNumber (numberAt t i)) (holderSound (holderAt t i)) _ e in
-    simp (w .0, w .1) (notice-more few many _ _ (phaseAt t i) (addresseeAt t i) (supervisorAt t i) (secondAt t i) h (λ b. b) (w .2))
+    let numbers = isNumber (addresseeAt t i) && isNumber (supervisorAt t i) in
+    let before = noticeUpTo few numbers (phaseAt t i) (addresseeAt t i) (supervisorAt t i) (secondAt t i) in
+    let closed = closedSound (closedAt t i) in
+    let notice = notice-more few many numbers numbers (phaseAt t i) (addresseeAt t i) (supervisorAt t i) (secondAt t i) h (λ b. b) (and-left before closed (w .2)) in
+    rw (w .0, w .1) (and-both _ closed notice (and-right before closed (w .2)))
 
 -- a row with a number is sound if one start tells what stands behind it
 pub near-sound : (near : ℕ) (t : List ℕ) (i : ℕ) → Starts near → isNumber (numberAt t i) ≡ true → nearFrom near t i ≡ true → rowSound t i ≡ true
 unfolding rowUpTo nearFrom
 near-sound near t i s n p =
     let a = isFrom near (addresseeAt t i) in
-    let notice = and-right (eqb (holderAt t i) 0 || isFrom near (holderAt t i)) _ p in
-    rw (n, holder (and-left _ _ p))
-    (notice-more mostSendings mostSendings (a && isFrom near (supervisorAt t i)) _ (phaseAt t i) (addresseeAt t i) (supervisorAt t i) (secondAt t i) (omega arith)
-    (λ both. and-both _ _ (s .numbers (addresseeAt t i) (and-left a _ both)) (s .numbers (supervisorAt t i) (and-right a _ both))) notice)
+    let said = noticeBy (a && isFrom near (supervisorAt t i)) (phaseAt t i) (addresseeAt t i) (supervisorAt t i) (secondAt t i) in
+    let closed = closedSound (closedAt t i) in
+    let rest = and-right (eqb (holderAt t i) 0 || isFrom near (holderAt t i)) (said && closed) p in
+    let notice = and-left said closed rest in
+    rw (n, holder (and-left _ (said && closed) p))
+    (and-both _ closed (notice-more mostSendings mostSendings (a && isFrom near (supervisorAt t i)) _ (phaseAt t i) (addresseeAt t i) (supervisorAt t i) (secondAt t i) (omega arith)
+    (λ both. and-both _ _ (s .numbers (addresseeAt t i) (and-left a _ both)) (s .numbers (supervisorAt t i) (and-right a _ both))) notice) (and-right said closed rest))
   where
     holder : (eqb (holderAt t i) 0 || isFrom near (holderAt t i)) ≡ true → holderSound (holderAt t i) ≡ true
     holder e =

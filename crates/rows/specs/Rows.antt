@@ -2,7 +2,7 @@
 use Prim.Native.Nat.{ℕ, _+_, _*_, _/_, _%_, _^_}
 use mathlib.Core.Bool.{Bool, true, cond, not, _&&_, _||_}
 use mathlib.Core.List.{List, [], _∷_}
-use lib.ListN.{getD}
+use lib.ListN.{getD, take, drop}
 use lib.Seq.{sets}
 use lib.Dec.{eqb, ltb, leb}
 use Rattle.numbers.specs.Numbers.{isNumber}
@@ -12,9 +12,9 @@ use Rattle.records.specs.declared.Record.{Record}
 use Rattle.rows.specs.declared.Words.{Words}
 use Rattle.records.specs.Steps.{mostSendings}
 
--- "six 64-bit words a number … The words: functional number; holder, a number, or 0; phase; notice's addressee; supervisor; second of the last failure"
+-- "six 64-bit words a number … The words: functional number; holder, a number, or 0; phase; notice's addressee; supervisor; second of the last failure"; M-110: "Each record gains a seventh word"
 abbrev pub rowWords : ℕ
-rowWords = 6
+rowWords = 7
 
 -- the word at a place of row i
 abbrev pub word : List ℕ → ℕ → ℕ → ℕ
@@ -39,6 +39,16 @@ supervisorAt t i = word t i 4
 abbrev pub secondAt : List ℕ → ℕ → ℕ
 secondAt t i = word t i 5
 
+abbrev pub closedAt : List ℕ → ℕ → ℕ
+closedAt t i = word t i 6
+
+-- row i, and the same word by word (proofs/Seven, `row-listed`)
+abbrev pub row : List ℕ → ℕ → List ℕ
+row t i = take rowWords (drop (rowWords * i) t)
+
+abbrev pub listed : List ℕ → ℕ → List ℕ
+listed t i = numberAt t i ∷ holderAt t i ∷ phaseAt t i ∷ addresseeAt t i ∷ supervisorAt t i ∷ secondAt t i ∷ closedAt t i ∷ []
+
 -- the words of row i
 abbrev pub wordsAt : List ℕ → ℕ → Words
 wordsAt t i = record {
@@ -48,6 +58,7 @@ wordsAt t i = record {
   addressee = addresseeAt t i;
   supervisor = supervisorAt t i;
   second = secondAt t i;
+  closed = closedAt t i;
 }
 
 -- the largest phase, after at most `limit` sendings: "Even 2k …: in flight, k done"
@@ -81,12 +92,17 @@ noticeSound phase addressee supervisor second = noticeBy (isNumber addressee && 
 abbrev pub holderSound : ℕ → Bool
 holderSound holder = eqb holder 0 || isNumber holder
 
+-- M-110: "0 open or 1 closed"
+abbrev pub closedSound : ℕ → Bool
+closedSound closed = eqb closed 0 || eqb closed 1
+
 -- row i, by itself, as document 01 says, with at most `limit` sendings of a notice
 unfoldable pub rowUpTo : ℕ → List ℕ → ℕ → Bool
 rowUpTo limit t i =
     isNumber (numberAt t i)
     && holderSound (holderAt t i)
-    && noticeUpTo limit (isNumber (addresseeAt t i) && isNumber (supervisorAt t i)) (phaseAt t i) (addresseeAt t i) (supervisorAt t i) (secondAt t i)
+    && (noticeUpTo limit (isNumber (addresseeAt t i) && isNumber (supervisorAt t i)) (phaseAt t i) (addresseeAt t i) (supervisorAt t i) (secondAt t i)
+    && closedSound (closedAt t i))
 
 abbrev pub rowSound : List ℕ → ℕ → Bool
 rowSound = rowUpTo mostSendings
@@ -105,6 +121,10 @@ secondOf Absent = 0
 secondOf (Waiting k s) = s
 secondOf (InFlight k) = 0
 
+-- one where it is so
+abbrev pub one : Bool → ℕ
+one b = cond b 1 0
+
 -- the record of row i
 unfoldable pub recordAt : List ℕ → ℕ → Record
 recordAt t i = record {
@@ -112,11 +132,12 @@ recordAt t i = record {
   notice = noticeOf (phaseAt t i) (secondAt t i);
   addressee = record { 0 = addresseeAt t i };
   supervisor = record { 0 = supervisorAt t i };
+  closed = eqb (closedAt t i) 1;
 }
 
 -- the words of a record, in the order in which they stand behind the number
 abbrev pub wordsOf : Record → List ℕ
-wordsOf r = r .holder .0 ∷ phaseOf (r .notice) ∷ r .addressee .0 ∷ r .supervisor .0 ∷ secondOf (r .notice) ∷ []
+wordsOf r = r .holder .0 ∷ phaseOf (r .notice) ∷ r .addressee .0 ∷ r .supervisor .0 ∷ secondOf (r .notice) ∷ one (r .closed) ∷ []
 
 -- the table with r for the record of row i; its number stays, and so does every other row
 unfoldable pub stored : List ℕ → ℕ → Record → List ℕ

@@ -6,7 +6,7 @@ use lib.Dec.{eqb}
 use Rattle.numbers.specs.Numbers.{isNumber}
 use Rattle.numbers.specs.Least.{leastFor, isFrom}
 use Rattle.rows.specs.declared.Words.{Words}
-use Rattle.rows.specs.Rows.{addresseeAt, supervisorAt, wordsAt, noticeBy}
+use Rattle.rows.specs.Rows.{addresseeAt, supervisorAt, wordsAt, noticeBy, closedSound}
 
 -- the start by which a holder is tested: one that was found before, where that tells already, else the least number as long as she is
 unfoldable pub holderStart : ℕ → ℕ → ℕ
@@ -15,7 +15,8 @@ holderStart near holder = cond (eqb holder 0 || isFrom near holder) near (leastF
 -- what stands behind a row's number, the holder by a start
 abbrev pub restBy : ℕ → Bool → Words → Bool
 restBy start numbers w =
-    (eqb (w .holder) 0 || isFrom start (w .holder)) && noticeBy numbers (w .phase) (w .addressee) (w .supervisor) (w .second)
+    (eqb (w .holder) 0 || isFrom start (w .holder))
+    && (noticeBy numbers (w .phase) (w .addressee) (w .supervisor) (w .second) && closedSound (w .closed))
 
 -- of row i
 unfoldable pub restFrom : ℕ → List ℕ → ℕ → Bool

@@ -8,20 +8,23 @@ use records::Notice;
 use records::Record;
 ghost use mathlib.Core.Path.{_≡_};
 ghost use mathlib.Core.Bool.{true};
-ghost use Prim.Native.Nat.{_/_, _^_, _≤_, _<_};
+ghost use Prim.Native.Nat.{_+_, _*_, _/_, _^_, _≤_, _<_};
 ghost use lib.ListN.{length};
+ghost use lib.Seq.{sets};
 ghost use Rattle.numbers.specs.Numbers.{mostDigits};
-ghost use Rattle.rows.specs.Rows.{rowWords, holderAt, lastPhase, phaseOf, secondOf, noticeOf, wordsAt, noticeBy, rowSound, recordAt, stored};
+ghost use Rattle.rows.specs.Rows.{rowWords, listed, holderAt, lastPhase, phaseOf, secondOf, one, noticeOf, wordsAt, noticeBy, rowSound, recordAt, stored};
 ghost use Rattle.rows.specs.Starts.{restBy, nearFrom, holderStart, restFrom};
 
 // The phase of the last sending; M-102: "phases run to 12".
 const LAST_PHASE: u64 = 2 * (MOST_SENDINGS as u64);
 
-// "The last word is below 2^32".
+// "The last word is below 2^32": word six, before M-110 the last.
 const SECONDS: u64 = 4294967296;
 
-// "six 64-bit words a number": where they stand in a row, the number first.
-pub const ROW_WORDS: usize = 6;
+// "six 64-bit words a number", and M-110's seventh: where they stand in a row, the number first.
+pub const ROW_WORDS: usize = 7;
+
+pub const NUMBER: usize = 0;
 
 pub const HOLDER: usize = 1;
 
@@ -33,6 +36,8 @@ const SUPERVISOR: usize = 4;
 
 const SECOND: usize = 5;
 
+const CLOSED: usize = 6;
+
 // The words of a row.
 pub struct Words {
     pub number: u64,
@@ -41,6 +46,7 @@ pub struct Words {
     pub addressee: u64,
     pub supervisor: u64,
     pub second: u64,
+    pub closed: u64,
 }
 
 fn notice_of(phase: u64, second: u64) -> Notice
@@ -77,7 +83,14 @@ fn second_of(notice: Notice) -> u64
     }
 }
 
-// Whether the last four words of a row are those of a notice, or of none; `numbers` says whether addressee and supervisor are numbers.
+// 1 where it is so, else 0.
+pub fn one_if(so: bool) -> u64
+    ensures { λ r. ⌜ r ≡ one so ⌝ }
+{
+    so as u64
+}
+
+// Whether words three to six of a row are those of a notice, or of none; `numbers` says whether addressee and supervisor are numbers.
 fn notice_by(numbers: bool, phase: u64, addressee: u64, supervisor: u64, second: u64) -> bool
     ensures { λ r. ⌜ r ≡ noticeBy numbers phase addressee supervisor second ⌝ }
 {
@@ -103,6 +116,7 @@ fn words_at(table: &[u64], row: usize) -> Words
         addressee: table[at + ADDRESSEE],
         supervisor: table[at + SUPERVISOR],
         second: table[at + SECOND],
+        closed: table[at + CLOSED],
     }
 }
 
@@ -122,6 +136,7 @@ pub fn load(table: &[u64], row: usize) -> Record
         notice,
         addressee,
         supervisor,
+        closed: words.closed == 1,
     }
 }
 
@@ -139,6 +154,39 @@ pub fn store(table: &mut [u64], row: usize, next: Record)
     table[at + ADDRESSEE] = next.addressee.0;
     table[at + SUPERVISOR] = next.supervisor.0;
     table[at + SECOND] = second;
+    table[at + CLOSED] = one_if(next.closed);
+}
+
+// Reads a row as its words.
+pub fn row_at(table: &[u64], i: usize) -> [u64; ROW_WORDS]
+    requires { ⌜ rowWords * (i + 1) ≤ length (now table) ⌝ }
+    ensures { λ r. ⌜ r ≡ listed (now (table .entry)) i ⌝ }
+{
+    let at = ROW_WORDS * i;
+    [
+        table[at],
+        table[at + HOLDER],
+        table[at + PHASE],
+        table[at + ADDRESSEE],
+        table[at + SUPERVISOR],
+        table[at + SECOND],
+        table[at + CLOSED],
+    ]
+}
+
+// Writes a row as its words.
+pub fn put_row(table: &mut [u64], i: usize, words: [u64; ROW_WORDS])
+    requires { ⌜ rowWords * (i + 1) ≤ length (now table) ⌝ }
+    ensures { λ _. ⌜ now (table .exit) ≡ sets (now (table .entry)) (rowWords * i) words ⌝ }
+{
+    let at = ROW_WORDS * i;
+    table[at] = words[0];
+    table[at + HOLDER] = words[HOLDER];
+    table[at + PHASE] = words[PHASE];
+    table[at + ADDRESSEE] = words[ADDRESSEE];
+    table[at + SUPERVISOR] = words[SUPERVISOR];
+    table[at + SECOND] = words[SECOND];
+    table[at + CLOSED] = words[CLOSED];
 }
 
 // Whether what stands behind a row's number is sound, the holder tested by a start; `numbers` says whether addressee and supervisor are numbers.
@@ -154,7 +202,7 @@ fn rest_by(words: Words, start: u64, numbers: bool) -> bool
         words.supervisor,
         words.second,
     );
-    holder & notice
+    holder & (notice & ((words.closed == 0) | (words.closed == 1)))
 }
 
 // The same by one start alone, as it is in most rows: every number there is as long as the start's.

@@ -20,7 +20,7 @@ use Rattle.records.specs.declared.Notice.{Notice}
 use Rattle.records.specs.declared.Notice.the-variants.{Absent, Waiting, InFlight}
 use Rattle.records.specs.declared.Record.{Record}
 use Rattle.records.specs.Steps.{nobody, same, heldBy, isAbsent, isWaiting, launched, sendingsDone, mostSendings, lastKind}
-use Rattle.tables.specs.Figures.{one}
+use Rattle.rows.specs.Rows.{one}
 use Rattle.states.specs.States.{State, stateSound, recordFor}
 use Rattle.rules.specs.Answers.{resultClass, deliveredNumber, droppedNumber, againNumber, numbersOf, isOf, isSent, isClearing}
 use Rattle.rules.specs.Requests.{holderIn}
@@ -97,13 +97,13 @@ by-asking : {list : List ℕ} {r next : Record} {requester : Msisdn} {read : Opt
     → ByAsking (isAbsent (r .notice)) (isAbsent (next .notice)) read requester two
 by-asking {r = r} {requester = requester} {read = read} negative =
     record { made = and-no (forcesAnother requester read) false refl ∙ sym (never-both (isAbsent (r .notice))); ended = neither-both (isAbsent (r .notice)) }
-by-asking {r = r} {requester = requester} {read = read} (registration p q h) =
+by-asking {r = r} {requester = requester} {read = read} (registration p q x h) =
     record { made = and-no (forcesAnother requester read) false refl ∙ sym (never-both (isAbsent (r .notice))); ended = neither-both (isAbsent (r .notice)) }
 by-asking {r = r} (erasure p q e h m) = record { made = rw (p, e) (sym (never-both (isAbsent (r .notice)))); ended = neither-both (isAbsent (r .notice)) }
 by-asking {r = r} {requester = requester} (herself {named = named} p q e m o) =
     let own : same named requester ≡ true = rw (← same-one (r .holder) named m) o in
     record { made = rw (p, e, own) (sym (never-both (isAbsent (r .notice)))); ended = neither-both (isAbsent (r .notice)) }
-by-asking {r = r} {requester = requester} (forced {named = named} p q e m o x y z) =
+by-asking {r = r} {requester = requester} (forced {named = named} p q e m o x y z v) =
     let other : same named requester ≡ false = rw (← same-one (r .holder) named m) o in
     record { made = rw (p, e, other, x) refl; ended = rw x refl }
 
@@ -163,10 +163,10 @@ AllPlain (c ∷ cs) = Plain c × AllPlain cs
 asked-plain : {list : List ℕ} {r next : Record} {requester : Msisdn} {read : Option Request} {one two : Bool} {f : Request}
     → Asked list r requester read one two next → read ≡ some f → f .erasing ≡ Empty → heldBy nobody next ≡ heldBy nobody r
 asked-plain negative t e = refl
-asked-plain (registration p q h) t e = refl
+asked-plain (registration p q x h) t e = refl
 asked-plain (erasure p q w h m) t e = refl
 asked-plain (herself p q w m o) t e = refl
-asked-plain (forced p q w m o x y z) t e = absurd (let z : _≡_ {A = ℕ} 0 1 = cc in omega arith)
+asked-plain (forced p q w m o x y z v) t e = absurd (let z : _≡_ {A = ℕ} 0 1 = cc in omega arith)
 
 visit-plain : {list : List ℕ} {r : Record} {c : Call} {v : Visited} → Does list r c v → Plain c → heldBy nobody (v .next) ≡ heldBy nobody r
 visit-plain (asks i d) (f, j, t, e) = asked-plain d t e
@@ -226,11 +226,11 @@ asked-notifies : {list : List ℕ} {r next : Record} {requester : Msisdn} {read 
     → notifiedIn (some next)
     ≡ cond (forcesAnother requester read && two) (record { holder = holderNamed read; supervisor = requester }) (notifiedIn (some r))
 asked-notifies {requester = requester} {read = read} negative = rw (and-no (forcesAnother requester read) false refl) refl
-asked-notifies {requester = requester} {read = read} (registration p q h) = rw (and-no (forcesAnother requester read) false refl) refl
+asked-notifies {requester = requester} {read = read} (registration p q x h) = rw (and-no (forcesAnother requester read) false refl) refl
 asked-notifies (erasure p q e h m) = rw (p, e) refl
 asked-notifies {r = r} {requester = requester} (herself {named = named} p q e m o) =
     let own : same named requester ≡ true = rw (← same-one (r .holder) named m) o in rw (p, e, own) refl
-asked-notifies {r = r} {requester = requester} (forced {named = named} p q e m o x y z) =
+asked-notifies {r = r} {requester = requester} (forced {named = named} p q e m o x y z v) =
     let other : same named requester ≡ false = rw (← same-one (r .holder) named m) o in rw (p, e, other, same-one (r .holder) named m) refl
 
 -- where a notice is pending behind a visit, whom it is to tell
@@ -247,10 +247,10 @@ visit-notifies (goes-on f e) p = refl
 asked-holder : {list : List ℕ} {r next : Record} {requester : Msisdn} {read : Option Request} {one two : Bool} → Asked list r requester read one two next
     → (forcesAnother requester read && two) ≡ true → r .holder ≡ holderNamed read
 asked-holder {requester = requester} {read = read} negative u = no-path (and-right (forcesAnother requester read) false u)
-asked-holder {requester = requester} {read = read} (registration p q h) u = no-path (and-right (forcesAnother requester read) false u)
+asked-holder {requester = requester} {read = read} (registration p q x h) u = no-path (and-right (forcesAnother requester read) false u)
 asked-holder (erasure p q e h m) u = no-path (rw (p, e) at u)
 asked-holder {r = r} (herself {named = named} p q e m o) u = rw (p, e) (same-one (r .holder) named m)
-asked-holder {r = r} (forced {named = named} p q e m o x y z) u = rw (p, e) (same-one (r .holder) named m)
+asked-holder {r = r} (forced {named = named} p q e m o x y z v) u = rw (p, e) (same-one (r .holder) named m)
 
 visit-holder : {list : List ℕ} {r : Record} {c : Call} {v : Visited} → Does list r c v → makesNotice (c, v .reply) ≡ true → r .holder ≡ holderNamed (readOf c)
 visit-holder (asks i d) u = asked-holder d u

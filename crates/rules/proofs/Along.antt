@@ -51,7 +51,7 @@ use Rattle.rules.proofs.Local.{named-some}
 pub data Asked (list : List ℕ) (r : Record) (requester : Msisdn) (read : Option Request) : Bool → Bool → Record → Type 0 where
   -- answered with anything but 01 and 02
   negative : Asked list r requester read false false r
-  registration : {f : Request} → read ≡ some f → f .operation ≡ Register → (not (isNobody (r .holder)) && not (same (r .holder) requester)) ≡ false
+  registration : {f : Request} → read ≡ some f → f .operation ≡ Register → r .closed ≡ false → (not (isNobody (r .holder)) && not (same (r .holder) requester)) ≡ false
       → Asked list r requester read true false (heldBy requester r)
   erasure : {f : Request} → read ≡ some f → f .operation ≡ Erase → f .erasing ≡ Empty → steps.mayErase (f .number) requester (r .holder) ≡ true
       → hasFollowMe (flagsOf list (requester .0)) ≡ true
@@ -62,7 +62,7 @@ pub data Asked (list : List ℕ) (r : Record) (requester : Msisdn) (read : Optio
   -- a forced erasure by another
   forced : {f : Request} {named : Msisdn} → read ≡ some f → f .operation ≡ Erase → f .erasing ≡ Forced named
       → same (r .holder) named ≡ true → same (r .holder) requester ≡ false → isAbsent (r .notice) ≡ true
-      → hasFollowMe (flagsOf list (requester .0)) ≡ true → isSupervisor (flagsOf list (requester .0)) ≡ true
+      → hasFollowMe (flagsOf list (requester .0)) ≡ true → isSupervisor (flagsOf list (requester .0)) ≡ true → isNobody (r .holder) ≡ false
       → Asked list r requester read false true (forcedOff requester r)
 
 -- of a visit
@@ -105,19 +105,19 @@ module _ (list : List ℕ) (r : Record) (requester : Msisdn) (reply : List ℕ) 
         → Requested (decides o e (f .number) requester reply r)
     unfolding steps.registered steps.erased steps.forced steps.interrogated
     by-operation Register e p q w =
-        decide-by (Stepped 1) (steps-by Register e) (step.Becomes (heldBy requester r)) (negative, (negative, tt))
-        (λ a. registration refl p (a .1 .0))
+        decide-by (Stepped 1) (steps-by Register e) (step.Becomes (heldBy requester r)) (negative, (negative, (negative, tt)))
+        (λ a. registration refl p (a .1 .0) (a .1 .1 .0))
     by-operation Erase Empty p q w =
         decide-by (Stepped 2) (steps-by Erase Empty) (step.Becomes (heldBy nobody r)) (negative, (negative, tt))
         (λ a. erasure refl p q (not-false _ (a .1 .0)) right)
     by-operation Erase (Forced named) p q w =
         decide-by (Stepped 2) (steps-by Erase (Forced named)) (step.Becomes (afterErasure requester (Forced named) r))
-        (negative, (negative, (negative, tt))) (λ a. by-holder (same (r .holder) requester) refl (not-false _ (a .1 .0)) (a .1 .1 .0))
+        (negative, (negative, (negative, tt))) (λ a. by-holder (same (r .holder) requester) refl (a .0) (not-false _ (a .1 .0)) (a .1 .1 .0))
       where
-        by-holder : (b : Bool) → same (r .holder) requester ≡ b → same (r .holder) named ≡ true → (not b && not (isAbsent (r .notice))) ≡ false
+        by-holder : (b : Bool) → same (r .holder) requester ≡ b → isNobody (r .holder) ≡ false → same (r .holder) named ≡ true → (not b && not (isAbsent (r .notice))) ≡ false
             → Requested (visitSaying 2 reply (cond b (heldBy nobody r) (forcedOff requester r)))
-        by-holder true m h a = herself refl p q h m
-        by-holder false m h a = forced refl p q h m (not-false _ a) right (not-false _ w)
+        by-holder true m n h a = herself refl p q h m
+        by-holder false m n h a = forced refl p q h m (not-false _ a) right (not-false _ w) n
     by-operation Interrogate e p q w =
         decide-by (λ h. Requested (holderAnswered reply r h)) (map (answering holds.Stays) (recordChecks Interrogate e (f .number) requester r)) (holds.Held (r .holder))
         (negative, tt) (λ a. negative)

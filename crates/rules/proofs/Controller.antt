@@ -32,7 +32,7 @@ use Rattle.tables.specs.Tables.{tableSound, flagsOf}
 use Rattle.tables.proofs.Stored.{record-found, record-missing}
 use Rattle.states.specs.States.{State, figuresRight, stateSound, rowFor, recordFor, recordIn, storedIn}
 use Rattle.rules.specs.Answers.{outcome, Outcome, bufferRoom, isOutcome, refusing}
-use Rattle.rules.specs.Requests.{hasFollowMe, holderIn, mostStringOctets, refusalChecks, rightChecks, afterErasure}
+use Rattle.rules.specs.Requests.{isClosed, hasFollowMe, holderIn, mostStringOctets, refusalChecks, rightChecks, afterErasure}
 use Rattle.rules.specs.Requests as requests
 use Rattle.rules.specs.Crews.{crewCodes, crewNumber, Walk, walked, setOut, crewOutcome, requesting}
 use Rattle.rules.specs.Frames.{ownReply}
@@ -46,6 +46,7 @@ use Rattle.rules.proofs.Inside.{Opened, shut, carries, opened}
 use Rattle.rules.proofs.Single.{call-single}
 use Rattle.rules.proofs.Steps.{forced-alone}
 use Rattle.rules.proofs.Calls.{calls-keep}
+use Rattle.rules.proofs.Withdrawn.{withdrawn}
 use Rattle.rules.proofs.Framed.{as-bare, framed-says}
 use Rattle.rules.proofs.Visits.{found-back, single-visits}
 use Rattle.rules.proofs.Sound.{single-keeps, single-own}
@@ -165,10 +166,10 @@ module _ (list : List ℕ) (delay : ℕ) (state : State) (s : Msisdn) (scheme : 
 asked-frees : {list : List ℕ} {r next : Record} {q : Msisdn} {read : Option Request} {one two : Bool} → Asked list r q read one two next → two ≡ true
     → next .holder ≡ nobody
 asked-frees negative u = no-path u
-asked-frees (registration p q w) u = no-path u
+asked-frees (registration p q x w) u = no-path u
 asked-frees (erasure p q w m right) u = refl
 asked-frees (herself p q w m o) u = refl
-asked-frees (forced p q w m d x y z) u = refl
+asked-frees (forced p q w m d x y z v) u = refl
 
 erasure-frees : {list : List ℕ} {r : Record} {c : Call} {v : Visited} → Does list r c v → isOutcome 2 (v .reply .answer) ≡ true → v .next .holder ≡ nobody
 erasure-frees (asks i d) u = asked-frees d u
@@ -230,35 +231,70 @@ module _ (list : List ℕ) (delay : ℕ) (m : Msisdn) (scheme : ℕ) (string rep
   abbrev asks-for : Call
   asks-for = request m scheme string reply
 
-  visit-registers : (r : Record) → r .holder ≡ nobody → visit list delay asks-for r ≡ visitSaying 1 reply (heldBy m r)
+  visit-registers : (r : Record) → r .closed ≡ false → r .holder ≡ nobody → visit list delay asks-for r ≡ visitSaying 1 reply (heldBy m r)
   unfolding decided steps.registered
-  visit-registers r free = rw (form .reads, flag, registers, plain, ne-eqb (f .number .0) (m .0) other, free) refl
+  visit-registers r unclosed free =
+      rw (form .reads, flag, registers, plain, ne-eqb (f .number .0) (m .0) other, unclosed, free) refl
 
-  -- right after any call that names the number and is answered 02: 01, and m holds it
+  -- right after any call that names the number and is answered 02, while the number is open: 01, and m holds it
   pub next-registers : (c : Call) (state : State) → stateSound state ≡ true → namesOne list c (f .number .0) ≡ true
-      → isOutcome 2 ((call list delay c state) .0 .answer) ≡ true
+      → isOutcome 2 ((call list delay c state) .0 .answer) ≡ true → isClosed (recordFor ((call list delay c state) .1) (f .number .0)) ≡ false
       → let after = (call list delay c state) .1 in
       ((call list delay asks-for after) .0 ≡ replySaying 1 reply) × (holderOf ((call list delay asks-for after) .1) (f .number .0) ≡ m .0)
-  next-registers c state sound named answered =
+  next-registers c state sound named answered unclosed =
       let alone = crew-not-02 list delay c state sound answered in
       rw (call-single list delay c state alone)
       (let (r, v, d, known, u) = answered-02 (along list delay (f .number .0) (c ∷ []) state) named (rw (call-single list delay c state alone) at answered) in
       let got = visit-gets list delay asks-for ((single list delay c state) .1) (f .number .0) (v .next) _ (single-keeps list delay c state sound .sound)
-      (form-names list m scheme string reply f form) known (visit-registers (v .next) (erasure-frees d u)) in
+      (form-names list m scheme string reply f form) known (visit-registers (v .next) (sym (ap isClosed known) ∙ rw (call-single list delay c state alone) at unclosed) (erasure-frees d u)) in
       let same = call-single list delay asks-for ((single list delay c state) .1) (rw (form .reads) no-crew) in
       (ap (λ x. x .0) same ∙ got .0, ap (λ x. holderOf (x .1) (f .number .0)) same ∙ got .1))
 
+  -- while the number is closed: 64 whoever holds it, also m herself, and table and figures are as they were
+  visit-closed : (r : Record) → r .closed ≡ true → visit list delay asks-for r ≡ visitSaying 64 reply r
+  unfolding decided steps.registered
+  visit-closed r closed = rw (form .reads, flag, registers, plain, ne-eqb (f .number .0) (m .0) other, closed) refl
+
+  pub closed-64 : (state : State) → stateSound state ≡ true → isClosed (recordFor state (f .number .0)) ≡ true
+      → call list delay asks-for state ≡ (replySaying 64 reply, state)
+  closed-64 state sound closed = go (recordFor state (f .number .0)) refl closed
+    where
+      go : (o : Option Record) → recordFor state (f .number .0) ≡ o → isClosed o ≡ true → call list delay asks-for state ≡ (replySaying 64 reply, state)
+      go none known c = no-path c
+      go (some r) known c =
+          call-single list delay asks-for state (rw (form .reads) no-crew)
+          ∙ visit-leaves list delay asks-for state (f .number .0) r _ sound (form-names list m scheme string reply f form) known (visit-closed r c) refl
+
+  -- so too right after any call, a 02 among them: a call leaves a closed number closed
+  pub next-64 : (c : Call) (state : State) → stateSound state ≡ true → isClosed (recordFor state (f .number .0)) ≡ true
+      → let after = (call list delay c state) .1 in
+      call list delay asks-for after ≡ (replySaying 64 reply, after)
+  next-64 c state sound closed =
+      closed-64 ((call list delay c state) .1) (calls-keep list delay (c ∷ []) state sound .sound) (withdrawn list delay (f .number .0) (c ∷ []) state closed .closed)
+
   -- the same in a frame
+  pub closed-64-framed : (message frame : List ℕ) (n : messages.Register) → registerOf message ≡ some n → n .body ≡ components.asks scheme string
+      → frameRoom ≤ length frame
+      → (state : State) → stateSound state ≡ true → isClosed (recordFor state (f .number .0)) ≡ true
+      → call list delay (framed m message frame) state ≡ (givenBack n frame (outcome 64) (components.result (n .number) (packed (twoDigits 64))), state)
+  closed-64-framed message frame n register inside room state sound closed =
+      let e = closed-64 state sound closed in
+      λ i. (
+        framed-says list delay m message frame state room n register (form .sound) sound scheme string inside reply (form .room) 64 (ap (λ x. x .0) e) i,
+        (as-bare list delay m message frame state room n register (form .sound) sound scheme string inside reply (form .room) .state-after ∙ ap (λ x. x .1) e) i,
+      )
+
   pub next-registers-framed : (message frame : List ℕ) (n : messages.Register) → registerOf message ≡ some n → n .body ≡ components.asks scheme string
       → frameRoom ≤ length frame
       → (c : Call) (state : State) → stateSound state ≡ true → namesOne list c (f .number .0) ≡ true → isOutcome 2 ((call list delay c state) .0 .answer) ≡ true
+      → isClosed (recordFor ((call list delay c state) .1) (f .number .0)) ≡ false
       → let after = (call list delay c state) .1 in
       let got = call list delay (framed m message frame) after in
       (got .0 ≡ givenBack n frame (outcome 1) (components.result (n .number) (packed (twoDigits 1)))) × (holderOf (got .1) (f .number .0) ≡ m .0)
-  next-registers-framed message frame n register inside room c state sound named answered =
+  next-registers-framed message frame n register inside room c state sound named answered unclosed =
       let after = (call list delay c state) .1 in
       let kept = calls-keep list delay (c ∷ []) state sound .sound in
-      let (got, holds) = next-registers c state sound named answered in (
+      let (got, holds) = next-registers c state sound named answered unclosed in (
         framed-says list delay m message frame after room n register (form .sound) kept scheme string inside reply (form .room) 1 got,
         ap (λ t. holderOf t (f .number .0)) (as-bare list delay m message frame after room n register (form .sound) kept scheme string inside reply (form .room) .state-after)
             ∙ holds,

@@ -66,7 +66,7 @@ module _ (list reply : List ℕ) (requester : Msisdn) (scheme : ℕ) (string : L
   unfolding requests.step
   step-stays f register holds sound =
       decide-each (λ (s : Stepping). s .state ≡ t) (map (requests.staying t) (requests.stepChecks requester f (recordFor t (f .number .0))))
-      (requests.carriedOutAt f (rowFor t (f .number .0)) requester t) (refl, (refl, (refl, (refl, (refl, (refl, tt))))))
+      (requests.carriedOutAt f (rowFor t (f .number .0)) requester t) (refl, (refl, (refl, (refl, (refl, (refl, (refl, tt)))))))
       (at f register holds sound (rowFor t (f .number .0)) refl)
 
   asking-stays : (flags : ℕ) (f : Request) → requests.step t requester f .state ≡ t → Stays (requests.askingBy (requests.once t reply requester) t flags reply (some f))

@@ -62,19 +62,19 @@ both-flags list msisdn sound f s = omega (arith, eqb-true, flags-small list soun
 asked-keeps : {list : List ℕ} {r next : Record} {q : Msisdn} {read : Option Request} {one two : Bool} → Asked list r q read one two next
     → one ≡ false → two ≡ false → next .holder ≡ r .holder
 asked-keeps negative a b = refl
-asked-keeps (registration p q h) a b = no-path (sym a)
+asked-keeps (registration p q x h) a b = no-path (sym a)
 asked-keeps (erasure p q h m right) a b = no-path (sym b)
 asked-keeps (herself p q h m w) a b = no-path (sym b)
-asked-keeps (forced p q h m d x y z) a b = no-path (sym b)
+asked-keeps (forced p q h m d x y z v) a b = no-path (sym b)
 
 -- a request leaves the holder, or nobody, or gives the number to who registers it
 asked-gives : {list : List ℕ} {r next : Record} {q : Msisdn} {read : Option Request} {one two : Bool} → Asked list r q read one two next
     → (next .holder ≡ r .holder) ⊎ ((next .holder ≡ nobody) ⊎ ((registersAs read ≡ true) × (one ≡ true) × (next .holder .0 ≡ q .0)))
 asked-gives negative = inl refl
-asked-gives (registration p q h) = inr (inr (rw (p, q) refl, refl, refl))
+asked-gives (registration p q x h) = inr (inr (rw (p, q) refl, refl, refl))
 asked-gives (erasure p q h m right) = inr (inl refl)
 asked-gives (herself p q h m w) = inr (inl refl)
-asked-gives (forced p q h m d x y z) = inr (inl refl)
+asked-gives (forced p q h m d x y z v) = inr (inl refl)
 
 -- h holds the number still, or an erasure has ended her hold
 asked-ends : {list : List ℕ} {r next : Record} {q : Msisdn} {read : Option Request} {one two : Bool} → Asked list r q read one two next
@@ -82,7 +82,7 @@ asked-ends : {list : List ℕ} {r next : Record} {q : Msisdn} {read : Option Req
     → (next .holder ≡ h) ⊎ ((next .holder ≡ nobody) × (two ≡ true)
     × ((b : Bool) → (isAbsent (r .notice) ≡ true → b ≡ true) → erasesHoldIn h b q (flagsOf list (q .0)) read ≡ true))
 asked-ends negative h held sound e = inl e
-asked-ends {q = requester} (registration p q w) h held sound e = inl (sym (same-one h requester (not-false _ (rw (e, held) at w))))
+asked-ends {q = requester} (registration p q x w) h held sound e = inl (sym (same-one h requester (not-false _ (rw (e, held) at w))))
 asked-ends {r = r} {q = requester} (erasure {f} p q w m right) h held sound e =
     let ends = ⊎-elim (λ s. or-left _ _ (one-same requester h (sym (same-one (r .holder) requester s) ∙ e))) (λ o. or-right (same requester h) _ (and-both (isOwn (f .number) requester) true o refl)) (or-cases _ _ m) in
     inr (refl, refl, λ b i. rw (p, q, w, right) ends)
@@ -90,7 +90,7 @@ asked-ends {r = r} {q = requester} (herself {named = named} p q w m o) h held so
     let of = one-same named h (sym (same-one (r .holder) named m) ∙ e) in
     let by = one-same requester h (sym (same-one (r .holder) requester o) ∙ e) in
     inr (refl, refl, λ b i. rw (p, q, w, of, by) refl)
-asked-ends {list} {r = r} {q = requester} (forced {named = named} p q w m d x y z) h held sound e =
+asked-ends {list} {r = r} {q = requester} (forced {named = named} p q w m d x y z v) h held sound e =
     let of = one-same named h (sym (same-one (r .holder) named m) ∙ e) in
     let flags = both-flags list (requester .0) sound y z in
     inr (refl, refl, λ b i. rw (p, q, w, of, flags, i x) (or-right (same requester h) true refl))

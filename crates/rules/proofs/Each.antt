@@ -59,8 +59,8 @@ module _ (t : State) (reply : List ℕ) (P : Outcome → Type 0) (refused : (n :
         (
           denied 67 (omega arith) refl,
           (
-            denied 61 (omega arith) refl,
-            (denied 62 (omega arith) refl, (denied 63 (omega arith) refl, (denied 68 (omega arith) refl, tt))),
+            denied 64 (omega arith) refl,
+            (denied 61 (omega arith) refl, (denied 62 (omega arith) refl, (denied 63 (omega arith) refl, (denied 68 (omega arith) refl, tt)))),
           ),
         ),
       )

@@ -53,7 +53,7 @@ subscribers = A ∷ 1 ∷ B ∷ 3 ∷ C ∷ 0 ∷ []
 
 -- the row of a number, held by a subscriber
 abbrev pub rowOfNumber : ℕ → ℕ → List ℕ
-rowOfNumber number msisdn = number ∷ msisdn ∷ 0 ∷ 0 ∷ 0 ∷ 0 ∷ []
+rowOfNumber number msisdn = number ∷ msisdn ∷ 0 ∷ 0 ∷ 0 ∷ 0 ∷ 0 ∷ []
 
 -- F's row: free, held, and with a notice to A from B at a phase and with a last word
 abbrev pub held : ℕ → List ℕ
@@ -63,7 +63,7 @@ abbrev pub free : List ℕ
 free = held 0
 
 abbrev pub noticed : ℕ → ℕ → ℕ → List ℕ
-noticed msisdn phase second = F ∷ msisdn ∷ phase ∷ A ∷ B ∷ second ∷ []
+noticed msisdn phase second = F ∷ msisdn ∷ phase ∷ A ∷ B ∷ second ∷ 0 ∷ []
 
 abbrev pub room : List ℕ
 room = replicate 80 0
@@ -292,10 +292,10 @@ m-103 =
 
 -- every phase, three of the numbers held
 pub counts-phases : figures.recount
-    ((110001 ∷ A ∷ 0 ∷ 0 ∷ 0 ∷ 0 ∷ []) ++ (110002 ∷ 0 ∷ 1 ∷ A ∷ B ∷ 0 ∷ []) ++ (110003 ∷ B ∷ 2 ∷ A ∷ B ∷ 0 ∷ []) ++ (110004 ∷ 0 ∷ 3 ∷ A ∷ B ∷ 9 ∷ [])
-    ++ (110005 ∷ 0 ∷ 4 ∷ A ∷ B ∷ 0 ∷ []) ++ (110006 ∷ 0 ∷ 5 ∷ A ∷ B ∷ 9 ∷ []) ++ (110007 ∷ 0 ∷ 6 ∷ A ∷ B ∷ 0 ∷ []) ++ (110008 ∷ 0 ∷ 7 ∷ A ∷ B ∷ 9 ∷ [])
-    ++ (110009 ∷ 0 ∷ 8 ∷ A ∷ B ∷ 0 ∷ []) ++ (110010 ∷ 0 ∷ 9 ∷ A ∷ B ∷ 9 ∷ []) ++ (110011 ∷ 0 ∷ 10 ∷ A ∷ B ∷ 0 ∷ []) ++ (110012 ∷ 0 ∷ 11 ∷ A ∷ B ∷ 9 ∷ [])
-    ++ (110013 ∷ C ∷ 12 ∷ A ∷ B ∷ 0 ∷ []))
+    ((110001 ∷ A ∷ 0 ∷ 0 ∷ 0 ∷ 0 ∷ 0 ∷ []) ++ (110002 ∷ 0 ∷ 1 ∷ A ∷ B ∷ 0 ∷ 0 ∷ []) ++ (110003 ∷ B ∷ 2 ∷ A ∷ B ∷ 0 ∷ 0 ∷ []) ++ (110004 ∷ 0 ∷ 3 ∷ A ∷ B ∷ 9 ∷ 0 ∷ [])
+    ++ (110005 ∷ 0 ∷ 4 ∷ A ∷ B ∷ 0 ∷ 0 ∷ []) ++ (110006 ∷ 0 ∷ 5 ∷ A ∷ B ∷ 9 ∷ 0 ∷ []) ++ (110007 ∷ 0 ∷ 6 ∷ A ∷ B ∷ 0 ∷ 0 ∷ []) ++ (110008 ∷ 0 ∷ 7 ∷ A ∷ B ∷ 9 ∷ 0 ∷ [])
+    ++ (110009 ∷ 0 ∷ 8 ∷ A ∷ B ∷ 0 ∷ 0 ∷ []) ++ (110010 ∷ 0 ∷ 9 ∷ A ∷ B ∷ 9 ∷ 0 ∷ []) ++ (110011 ∷ 0 ∷ 10 ∷ A ∷ B ∷ 0 ∷ 0 ∷ []) ++ (110012 ∷ 0 ∷ 11 ∷ A ∷ B ∷ 9 ∷ 0 ∷ [])
+    ++ (110013 ∷ C ∷ 12 ∷ A ∷ B ∷ 0 ∷ 0 ∷ []))
     ≡ 3 ∷ 6 ∷ 6 ∷ []
 unfolding figures.recount
 counts-phases = refl
@@ -321,7 +321,7 @@ ownExamples =
     -- held by another, by nobody, with a notice pending
     answers 105 (rowOfNumber A B) (says (asks A erasesOwnA) 2 octets02 ∷ []) (rowOfNumber A 0)
     ∷ answers 105 (rowOfNumber A 0) (says (asks A erasesOwnA) 62 (0x36 ∷ 0x19 ∷ []) ∷ []) (rowOfNumber A 0)
-    ∷ answers 105 (A ∷ B ∷ 3 ∷ C ∷ B ∷ 9 ∷ []) (says (asks A erasesOwnA) 2 octets02 ∷ []) (A ∷ 0 ∷ 3 ∷ C ∷ B ∷ 9 ∷ [])
+    ∷ answers 105 (A ∷ B ∷ 3 ∷ C ∷ B ∷ 9 ∷ 0 ∷ []) (says (asks A erasesOwnA) 2 octets02 ∷ []) (A ∷ 0 ∷ 3 ∷ C ∷ B ∷ 9 ∷ 0 ∷ [])
     -- by another subscriber, by one who is not listed, by one with flags 0
     ∷ answers 105 (rowOfNumber A A) (says (asks B erasesOwnA) 63 octets63 ∷ []) (rowOfNumber A A)
     ∷ answers 105 (rowOfNumber D A) (says (asks D (ascii "##214*4915100004***#")) 42 (0x34 ∷ 0x19 ∷ []) ∷ []) (rowOfNumber D A)
@@ -337,8 +337,8 @@ ownExamples =
     -- forced: without flag 2, naming another, naming the holder, and with a notice pending
     ∷ answers 105 (rowOfNumber A B) (says (asks A (ascii "##214*4915100001*88*4915100002*#")) 22 (0x32 ∷ 0x19 ∷ []) ∷ []) (rowOfNumber A B)
     ∷ answers 105 (rowOfNumber B C) (says (asks B (ascii "##214*4915100002*88*4915100001*#")) 63 octets63 ∷ []) (rowOfNumber B C)
-    ∷ answers 105 (rowOfNumber B C) (says (asks B (ascii "##214*4915100002*88*4915100003*#")) 2 octets02 ∷ []) (B ∷ 0 ∷ 1 ∷ C ∷ B ∷ 0 ∷ [])
-    ∷ answers 105 (B ∷ C ∷ 1 ∷ A ∷ C ∷ 0 ∷ []) (says (asks B (ascii "##214*4915100002*88*4915100003*#")) 68 (0x36 ∷ 0x1C ∷ []) ∷ []) (B ∷ C ∷ 1 ∷ A ∷ C ∷ 0 ∷ [])
+    ∷ answers 105 (rowOfNumber B C) (says (asks B (ascii "##214*4915100002*88*4915100003*#")) 2 octets02 ∷ []) (B ∷ 0 ∷ 1 ∷ C ∷ B ∷ 0 ∷ 0 ∷ [])
+    ∷ answers 105 (B ∷ C ∷ 1 ∷ A ∷ C ∷ 0 ∷ 0 ∷ []) (says (asks B (ascii "##214*4915100002*88*4915100003*#")) 68 (0x36 ∷ 0x1C ∷ []) ∷ []) (B ∷ C ∷ 1 ∷ A ∷ C ∷ 0 ∷ 0 ∷ [])
     -- and she still cannot register it
     ∷ answers 105 (rowOfNumber A 0) (says (asks A (ascii "**214*4915100001***#")) 67 (0xB6 ∷ 0x1B ∷ []) ∷ []) (rowOfNumber A 0)
     ∷ []

@@ -65,7 +65,7 @@ module _ (r : Record) (reply : List ℕ) (requester : Msisdn) where
   unfolding steps.registered steps.erased steps.forced steps.interrogated
   decides-says Register e number =
       decide-each (Stepped 1) (map (answering step.Stays) (recordChecks Register e number requester r)) (step.Becomes (steps.heldBy requester r))
-      (refl, (refl, tt)) refl
+      (refl, (refl, (refl, tt))) refl
   decides-says Erase Empty number =
       decide-each (Stepped 2) (map (answering step.Stays) (recordChecks Erase Empty number requester r)) (step.Becomes (steps.heldBy steps.nobody r))
       (refl, (refl, tt)) refl

@@ -65,10 +65,10 @@ one-more false x xs = omega arith
 asked-keeps : {list : List ℕ} {r next : Record} {requester : Msisdn} {read : Option Request} {one two : Bool}
     → Asked list r requester read one two next → isAbsent (r .notice) ≡ false → next ≡ heldBy (next .holder) r
 asked-keeps negative n = refl
-asked-keeps (registration p q h) n = refl
+asked-keeps (registration p q x h) n = refl
 asked-keeps (erasure p q h m right) n = refl
 asked-keeps (herself p q h m w) n = refl
-asked-keeps (forced p q h m d x y z) n = no-path (sym n ∙ x)
+asked-keeps (forced p q h m d x y z v) n = no-path (sym n ∙ x)
 
 -- a request, framed or not, is neither a sending nor a result
 pub request-unsent : (k : ℕ) (c : Call) (a : Reply) → isRequest c ≡ true → sendingDone k (c, a) ≡ false

@@ -56,12 +56,12 @@ module _ (list : List ℕ) (k : ℕ) where
   forced-tells : {r next : Record} {h s : Msisdn} {read : Option Request} {one two : Bool} {f : Request} → Asked list r s read one two next
       → read ≡ some f → f .erasing ≡ Forced h → same h s ≡ false → two ≡ true → Telling h s next
   forced-tells negative t e d u = no-path u
-  forced-tells (registration p q w) t e d u = no-path u
+  forced-tells (registration p q x w) t e d u = no-path u
   forced-tells (erasure p q w m right) t e d u = absurd (let z : _≡_ {A = ℕ} 0 1 = cc in omega arith)
   forced-tells {r} {h = h} (herself {named = named} p q w m o) t e d u =
       let one : h ≡ r .holder = cc (same-one (r .holder) named m) in
       no-path (sym d ∙ rw one o)
-  forced-tells {r} (forced {named = named} p q w m o x y z) t e d u =
+  forced-tells {r} (forced {named = named} p q w m o x y z v) t e d u =
       record { pending = refl; addressee = cc (same-one (r .holder) named m); supervisor = refl }
 
   call-tells : {r : Record} {c : Call} {v : Visited} {h : Msisdn} {f : Request} → Does list r c v → readOf c ≡ some f → f .erasing ≡ Forced h

@@ -12,9 +12,9 @@ use Rattle.answers.proofs.Tests.{no-path, and-left, and-right, and-no, and-both
 use Rattle.answers.proofs.Checks.{not-some}
 use Rattle.records.specs.declared.Record.{Record}
 use Rattle.records.specs.Steps.{isAbsent}
-use Rattle.rows.specs.Rows.{rowWords, numberAt}
+use Rattle.rows.specs.Rows.{rowWords, numberAt, one}
 use Rattle.tables.specs.Tables.{rowsIn}
-use Rattle.tables.specs.Figures.{one, howMany, hasNoticeAt}
+use Rattle.tables.specs.Figures.{howMany, hasNoticeAt}
 use Rattle.tables.proofs.Counts.{many-none, many-one, row-pends, recount-notices}
 use Rattle.tables.proofs.Sound.{table-ascending}
 use Rattle.tables.proofs.Stored.{row-found, row-at, record-found}
@@ -194,7 +194,7 @@ pending-sum start t kept =
         let place = row-at (t .table) (state-table t (kept .sound)) i l in
         ap one (row-pends (t .table) i) ∙ ap (λ o. one (not (isAbsent (noticeIn o)))) (sym (record-found (t .table) (numberAt (t .table) i) i place))
 
-pending-figures : (t : State) → stateSound t ≡ true → pendingIn t ≡ waitingFigure t + inFlightFigure t
+pub pending-figures : (t : State) → stateSound t ≡ true → pendingIn t ≡ waitingFigure t + inFlightFigure t
 pending-figures t sound = sym (recount-notices (t .table)) ∙ rw (sound-state t sound .figures) refl
 
 -- ---- from a table that is unsound, or with figures that are not right: every call is refused

@@ -73,7 +73,10 @@ read-sound string f e = sound-rules f (read-only (unpacked string) (request-read
 -- the checks of the record, by the operation
 abbrev pub recordChecks : Operation → Erasing → FunctionalNumber → Msisdn → Record → List (Bool × ℕ)
 recordChecks Register e number requester r =
-    (steps.isOwn number requester, 67) ∷ (not (steps.isNobody (r .holder)) && not (steps.same (r .holder) requester), 61) ∷ []
+    (steps.isOwn number requester, 67)
+    ∷ (r .closed, 64)
+    ∷ (not (steps.isNobody (r .holder)) && not (steps.same (r .holder) requester), 61)
+    ∷ []
 recordChecks Erase Empty number requester r = (steps.isNobody (r .holder), 62) ∷ (not (steps.mayErase number requester (r .holder)), 63) ∷ []
 recordChecks Erase (Forced m) number requester r =
     (steps.isNobody (r .holder), 62)

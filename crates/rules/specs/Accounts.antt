@@ -13,9 +13,9 @@ use Rattle.strings.specs.declared.Erasing.the-variants.{Empty, Forced}
 use Rattle.strings.specs.Text.{Request}
 use Rattle.records.specs.declared.Record.{Record}
 use Rattle.records.specs.Steps.{nobody, same, isAbsent, sendingsDone, mostSendings, lastKind}
-use Rattle.rows.specs.Rows.{numberAt}
+use Rattle.rows.specs.Rows.{numberAt, one}
 use Rattle.tables.specs.Tables.{rowsIn}
-use Rattle.tables.specs.Figures.{one, howMany, hasNoticeAt}
+use Rattle.tables.specs.Figures.{howMany, hasNoticeAt}
 use Rattle.states.specs.States.{State, recordFor}
 use Rattle.rules.specs.Answers.{deliveredNumber, droppedNumber, isOutcome, isResult, isSent}
 use Rattle.rules.specs.Run.{only, last, end, log}

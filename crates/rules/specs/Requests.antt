@@ -66,6 +66,11 @@ abbrev pub noNotice : Option Record → Bool
 noNotice none = true
 noNotice (some r) = isAbsent (r .notice)
 
+-- M-110: the number is closed
+abbrev pub isClosed : Option Record → Bool
+isClosed none = false
+isClosed (some r) = r .closed
+
 -- ---- the checks
 
 -- an outcome's answer, with its text in the reply
@@ -93,11 +98,12 @@ refusalChecks soundTable rightFigures list reply requester scheme string =
 abbrev pub rightChecks : ℕ → Erasing → List (Bool × ℕ)
 rightChecks flags erasing = (not (hasFollowMe flags), 42) ∷ (isForced erasing && not (isSupervisor flags), 22) ∷ []
 
--- the others by the record of the number: what a single step meets
+-- the others by the record of the number: what a single step meets; M-110: 64 "for registering a closed number, another holder or not, directly after 67"
 abbrev pub stepChecks : Msisdn → Request → Option Record → List (Bool × ℕ)
 stepChecks requester f r =
     (isNone r, 41)
     ∷ (isRegister (f .operation) && isOwn (f .number) requester, 67)
+    ∷ (isRegister (f .operation) && isClosed r, 64)
     ∷ (isRegister (f .operation) && (not (isNobody (holderIn r)) && not (same (holderIn r) requester)), 61)
     ∷ ((isErase (f .operation) || isInterrogate (f .operation)) && isNobody (holderIn r), 62)
     ∷ (isErase (f .operation) && not (permitted (f .number) requester (f .erasing) (holderIn r)), 63)

@@ -10,10 +10,10 @@ use Rattle.answers.specs.Checks.{decide}
 use Rattle.answers.proofs.Tests.{and-left, and-right, and-both}
 use Rattle.records.specs.declared.Record.{Record}
 use Rattle.records.specs.Steps.{isNobody, isWaiting, isInFlight}
-use Rattle.rows.specs.Rows.{rowSound, recordAt, stored, recordSound}
+use Rattle.rows.specs.Rows.{rowSound, recordAt, stored, recordSound, one}
 use Rattle.rows.proofs.Rows.{words-stored, record-sound, record-other, record-stored}
 use Rattle.tables.specs.Tables.{mostNumbers, rowsIn, tableSound}
-use Rattle.tables.specs.Figures.{isHeldAt, waitsAt, fliesAt, one, howMany, figureCount, recount}
+use Rattle.tables.specs.Figures.{isHeldAt, waitsAt, fliesAt, howMany, figureCount, recount}
 use Rattle.tables.proofs.Sound.{table-few, table-row}
 use Rattle.tables.proofs.Stored.{table-stored, rows-stored}
 use Rattle.tables.proofs.Counts.{one-most, many-most, many-has, many-changed, row-waits, row-flies}

@@ -8,10 +8,10 @@ use lib.Dec.{eqb}
 use Rattle.answers.specs.Checks.{decide}
 use Rattle.records.specs.declared.Record.{Record}
 use Rattle.records.specs.Steps.{isNobody, isWaiting, isInFlight}
-use Rattle.rows.specs.Rows.{recordAt, stored}
+use Rattle.rows.specs.Rows.{recordAt, stored, one}
 use Rattle.tables.specs.declared.Found.{Found}
 use Rattle.tables.specs.Tables.{tableSound, rowOf, recordFound, recordOf}
-use Rattle.tables.specs.Figures.{one, recount}
+use Rattle.tables.specs.Figures.{recount}
 
 pub record State : Type 0 where
   pub table : List ℕ
@@ -41,9 +41,13 @@ figuresRight s = sameWords (s .figures) (recount (s .table))
 abbrev pub stateSound : State → Bool
 stateSound s = tableSound (s .table) && figuresRight s
 
--- what is wrong with them: 2 for the table, 10 for the figures, 0 for neither
+-- 2 for an unsound table, 10 for figures that are not right
+abbrev pub stateChecks : State → List (Bool × ℕ)
+stateChecks s = (not (tableSound (s .table)), 2) ∷ (not (figuresRight s), 10) ∷ []
+
+-- what is wrong with them, 0 for neither
 abbrev pub refusalOf : State → ℕ
-refusalOf s = decide ((not (tableSound (s .table)), 2) ∷ (not (figuresRight s), 10) ∷ []) 0
+refusalOf s = decide (stateChecks s) 0
 
 -- ---- what is found in the table
 

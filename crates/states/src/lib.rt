@@ -50,7 +50,7 @@ fn counts_of(it: Record) -> Figures
 {
     let holder = it.holder;
     let notice = it.notice;
-    let held = tables::one_if(holder.0 != 0);
+    let held = rows::one_if(holder.0 != 0);
     match notice {
         Notice::Absent => Figures {
             held,

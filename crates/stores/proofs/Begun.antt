@@ -9,7 +9,7 @@ use lib.ListN.{length, getD, set, take, drop, drop-of-length-le}
 use lib.Seq.{length-take-le, take-suc, drop-cons, append-snoc, set-at, getD-at, set-split, take-suc-set, drop-set-lt}
 use Rattle.stores.specs.declared.Entry.{Entry}
 use Rattle.stores.specs.Stores.{blank, entryOf, begun, flagOf}
-use Rattle.stores.specs.Places.{closedAt}
+use Rattle.stores.specs.Places.{closedUp}
 
 module _ (due : ℕ → Bool) where
   -- an entry as the round has it
@@ -37,16 +37,16 @@ module _ (due : ℕ → Bool) where
       (sym (append-snoc front (anew (getD xs i blank)) (drop (suc i) xs)))
 
 module _ (l : List Entry) (i : ℕ) where
-  pub moves : i + 1 < length l → closedAt l i ≡ closedAt (set l i (getD l (i + 1) blank)) (i + 1)
-  unfolding closedAt
+  pub moves : i + 1 < length l → closedUp l i ≡ closedUp (set l i (getD l (i + 1) blank)) (i + 1)
+  unfolding closedUp
   moves h =
       let k : suc i < length l = omega arith in
       let k′ : i < length l = omega arith in
       let d : i < suc (suc i) = omega arith in
       rw (add-one, take-suc-set, drop-set-lt, append-snoc, drop-cons l (suc i) blank)
 
-  pub last : length l ≡ i + 1 → closedAt l i ≡ set l i blank
-  unfolding closedAt
+  pub last : length l ≡ i + 1 → closedUp l i ≡ set l i blank
+  unfolding closedUp
   last h =
       let k : i < length l = omega arith in
       let d : length l ≤ suc i = omega arith in

@@ -12,7 +12,7 @@ use Rattle.answers.proofs.Tests.{and-left, and-right, and-three}
 use Rattle.stores.specs.declared.Entry.{Entry}
 use Rattle.stores.specs.declared.Radio.{Radio}
 use Rattle.stores.specs.Stores.{mostStored, blank, isBlank, every, laid, holding}
-use Rattle.stores.specs.Places.{closedAt, withEntries}
+use Rattle.stores.specs.Places.{closedUp, withEntries}
 
 -- a field's array as the code has it: its elements taken apart
 pub unmapped : (Y : Type 0) (f : Entry → Y) (es : List Entry) (n : ℕ) → length (map f es) ≡ n → length es ≡ n
@@ -48,8 +48,8 @@ module _ (xs : List Entry) (full : length xs ≡ mostStored) where
         ∙ laid-front (set (take n xs) at e) (length-set (take n xs) at e ∙ size)
 
     -- an entry of them is left out
-    pub laid-closed : (at : ℕ) → at < n → closedAt xs at ≡ laid (take at (take n xs) ++ drop (suc at) (take n xs))
-    unfolding closedAt
+    pub laid-closed : (at : ℕ) → at < n → closedUp xs at ≡ laid (take at (take n xs) ++ drop (suc at) (take n xs))
+    unfolding closedUp
     laid-closed at h =
         let size = length-take-le n xs (rw full within) in
         let es = take n xs in

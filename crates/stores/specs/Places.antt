@@ -13,8 +13,8 @@ firstToAsk [] = 0
 firstToAsk (e ∷ es) = cond (isToAsk e) 0 (suc (firstToAsk es))
 
 -- without the entry at a place: those behind it move one down, and a blank comes last
-unfoldable pub closedAt : List Entry → ℕ → List Entry
-closedAt es at = take at es ++ (drop (suc at) es ++ (blank ∷ []))
+unfoldable pub closedUp : List Entry → ℕ → List Entry
+closedUp es at = take at es ++ (drop (suc at) es ++ (blank ∷ []))
 
 -- the radio with another count and other entries
 abbrev pub withEntries : Radio → ℕ → List Entry → Radio
@@ -30,4 +30,4 @@ abbrev pub keptAt : Radio → ℕ → ℕ → Radio
 keptAt radio at mark = withEntries radio (radio .count) (set (radio .entries) at (entryOf (getD (radio .entries) at blank .number) mark 0))
 
 abbrev pub droppedAt : Radio → ℕ → Radio
-droppedAt radio at = withEntries radio (radio .count - 1) (closedAt (radio .entries) at)
+droppedAt radio at = withEntries radio (radio .count - 1) (closedUp (radio .entries) at)

@@ -5,7 +5,7 @@ ghost use mathlib.Core.List.{_++_};
 ghost use Prim.Native.Nat.{_<_, _≤_};
 ghost use lib.ListN.{take, drop};
 ghost use Rattle.stores.specs.Stores.{mostStored, entriesIn, entrySound, isBlank, every, has, noneTwice, openOf, radioSound, holding, withNew, isDue, begun, settled, isOf, flagOf, dueBy};
-ghost use Rattle.stores.specs.Places.{firstToAsk, closedAt, keptAt, droppedAt};
+ghost use Rattle.stores.specs.Places.{firstToAsk, closedUp, keptAt, droppedAt};
 
 // It stores at most so many numbers.
 pub const MOST_STORED: usize = 16;
@@ -230,7 +230,7 @@ pub fn begin(radio: Radio, about: u64) -> Radio
 // The places behind one move down by one.
 fn closed(entries: [Entry; MOST_STORED], at: usize) -> [Entry; MOST_STORED]
     requires { ⌜ at < mostStored ⌝ }
-    ensures { λ r. ⌜ r ≡ closedAt entries at ⌝ }
+    ensures { λ r. ⌜ r ≡ closedUp entries at ⌝ }
 {
     let mut all = entries;
     let mut i = at;

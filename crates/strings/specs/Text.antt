@@ -1,10 +1,11 @@
 -- Document 01, "Request string" (000, 4.2.4.1), and document 02, M-100: the fields of a request, when they are sound, and their text. Assumes nothing.
 use Prim.Native.Nat.{ℕ, _%_}
 use mathlib.Core.Bool.{Bool, true, false, _&&_, _||_}
-use mathlib.Core.List.{List, [], _∷_, _++_}
+use mathlib.Core.List.{List, [], _∷_}
 use lib.ListN.{length}
 use lib.Dec.{leb, eqb}
 use Rattle.answers.specs.Ascii.{ascii}
+use Rattle.answers.specs.Joined.{joined}
 use Rattle.answers.specs.Leading.{each}
 use Rattle.numbers.specs.Numbers.{isDigit, isNumber, digitsOf}
 use Rattle.numbers.specs.declared.FunctionalNumber.{FunctionalNumber}
@@ -99,11 +100,6 @@ supervisorText (Forced m) = ascii "88"
 abbrev pub msisdnText : Erasing → List ℕ
 msisdnText Empty = []
 msisdnText (Forced m) = digitsOf (m .0)
-
--- the parts of a string, one behind the other
-abbrev pub joined : List (List ℕ) → List ℕ
-joined [] = []
-joined (part ∷ parts) = part ++ joined parts
 
 -- "In order: operation …; `214`; `*`; functional number; `*`; supervisor field; `*`; MSISDN to erase; `*`; additional field; `#` as last character"
 unfoldable pub textOf : Request → List ℕ

@@ -14,6 +14,9 @@ use strings::Erasing;
 use strings::Fields;
 use strings::Operation;
 use tables::Recounted;
+use timetable::Added;
+use timetable::Closed;
+use timetable::Compacted;
 use visits::FindingAnswer;
 use visits::RequestAnswer;
 use visits::ResultAnswer;
@@ -24,11 +27,13 @@ ghost use Rattle.frames.specs.Messages.{registerOf, releaseOf};
 ghost use Rattle.frames.specs.Read.{toldRegister, toldRelease};
 ghost use Rattle.tables.specs.Figures.{saidRecount};
 ghost use Rattle.image.specs.Images.{saidWrite, saidRead};
+ghost use Rattle.timetable.specs.Timetable.{saidClose, saidCompact, saidAdd};
 ghost use Rattle.visits.specs.Said.{saidRequest, saidSending, saidResult, saidFinding};
 ghost use Rattle.exchange.specs.Said.{saidFramed};
 ghost use Rattle.structs.specs.Numbers.{ofSaid, ofAnswer, ofOperation, ofErasing, ofCrew, codeCount, ofFields, structOf, operationOf, erasingOf};
 ghost use Rattle.structs.specs.Figures.{ofFigures};
 ghost use Rattle.structs.specs.Images.{ofImage};
+ghost use Rattle.structs.specs.Changes.{ofChange};
 ghost use Rattle.structs.specs.Frames.{stringless, stringAt, ofRegister, ofRelease};
 
 // The classes of an answer.
@@ -55,6 +60,10 @@ const RETURN_ERROR: u32 = 9;
 const REJECT: u32 = 10;
 
 const COUNTED: u32 = 11;
+
+const CLOSED: u32 = 12;
+
+const ROWS: u32 = 13;
 
 // The refusal of an unsound table.
 const UNSOUND_TABLE: u32 = 2;
@@ -313,6 +322,46 @@ pub fn of_image_read(read: ImageRead) -> ImageCounts
             number: 0,
             numbers,
             subscribers,
+        },
+    }
+}
+
+// A number closed, or a refusal.
+pub fn of_closed(closed: Closed) -> Answer
+    ensures { λ r. ⌜ r ≡ ofChange (saidClose closed) ⌝ }
+{
+    match closed {
+        Closed::Refused(n) => numbered(REFUSAL, n as u32),
+        Closed::Done => numbered(CLOSED, 0),
+    }
+}
+
+// The rows now in use and how many went, or a refusal.
+pub fn of_compacted(compacted: Compacted) -> Answer
+    ensures { λ r. ⌜ r ≡ ofChange (saidCompact compacted) ⌝ }
+{
+    match compacted {
+        Compacted::Refused(n) => numbered(REFUSAL, n as u32),
+        Compacted::Rows(gone, used) => Answer {
+            class: ROWS,
+            number: 0,
+            count: used,
+            value: gone as u64,
+        },
+    }
+}
+
+// The rows now in use, or a refusal.
+pub fn of_added(added: Added) -> Answer
+    ensures { λ r. ⌜ r ≡ ofChange (saidAdd added) ⌝ }
+{
+    match added {
+        Added::Refused(n) => numbered(REFUSAL, n as u32),
+        Added::Rows(used) => Answer {
+            class: ROWS,
+            number: 0,
+            count: used,
+            value: 0,
         },
     }
 }

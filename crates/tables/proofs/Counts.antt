@@ -15,13 +15,13 @@ use Rattle.answers.specs.Checks.{onlyIf}
 use Rattle.answers.proofs.Tests.{same-or-not, less-or-not}
 use Rattle.answers.proofs.Checks.{not-some, onlyIf-some}
 use Rattle.records.specs.Steps.{isAbsent, isWaiting, isInFlight}
-use Rattle.rows.specs.Rows.{phaseAt, secondAt, noticeOf, recordAt}
+use Rattle.rows.specs.Rows.{phaseAt, secondAt, noticeOf, recordAt, one}
 use Rattle.rows.proofs.Notices.{by-phase}
 use Rattle.tables.specs.declared.Figures.{Figures}
 use Rattle.tables.specs.declared.Recounted.{Recounted}
 use Rattle.tables.specs.declared.Recounted.the-variants.{Unsound, Counted}
 use Rattle.tables.specs.Tables.{rowsIn, tableSound}
-use Rattle.tables.specs.Figures.{isHeldAt, waitsAt, fliesAt, isFreeAt, hasNoticeAt, one, howMany, countsTo, recount, figureWords, Few, withRow, saidRecount, recounted}
+use Rattle.tables.specs.Figures.{isHeldAt, waitsAt, fliesAt, isFreeAt, hasNoticeAt, howMany, countsTo, recount, figureWords, Few, withRow, saidRecount, recounted}
 
 -- ---- one row changes
 

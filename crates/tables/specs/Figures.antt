@@ -1,11 +1,11 @@
 -- Document 02, M-103: "numbers held, notices waiting and notices in flight", counted over the words of a table. Assumes nothing.
 use Prim.Native.Nat.{ℕ, zero, suc, _+_, _%_, _≤_}
-use mathlib.Core.Bool.{Bool, cond, not, _&&_}
+use mathlib.Core.Bool.{Bool, not, _&&_}
 use mathlib.Core.Option.{Option, none, some}
 use mathlib.Core.List.{List, [], _∷_}
 use lib.Dec.{eqb}
 use Rattle.answers.specs.Checks.{onlyIf}
-use Rattle.rows.specs.Rows.{holderAt, phaseAt}
+use Rattle.rows.specs.Rows.{holderAt, phaseAt, one}
 use Rattle.tables.specs.declared.Figures.{Figures}
 use Rattle.tables.specs.declared.Recounted.{Recounted}
 use Rattle.tables.specs.declared.Recounted.the-variants.{Unsound, Counted}
@@ -27,10 +27,6 @@ isFreeAt t i = eqb (holderAt t i) 0
 
 abbrev pub hasNoticeAt : List ℕ → ℕ → Bool
 hasNoticeAt t i = not (eqb (phaseAt t i) 0)
-
--- one where it is so
-abbrev pub one : Bool → ℕ
-one b = cond b 1 0
 
 -- how many of the rows below n pass the test
 abbrev pub howMany : (ℕ → Bool) → ℕ → ℕ

@@ -16,7 +16,7 @@ ghost use lib.Dec.{leb};
 ghost use Rattle.tables.specs.Keys.{key, every, ascends, placeOf};
 ghost use Rattle.tables.specs.Tables.{mostNumbers, rowsIn, tableSound, rowOf, mostFlags, listSound, flagsOf};
 ghost use Rattle.tables.specs.Ends.{endFor, within, pairWithin};
-ghost use Rattle.tables.specs.Figures.{one, Few, withRow, saidRecount, recounted};
+ghost use Rattle.tables.specs.Figures.{Few, withRow, saidRecount, recounted};
 
 // Where a number stands among the rows.
 pub enum Found {
@@ -66,20 +66,13 @@ fn end_for(word: u64, end: u64) -> u64
     2 * least_for(word)
 }
 
-// 1 where it is so, else 0.
-pub fn one_if(so: bool) -> u64
-    ensures { λ r. ⌜ r ≡ one so ⌝ }
-{
-    so as u64
-}
-
 // Counts the row that the words begin with; a row without a notice, as most are, takes one branch.
 fn count_row(figures: Figures, words: &[u64]) -> Figures
     requires { ⌜ 0 < rowsIn (now words) ⌝ }
     requires { ⌜ Few figures mostNumbers ⌝ }
     ensures { λ r. ⌜ r ≡ withRow figures (now (words .entry)) 0 ⌝ }
 {
-    let held = figures.held + one_if(words[HOLDER] != 0);
+    let held = figures.held + rows::one_if(words[HOLDER] != 0);
     let waiting = figures.waiting;
     let flying = figures.flying;
     let phase = words[PHASE];

@@ -3,11 +3,16 @@
 //! words that a call has to test. Buffers are touched first; each figure is the
 //! best of many rounds, the rounds taken in turn.
 
-use ffn::c;
+use ffn::{c, MOST_NUMBERS, NUMBER_WORDS};
 use std::hint::black_box;
 use std::time::Instant;
 
 const ROUNDS: usize = 300;
+
+/// Words of a row: the holder, those of the notice, and whether it is closed.
+const HOLDER: usize = 1;
+const NOTICE: std::ops::Range<usize> = 2..6;
+const CLOSED: usize = 6;
 
 /// Nanoseconds a call, the best of the rounds, of several rivals taken in turn.
 fn best<const N: usize>(calls: usize, rivals: &mut [&mut dyn FnMut(); N]) -> [f64; N] {
@@ -155,7 +160,7 @@ const SUBSCRIBERS: u64 = 14_915_100_000;
 /// Numbers held by subscribers, none with a notice.
 fn table(rows: usize) -> Vec<u64> {
     (0..rows as u64)
-        .flat_map(|i| [NUMBERS + 7 * i, SUBSCRIBERS + 3 * i, 0, 0, 0, 0])
+        .flat_map(|i| [NUMBERS + 7 * i, SUBSCRIBERS + 3 * i, 0, 0, 0, 0, 0])
         .collect()
 }
 
@@ -255,10 +260,10 @@ fn calls(lines: &mut Vec<Line>, numbers: usize, subscribers: usize) {
         return;
     }
     // A notice to send, and one in flight, set anew before each call.
-    let row = |phase: u64| [number, 0, phase, SUBSCRIBERS, SUBSCRIBERS + 3, 0];
+    let row = |phase: u64| [number, 0, phase, SUBSCRIBERS, SUBSCRIBERS + 3, 0, 0];
     let set = |t: &mut [u64], phase: u64| {
         if numbers > 0 {
-            t[6 * middle..6 * middle + 6].copy_from_slice(&row(phase));
+            t[NUMBER_WORDS * middle..][..NUMBER_WORDS].copy_from_slice(&row(phase));
         }
     };
     // The figures of a table set so.
@@ -367,7 +372,7 @@ fn crews() {
     let people = list(4096);
     let requester = SUBSCRIBERS + 3 * 2048;
     let rows: Vec<u64> = (0..1024)
-        .flat_map(|i| [NUMBERS + i, requester, 0, 0, 0, 0])
+        .flat_map(|i| [NUMBERS + i, requester, 0, 0, 0, 0, 0])
         .collect();
     let lead = NUMBERS + 501;
     let of = |call: &'static str, field: &[u8], reply: &[u8]| {
@@ -584,6 +589,107 @@ fn images() {
     line(&mut Vec::new(), "reading", 1024, 4096, t);
 }
 
+/// What compacting and adding are measured on: rows in a buffer of 1,024, and how
+/// many of them are in use.
+struct Rows {
+    words: Vec<u64>,
+    rows: usize,
+    figures: [u64; 3],
+}
+
+/// A change of such rows by ours and Rust's, each on its own words, which are set
+/// anew before each call, and the bare pass: a copy of the words, which both of
+/// them make too and which is taken off.
+fn changed<Ours, Rust>(
+    call: &'static str,
+    before: &Rows,
+    mut ours: impl FnMut(&mut [u64]) -> Ours,
+    mut theirs: impl FnMut(&mut [u64]) -> Rust,
+) {
+    let (mut a, mut b, mut copied) = (
+        before.words.clone(),
+        before.words.clone(),
+        vec![1; before.words.len()],
+    );
+    let t = best(
+        50,
+        &mut [
+            &mut || {
+                a.copy_from_slice(black_box(&before.words));
+                black_box(ours(&mut a));
+            },
+            &mut || {
+                b.copy_from_slice(black_box(&before.words));
+                black_box(theirs(&mut b));
+            },
+            &mut || {
+                copied.copy_from_slice(black_box(&before.words));
+                black_box(&copied);
+            },
+        ],
+    );
+    assert!(a == b && a != before.words, "the same rows, changed");
+    let t = [t[0] - t[2], t[1] - t[2], t[2]];
+    line(&mut Vec::new(), call, before.rows, 0, t);
+}
+
+/// Whether the row at a place goes.
+type Goes = fn(usize) -> bool;
+
+/// Adding to a table that is full then, in front, in the middle and behind, and
+/// compacting full ones.
+fn withdrawals() {
+    println!("\nadding and compacting at full size, the bare pass a copy of the words:");
+    let whole = table(MOST_NUMBERS);
+    for (call, place) in [
+        ("add first", 0),
+        ("add middle", MOST_NUMBERS / 2),
+        ("add last", MOST_NUMBERS - 1),
+    ] {
+        let (front, behind) = whole.split_at(NUMBER_WORDS * place);
+        let mut words = [front, &behind[NUMBER_WORDS..]].concat();
+        let (rows, number) = (MOST_NUMBERS - 1, behind[0]);
+        let figures = figures(&words);
+        words.resize(whole.len(), 1);
+        let before = Rows {
+            words,
+            rows,
+            figures,
+        };
+        changed(
+            call,
+            &before,
+            |words| c::add(words, rows, &before.figures, black_box(number)),
+            |words| oracle::add(words, rows, &before.figures, black_box(number)),
+        );
+    }
+    let goes: [(_, Goes); 3] = [
+        ("one goes", |i| i == 0),
+        ("half go", |i| draw(i).is_multiple_of(2)),
+        ("all go", |_| true),
+    ];
+    for (call, goes) in goes {
+        let mut words = whole.clone();
+        for (i, row) in words.chunks_mut(NUMBER_WORDS).enumerate() {
+            if goes(i) {
+                (row[HOLDER], row[CLOSED]) = (0, 1);
+            }
+        }
+        let (rows, figures) = (MOST_NUMBERS, figures(&words));
+        let before = Rows {
+            words,
+            rows,
+            figures,
+        };
+        changed(
+            call,
+            &before,
+            |words| c::compact(words, rows, &before.figures),
+            |words| oracle::compact(words, rows, &before.figures),
+        );
+    }
+}
+
 /// Nanoseconds that one row more costs, between two sizes.
 fn growth(lines: &[Line]) {
     let at = |call, numbers, subscribers| {
@@ -609,7 +715,7 @@ fn growth(lines: &[Line]) {
 /// The test of 1,024 rows that are harder than usual, through a finding that is refused right after it.
 fn harder(what: &str, change: impl Fn(usize, &mut [u64])) {
     let mut words = table(1024);
-    for (i, row) in words.chunks_mut(6).enumerate() {
+    for (i, row) in words.chunks_mut(NUMBER_WORDS).enumerate() {
         change(i, row);
     }
     let t = best(
@@ -647,21 +753,22 @@ fn main() {
     growth(&lines);
     recount();
     images();
+    withdrawals();
     crews();
     framed();
     registers();
     harder("a notice in each", |i, row| {
         let addressee = SUBSCRIBERS + 5 * i as u64;
-        row[2..].copy_from_slice(&[3, addressee, addressee + 1, 77]);
+        row[NOTICE].copy_from_slice(&[3, addressee, addressee + 1, 77]);
     });
     harder("half of them free, without pattern", |i, row| {
         if draw(i).is_multiple_of(2) {
-            row[1] = 0;
+            row[HOLDER] = 0;
         }
     });
     harder("holders of two lengths, without pattern", |i, row| {
         if draw(i).is_multiple_of(2) {
-            row[1] += 9 * SUBSCRIBERS;
+            row[HOLDER] += 9 * SUBSCRIBERS;
         }
     });
 }

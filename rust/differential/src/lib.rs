@@ -197,6 +197,22 @@ fn ask_library(lent: &mut Lent) -> Said {
             list,
             figures,
         } => Said::Rows(rows(c::read_image(image, table, list, figures))),
+        Call::Close {
+            table,
+            figures,
+            number,
+        } => answer(c::close(table, figures, *number)),
+        Call::Compact {
+            words,
+            rows,
+            figures,
+        } => answer(c::compact(words, *rows, figures)),
+        Call::Add {
+            words,
+            rows,
+            figures,
+            number,
+        } => answer(c::add(words, *rows, figures, *number)),
     }
 }
 
@@ -370,6 +386,11 @@ fn answer(answer: c::Answer) -> Said {
         (c::RESULT, 2, 0, 0) => Answer::Again,
         (c::FOUND, 0, 0, number) => Answer::Found(number),
         (c::NONE_DUE, 0, 0, 0) => Answer::NoneDue,
+        (c::CLOSED, 0, 0, 0) => Answer::Closed,
+        (c::ROWS, 0, in_use, gone) => Answer::Rows {
+            in_use,
+            gone: usize::try_from(gone).expect("no more rows than there were"),
+        },
         _ => panic!("{answer:?}"),
     })
 }
@@ -416,6 +437,9 @@ fn kind(call: &Call, said: &Said) -> String {
         Call::ReadRelease { .. } => "read release",
         Call::WriteImage { .. } => "write image",
         Call::ReadImage { .. } => "read image",
+        Call::Close { .. } => "close",
+        Call::Compact { .. } => "compact",
+        Call::Add { .. } => "add",
     };
     let said = match said {
         Said::Answer(Answer::Refusal(n)) | Said::Count(Err(n)) => format!("refused {n}"),
@@ -425,6 +449,8 @@ fn kind(call: &Call, said: &Said) -> String {
         Said::Answer(Answer::Reject { problem, .. }) => format!("reject {problem}"),
         Said::Answer(Answer::Sent { .. }) => "sent".into(),
         Said::Answer(Answer::Found(_)) => "found".into(),
+        Said::Answer(Answer::Rows { gone: 0, .. }) => "rows".into(),
+        Said::Answer(Answer::Rows { .. }) => "fewer rows".into(),
         Said::Answer(answer) => format!("{answer:?}").to_lowercase(),
         Said::Figures(Some(_)) => "counted".into(),
         Said::Figures(None) => "refused 2".into(),
@@ -468,7 +494,7 @@ mod tests {
         expected("request", "error 35, error 36, error 71");
         expected(
             "request",
-            "01, 02, 03, 11, 12, 22, 41, 42, 61, 62, 63, 67, 68",
+            "01, 02, 03, 11, 12, 22, 41, 42, 61, 62, 63, 64, 67, 68",
         );
         expected("sending", "refused 1, refused 2, refused 4, refused 5");
         expected("sending", "refused 6, refused 7, refused 10, sent");
@@ -487,7 +513,7 @@ mod tests {
         expected(
             "framed request",
             "refused 1, refused 11, refused 8, refused 2, refused 10, reject 1, reject 2, \
-             error 35, error 36, error 71, 01, 02, 03, 11, 12, 22, 41, 42, 61, 62, 63",
+             error 35, error 36, error 71, 01, 02, 03, 11, 12, 22, 41, 42, 61, 62, 63, 64",
         );
         expected("read register", "request, problem 1, problem 2, refused 11");
         expected("read release", "result, error, reject, refused 11");
@@ -501,5 +527,10 @@ mod tests {
             "refused 30, refused 31, refused 32, refused 34",
         );
         expected("read image", "refused 33, refused 2, refused 8, read");
+        expected("close", "refused 2, refused 10, refused 7, refused 52");
+        expected("close", "closed");
+        expected("compact", "refused 2, refused 10, rows, fewer rows");
+        expected("add", "refused 2, refused 10, refused 7, refused 51");
+        expected("add", "refused 50, rows");
     }
 }

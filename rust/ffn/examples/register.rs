@@ -5,7 +5,7 @@ use std::error::Error;
 fn main() -> Result<(), Box<dyn Error>> {
     let number: FunctionalNumber = "0492123401".parse()?;
     let driver: Msisdn = "4915100001".parse()?;
-    let table = &mut [number.word(), 0, 0, 0, 0, 0];
+    let table = &mut [number.word(), 0, 0, 0, 0, 0, 0];
     let figures = &mut Figures::recount(table)?; // once, at the start
     let list = [driver.word(), 1];
     let (string, reply) = (&mut [0; 160], &mut [0; 80]);

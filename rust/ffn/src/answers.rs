@@ -72,6 +72,9 @@ reason! {
         Limit = 32: "a count of rows is over its limit",
         ImageRoom = 33: "a buffer is too small for the image, or for what it holds",
         Unfilled = 34: "the rows do not fill the distance",
+        Full = 50: "the table has 1,024 rows, or the buffer has no room for one more",
+        Present = 51: "the functional number is already in the table",
+        Absent = 52: "the functional number is not in the table",
     }
 }
 
@@ -173,6 +176,8 @@ pub enum Outcome {
     /// 63: a plain erasure by one who is neither the holder nor the number's own
     /// subscriber, or a forced one that does not name the holder.
     WrongHolder,
+    /// 64: the number is closed.
+    Closed,
     /// 67: number and requester have the same digits.
     SameDigits,
     /// 68: a notice of the number has not ended.
@@ -194,6 +199,7 @@ impl Outcome {
             Self::HeldByAnother => 61,
             Self::NoHolder => 62,
             Self::WrongHolder => 63,
+            Self::Closed => 64,
             Self::SameDigits => 67,
             Self::NoticePending => 68,
         }

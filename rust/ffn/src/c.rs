@@ -21,6 +21,9 @@ pub const RETURN_ERROR: u32 = 9;
 pub const REJECT: u32 = 10;
 /// Of [`recount`].
 pub const COUNTED: u32 = 11;
+/// Of [`close`], and of [`compact`] and [`add`].
+pub const CLOSED: u32 = 12;
+pub const ROWS: u32 = 13;
 
 /// `struct ffn_answer`. A field that its class does not name is 0.
 #[repr(C)]
@@ -29,9 +32,10 @@ pub struct Answer {
     pub class: u32,
     /// Of a refusal, an error, an outcome, a result or a Reject.
     pub number: u32,
-    /// Of octets or characters.
+    /// Of octets, characters or rows.
     pub count: usize,
-    /// The holder's MSISDN, the notice's addressee or the number found.
+    /// The holder's MSISDN, the notice's addressee, the number found or how many
+    /// rows went.
     pub value: u64,
 }
 
@@ -250,6 +254,28 @@ mod linked {
             figures: *mut u64,
             figure_words: usize,
         ) -> ImageRead;
+        pub fn ffn_close(
+            table: *mut u64,
+            table_words: usize,
+            figures: *const u64,
+            figure_words: usize,
+            functional_number: u64,
+        ) -> Answer;
+        pub fn ffn_compact(
+            words: *mut u64,
+            word_count: usize,
+            rows: usize,
+            figures: *const u64,
+            figure_words: usize,
+        ) -> Answer;
+        pub fn ffn_add(
+            words: *mut u64,
+            word_count: usize,
+            rows: usize,
+            figures: *const u64,
+            figure_words: usize,
+            functional_number: u64,
+        ) -> Answer;
         pub fn ffn_radio_store(radio: *mut Radio, number: u64) -> RadioDoing;
         pub fn ffn_radio_notice(
             radio: *mut Radio,
@@ -473,6 +499,43 @@ pub fn read_image(
             list.len(),
             figures.as_mut_ptr(),
             figures.len(),
+        )
+    }
+}
+
+pub fn close(table: &mut [u64], figures: &[u64], functional_number: u64) -> Answer {
+    unsafe {
+        linked::ffn_close(
+            table.as_mut_ptr(),
+            table.len(),
+            figures.as_ptr(),
+            figures.len(),
+            functional_number,
+        )
+    }
+}
+
+pub fn compact(words: &mut [u64], rows: usize, figures: &[u64]) -> Answer {
+    unsafe {
+        linked::ffn_compact(
+            words.as_mut_ptr(),
+            words.len(),
+            rows,
+            figures.as_ptr(),
+            figures.len(),
+        )
+    }
+}
+
+pub fn add(words: &mut [u64], rows: usize, figures: &[u64], functional_number: u64) -> Answer {
+    unsafe {
+        linked::ffn_add(
+            words.as_mut_ptr(),
+            words.len(),
+            rows,
+            figures.as_ptr(),
+            figures.len(),
+            functional_number,
         )
     }
 }

@@ -101,6 +101,7 @@ pub(crate) fn outcome(number: u32, value: u64, octets: &[u8]) -> Outcome {
         61 => Outcome::HeldByAnother,
         62 => Outcome::NoHolder,
         63 => Outcome::WrongHolder,
+        64 => Outcome::Closed,
         67 => Outcome::SameDigits,
         68 => Outcome::NoticePending,
         _ => unreachable!("outcome {number}"),

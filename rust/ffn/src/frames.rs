@@ -25,7 +25,7 @@ pub const FRAME_ROOM: usize = 120;
 ///
 /// let number: FunctionalNumber = "0492123401".parse()?;
 /// let driver: Msisdn = "4915100001".parse()?;
-/// let mut table = [number.word(), 0, 0, 0, 0, 0];
+/// let mut table = [number.word(), 0, 0, 0, 0, 0, 0];
 /// let mut figures = Figures::recount(&table)?;
 /// let list = [driver.word(), 1];
 /// let (mut register, mut release) = ([0; FRAME_ROOM], [0; FRAME_ROOM]);

@@ -5,7 +5,7 @@ use crate::Figures;
 use crate::{c, calls::refusal, calls::written, Refusal};
 
 /// The words of a table's row, and the most rows.
-pub const NUMBER_WORDS: usize = 6;
+pub const NUMBER_WORDS: usize = 7;
 pub const MOST_NUMBERS: usize = 1024;
 
 /// The words of a list's row, and the most rows.
@@ -43,16 +43,16 @@ pub struct ReadImage {
 ///
 /// # Examples
 /// ```
-/// use ffn::{image_size, read_image, write_image, Figures};
+/// use ffn::{image_size, read_image, write_image, Figures, NUMBER_WORDS};
 ///
-/// let table = [10_492_123_401, 14_915_100_001, 0, 0, 0, 0];
+/// let table = [10_492_123_401, 14_915_100_001, 0, 0, 0, 0, 0];
 /// let list = [14_915_100_001, 1];
 /// let figures = Figures::recount(&table)?;
 /// let mut image = [0; image_size(1, 1)];
 /// let size = write_image(&table, &figures, &list, &mut image)?;
 ///
 /// // On the new hardware.
-/// let (mut rows, mut people) = ([0; 6], [0; 2]);
+/// let (mut rows, mut people) = ([0; NUMBER_WORDS], [0; 2]);
 /// let read = read_image(&image[..size], &mut rows, &mut people)?;
 /// assert_eq!((read.numbers, read.subscribers, read.figures), (1, 1, figures));
 /// assert_eq!((rows, people), (table, list));
@@ -70,7 +70,8 @@ pub fn write_image(
 
 /// Reads an image: its rows are written to the front of table and list, and its
 /// figures are recounted. [`MOST_NUMBERS`] and [`MOST_SUBSCRIBERS`] rows are room
-/// for any image.
+/// for any image. One from before rows had their seventh word is refused as one
+/// that does not fill the distance, unless it has no numbers.
 ///
 /// # Errors
 /// [`Refusal::NoTrailer`], [`Refusal::Distance`], [`Refusal::Limit`],

@@ -5,15 +5,22 @@
 //! what documents 01 and 02 say. This crate turns their numbers into enums and
 //! adds nothing of its own.
 //!
-//! A table has six words a number, a list two words a subscriber, as document
-//! 01 lays them out. The [`Figures`] of a table are recounted once, at the start,
-//! and lent with it from then on; each call that is not refused keeps them
-//! right. Whatever a call refuses or finds in error, it touches no memory, but that a framed request in error or rejected writes the frame that
-//! says so; what a call writes stands at the start of the buffer, and
-//! everything beyond its count stays.
+//! A table has seven words a number, a list two words a subscriber, as document
+//! 01 lays them out; the seventh is 0 for an open number and 1 for a closed one.
+//! The [`Figures`] of a table are recounted once, at the start, and lent with it
+//! from then on; each call that is not refused keeps them right. Whatever a call
+//! refuses or finds in error, it touches no memory, but that a framed request in
+//! error or rejected writes the frame that says so; what a call writes stands at
+//! the start of the buffer, and everything beyond its count stays, but that
+//! compacting makes the words that it frees 0.
 //!
 //! Table and list move to new hardware as one image, whose figures are recounted
 //! where it is read.
+//!
+//! A number that is withdrawn is closed (`close`): it keeps its holder and its
+//! notice until they run out, and nobody registers it. Then its row goes
+//! (`compact`) and is used again (`add`); both work on the rows in use at the
+//! front of a buffer, and return their count.
 //!
 //! The archives are x86-64 code. Without the feature `archive` the numbers and
 //! answers are there alone, on any processor.
@@ -31,6 +38,8 @@ mod frames;
 mod image;
 mod number;
 pub mod radio;
+#[cfg(feature = "archive")]
+mod withdrawal;
 
 pub use answers::{
     Answered, Failure, FramedReply, Kind, Message, Operation, Outcome, Problem, Refusal, Register,
@@ -51,3 +60,5 @@ pub use image::{
 #[cfg(feature = "archive")]
 pub use image::{read_image, write_image};
 pub use number::{FunctionalNumber, Msisdn, NumberError};
+#[cfg(feature = "archive")]
+pub use withdrawal::{add, close, compact, Compacted};

@@ -3,7 +3,7 @@
 use ffn::{
     finding, pack, read_request, unpack, write_request, Crew, CrewField, Failure, Figures,
     FunctionalNumber, Kind, Msisdn, Operation, Outcome, Refusal, Reply, Request, RequestError,
-    Resulted, Sent, CODING_SCHEME,
+    Resulted, Sent, CODING_SCHEME, NUMBER_WORDS,
 };
 
 const UNTOUCHED: u8 = 0xEE;
@@ -33,13 +33,13 @@ fn list() -> [u64; 6] {
 }
 
 /// F, held by `holder` or free, with no notice.
-fn held_by(holder: Option<Msisdn>) -> [u64; 6] {
-    [f().word(), holder.map_or(0, Msisdn::word), 0, 0, 0, 0]
+fn held_by(holder: Option<Msisdn>) -> [u64; NUMBER_WORDS] {
+    [f().word(), holder.map_or(0, Msisdn::word), 0, 0, 0, 0, 0]
 }
 
 /// F, free, with a notice to A from B.
-fn notice(phase: u64, failure: u64) -> [u64; 6] {
-    [f().word(), 0, phase, a().word(), b().word(), failure]
+fn notice(phase: u64, failure: u64) -> [u64; NUMBER_WORDS] {
+    [f().word(), 0, phase, a().word(), b().word(), failure, 0]
 }
 
 fn packed(text: &str) -> Vec<u8> {
@@ -172,7 +172,7 @@ fn p10_to_p12_and_other_negative_answers() {
     );
     assert_eq!(ask(&mut table, b(), INTERROGATE), Ok(Outcome::Held(a())));
     assert_eq!(table, held_by(Some(a())));
-    let mut same = [a().word(), 0, 0, 0, 0, 0];
+    let mut same = [a().word(), 0, 0, 0, 0, 0, 0];
     assert_eq!(
         ask(&mut same, a(), "**214*4915100001***#"),
         Ok(Outcome::SameDigits)
@@ -255,7 +255,7 @@ fn p15_a_second_forced_erasure_before_the_notice_ends() {
 
 #[test]
 fn refusals_of_a_request_in_their_order() {
-    let mut unsound = [1, 0, 0, 0, 0, 0];
+    let mut unsound = [1, 0, 0, 0, 0, 0, 0];
     let mut reply = [UNTOUCHED; 80];
     let string = packed(REGISTER);
     let mut table = held_by(None);
@@ -297,14 +297,14 @@ fn refusals_of_a_request_in_their_order() {
         ),
         error(RequestError::UnexpectedDataValue)
     );
-    assert_eq!(unsound, [1, 0, 0, 0, 0, 0]);
+    assert_eq!(unsound, [1, 0, 0, 0, 0, 0, 0]);
     assert_eq!(table, held_by(None));
     assert_eq!(reply, [UNTOUCHED; 80]);
 }
 
 #[test]
 fn refusals_for_notices_in_their_order() {
-    let mut unsound = [1, 0, 0, 0, 0, 0];
+    let mut unsound = [1, 0, 0, 0, 0, 0, 0];
     let mut buffer = [UNTOUCHED; 80];
     let mut table = notice(4, 0);
     let absent = "0492123402".parse().unwrap();
@@ -370,11 +370,11 @@ fn crews_read_back_as_they_were_written() {
 }
 
 /// F and the number behind it, by their holders.
-fn crew_of(lead: Option<Msisdn>, second: Option<Msisdn>) -> [u64; 12] {
-    let mut table = [0; 12];
-    table[..6].copy_from_slice(&held_by(lead));
-    table[6..].copy_from_slice(&held_by(second));
-    table[6] += 1;
+fn crew_of(lead: Option<Msisdn>, second: Option<Msisdn>) -> [u64; 2 * NUMBER_WORDS] {
+    let mut table = [0; 2 * NUMBER_WORDS];
+    table[..NUMBER_WORDS].copy_from_slice(&held_by(lead));
+    table[NUMBER_WORDS..].copy_from_slice(&held_by(second));
+    table[NUMBER_WORDS] += 1;
     table
 }
 

@@ -75,14 +75,17 @@ fn ask(
 #[test]
 fn a_recount() {
     assert_eq!(Figures::recount(&[]), Ok(Figures::default()));
-    assert_eq!(Figures::recount(&[F, A, 0, 0, 0, 0]), Ok(figures(1, 0, 0)));
+    assert_eq!(
+        Figures::recount(&[F, A, 0, 0, 0, 0, 0]),
+        Ok(figures(1, 0, 0))
+    );
     let phases: Vec<u64> = (1..=12)
-        .flat_map(|phase| [F + phase, 0, phase, A, B, 0])
+        .flat_map(|phase| [F + phase, 0, phase, A, B, 0, 0])
         .collect();
     assert_eq!(Figures::recount(&phases), Ok(figures(0, 6, 6)));
-    let full: Vec<u64> = (0..1024).flat_map(|n| [F + n, A, 2, A, B, 0]).collect();
+    let full: Vec<u64> = (0..1024).flat_map(|n| [F + n, A, 2, A, B, 0, 0]).collect();
     assert_eq!(Figures::recount(&full), Ok(figures(1024, 0, 1024)));
-    for unsound in [&[F][..], &[F, 7, 0, 0, 0, 0], &[F, 0, 13, A, B, 0]] {
+    for unsound in [&[F][..], &[F, 7, 0, 0, 0, 0, 0], &[F, 0, 13, A, B, 0, 0]] {
         assert_eq!(Figures::recount(unsound), Err(Refusal::TableUnsound));
         let refused = c::Figures {
             class: c::REFUSAL,
@@ -98,7 +101,7 @@ fn a_recount() {
 
 #[test]
 fn requests() {
-    let (mut table, mut lent) = ([F, 0, 0, 0, 0, 0], Figures::default());
+    let (mut table, mut lent) = ([F, 0, 0, 0, 0, 0, 0], Figures::default());
     for (requester, text, outcome, after) in [
         (A, REGISTER, Outcome::Registered, figures(1, 0, 0)),
         (A, REGISTER, Outcome::Registered, figures(1, 0, 0)),
@@ -120,7 +123,7 @@ fn requests() {
 
 #[test]
 fn a_crew_of_ten() {
-    let mut table: Vec<u64> = (0..10).flat_map(|n| [F + n, 0, 0, 0, 0, 0]).collect();
+    let mut table: Vec<u64> = (0..10).flat_map(|n| [F + n, 0, 0, 0, 0, 0, 0]).collect();
     let mut lent = Figures::default();
     for (text, held) in [
         ("**214*0492123401***BULK9 020304050607080910#", 10),
@@ -142,7 +145,7 @@ fn sendings_and_results() {
         (Kind::ServiceNotSupported, Resulted::Dropped, [1, 0, 0]),
         (Kind::OtherError, Resulted::Again, [1, 1, 0]),
     ] {
-        let (mut table, mut lent) = ([F, B, 1, A, B, 0], figures(1, 1, 0));
+        let (mut table, mut lent) = ([F, B, 1, A, B, 0, 0], figures(1, 1, 0));
         let mut buffer = [UNTOUCHED; BUFFER_ROOM];
         assert!(sending(&mut table, &mut lent, &mut buffer, f(), 60, 7).is_ok());
         assert_eq!(lent, figures(1, 0, 1));
@@ -153,7 +156,7 @@ fn sendings_and_results() {
 
 #[test]
 fn framed_requests() {
-    let (mut table, mut lent) = ([F, 0, 0, 0, 0, 0], Figures::default());
+    let (mut table, mut lent) = ([F, 0, 0, 0, 0, 0, 0], Figures::default());
     let requester = Msisdn::from_word(A).unwrap();
     let mut frame = [UNTOUCHED; FRAME_ROOM];
     let mut ask = |lent: &mut Figures, message: &[u8]| {
@@ -178,7 +181,7 @@ fn framed_requests() {
 
 #[test]
 fn others_are_refused_directly_behind_an_unsound_table() {
-    let held = [F, A, 0, 0, 0, 0];
+    let held = [F, A, 0, 0, 0, 0, 0];
     let refused = |refusal| Err(Failure::Refused(refusal));
     for other in [[2, 0, 0], [0, 0, 0], [1, 1, 0], [1, 0, 1]].map(Figures::from_words) {
         let (mut table, mut lent) = (held, other);
@@ -198,7 +201,7 @@ fn others_are_refused_directly_behind_an_unsound_table() {
             (table, lent, buffer),
             (held, other, [UNTOUCHED; BUFFER_ROOM])
         );
-        let said = ask(&mut [F, 7, 0, 0, 0, 0], &mut lent, A, REGISTER);
+        let said = ask(&mut [F, 7, 0, 0, 0, 0, 0], &mut lent, A, REGISTER);
         assert_eq!(said, refused(Refusal::TableUnsound));
     }
     // Words that are not three.

@@ -4,7 +4,7 @@
 use ffn::{
     read_register, read_release, write_register, Answered, Crew, Figures, FramedReply,
     FunctionalNumber, Message, Msisdn, Operation, Outcome, Problem, Refusal, Register, Release,
-    Request, RequestError, CODING_SCHEME,
+    Request, RequestError, CODING_SCHEME, NUMBER_WORDS,
 };
 
 const UNTOUCHED: u8 = 0xEE;
@@ -44,8 +44,8 @@ fn list() -> [u64; 4] {
     [a().word(), 1, b().word(), 3]
 }
 
-fn held_by(holder: Option<Msisdn>) -> [u64; 6] {
-    [f().word(), holder.map_or(0, Msisdn::word), 0, 0, 0, 0]
+fn held_by(holder: Option<Msisdn>) -> [u64; NUMBER_WORDS] {
+    [f().word(), holder.map_or(0, Msisdn::word), 0, 0, 0, 0, 0]
 }
 
 fn fields(operation: Operation, additional: &[u8]) -> Request<'_> {
@@ -125,7 +125,7 @@ fn outcomes_hold_what_they_say() {
 
 #[test]
 fn refusals_of_a_framed_request_in_their_order() {
-    let mut unsound = [1, 0, 0, 0, 0, 0];
+    let mut unsound = [1, 0, 0, 0, 0, 0, 0];
     let mut frame = [UNTOUCHED; 120];
     let wrong = changed(1, 0x3B);
     let rejected = changed(11, 0);
@@ -136,7 +136,7 @@ fn refusals_of_a_framed_request_in_their_order() {
     assert_eq!(ask(120, &[1], &wrong), Err(Refusal::Message));
     assert_eq!(ask(120, &[1], &rejected), Err(Refusal::ListUnsound));
     assert_eq!(ask(120, &list(), &rejected), Err(Refusal::TableUnsound));
-    assert_eq!(unsound, [1, 0, 0, 0, 0, 0]);
+    assert_eq!(unsound, [1, 0, 0, 0, 0, 0, 0]);
     assert_eq!(frame, [UNTOUCHED; 120]);
 }
 

@@ -273,7 +273,7 @@ impl Node {
     /// With A's flags in the list.
     fn new(flags: u64) -> Self {
         let rows = [(F, A), (F + 1, A), (F + 2, 0), (F + 3, C), (G, C)];
-        let row = |(number, holder)| [number, holder, 0, 0, 0, 0];
+        let row = |(number, holder)| [number, holder, 0, 0, 0, 0, 0];
         let table: Vec<u64> = rows.into_iter().flat_map(row).collect();
         let figures = Figures::recount(&table).unwrap();
         let list = [A, flags, B, 3];

@@ -93,7 +93,7 @@ fn words_that_are_no_numbers_are_malformed() {
 
 #[test]
 fn every_refusal_has_its_number_and_words() {
-    let said: Vec<String> = (0..=40)
+    let said: Vec<String> = (0..=60)
         .filter_map(Refusal::from_number)
         .map(|refusal| refusal.to_string())
         .collect();
@@ -118,6 +118,9 @@ fn every_refusal_has_its_number_and_words() {
             "refusal 32: a count of rows is over its limit",
             "refusal 33: a buffer is too small for the image, or for what it holds",
             "refusal 34: the rows do not fill the distance",
+            "refusal 50: the table has 1,024 rows, or the buffer has no room for one more",
+            "refusal 51: the functional number is already in the table",
+            "refusal 52: the functional number is not in the table",
         ]
     );
 }
@@ -207,7 +210,7 @@ fn an_image_has_a_trailer_and_its_rows() {
 
 #[test]
 fn a_failure_speaks_as_its_reason_does() {
-    for refusal in (1..=34).filter_map(Refusal::from_number) {
+    for refusal in (1..=52).filter_map(Refusal::from_number) {
         assert_eq!(Failure::Refused(refusal).to_string(), refusal.to_string());
     }
     for error in [35, 36, 71].map(|n| RequestError::from_number(n).unwrap()) {

@@ -54,7 +54,7 @@ impl fmt::Display for Contents {
 }
 
 fn write_number(
-    &[number, holder, phase, addressee, supervisor, second]: &[u64; NUMBER_WORDS],
+    &[number, holder, phase, addressee, supervisor, second, closed]: &[u64; NUMBER_WORDS],
     f: &mut fmt::Formatter<'_>,
 ) -> fmt::Result {
     write!(
@@ -62,6 +62,9 @@ fn write_number(
         "number {}: ",
         digits(FunctionalNumber::from_word(number))
     )?;
+    if closed == 1 {
+        f.write_str("closed, ")?;
+    }
     match Msisdn::from_word(holder) {
         Some(holder) => write!(f, "holder {holder}, ")?,
         None => f.write_str("no holder, ")?,

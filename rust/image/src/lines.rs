@@ -9,8 +9,8 @@ use ffn::{MOST_NUMBERS, MOST_SUBSCRIBERS, NUMBER_WORDS, SUBSCRIBER_WORDS};
 use crate::contents::Contents;
 use crate::failure::{Failure, Fault};
 
-/// What the lines say. Every number is free and without a notice, so the figures
-/// are zeros.
+/// What the lines say. Every number is open, free and without a notice, so the
+/// figures are zeros.
 pub fn contents(input: &[u8]) -> Result<Contents, Failure> {
     let mut contents = Contents::default();
     // A line feed ends a line: after a last one no further line begins.

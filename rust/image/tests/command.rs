@@ -46,7 +46,7 @@ fn made_checked_and_shown() {
 fn bad_input_is_one_line_and_status_1() {
     let folder = Folder::new("wrong");
     let mut image = IMAGE;
-    image[80] = 63;
+    image[88] = 71;
     fs::write(folder.join("node.image"), image).unwrap();
     for (words, input, line) in [
         (&[][..], &b""[..], "usage: ffn-image show|check|make IMAGE"),

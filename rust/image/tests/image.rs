@@ -122,12 +122,12 @@ fn every_phase_is_shown_in_words() {
     let path = folder.join("node.image");
     let (first, second) = (14_915_100_001, 14_915_100_002);
     let table = [
-        [100_000, first, 0, 0, 0, 0],
-        [100_001, 0, 1, first, second, 0],
-        [100_002, second, 2, first, second, 0],
-        [100_003, 0, 3, first, second, 0],
-        [100_004, 0, 11, second, 100_000, 4_294_967_295],
-        [100_005, 0, 12, first, second, 0],
+        [100_000, first, 0, 0, 0, 0, 0],
+        [100_001, 0, 1, first, second, 0, 0],
+        [100_002, second, 2, first, second, 0, 0],
+        [100_003, 0, 3, first, second, 0, 0],
+        [100_004, 0, 11, second, 100_000, 4_294_967_295, 0],
+        [100_005, 0, 12, first, second, 0, 0],
     ];
     let list = [[first, 1], [second, 3], [second + 1, 0], [second + 2, 2]];
     store(&path, table.as_flattened(), list.as_flattened());
@@ -151,6 +151,42 @@ fn every_phase_is_shown_in_words() {
     assert_eq!(ask("show", &path, b""), Ok(shown.into()));
     let ok = "ok: numbers 6, subscribers 4\n";
     assert_eq!(ask("check", &path, b""), Ok(ok.into()));
+}
+
+#[test]
+fn closed_numbers_are_shown_as_such() {
+    let folder = Folder::new("closed");
+    let path = folder.join("node.image");
+    let (first, second) = (14_915_100_001, 14_915_100_002);
+    let table = [
+        [100_000, 0, 0, 0, 0, 0, 1],
+        [100_001, first, 0, 0, 0, 0, 1],
+        [100_002, 0, 2, first, second, 0, 1],
+        [100_003, 0, 0, 0, 0, 0, 0],
+    ];
+    store(&path, table.as_flattened(), &[]);
+    let shown = "\
+        number 00000: closed, no holder, no notice\n\
+        number 00001: closed, holder 4915100001, no notice\n\
+        number 00002: closed, no holder, notice in flight, sendings done 1, \
+        addressee 4915100001, supervisor 4915100002\n\
+        number 00003: no holder, no notice\n\
+        figures: held 1, waiting 0, in flight 1\n";
+    assert_eq!(ask("show", &path, b""), Ok(shown.into()));
+}
+
+/// An image from before rows had their seventh word.
+#[test]
+fn an_old_image() {
+    let folder = Folder::new("old");
+    let path = folder.join("node.image");
+    let mut old = [&IMAGE[..48], &IMAGE[56..]].concat();
+    old[80] = 64;
+    fs::write(&path, old).unwrap();
+    for subcommand in ["show", "check"] {
+        let said = "refusal 34: the rows do not fill the distance";
+        assert_eq!(fault(subcommand, &path, b""), said);
+    }
 }
 
 #[test]
@@ -261,15 +297,15 @@ fn refused_images() {
             "refusal 31: the distance is not the image's length less 24",
         ),
         (
-            changed(71, 0x20),
+            changed(79, 0x20),
             "refusal 32: a count of rows is over its limit",
         ),
         (
-            changed(64, 2),
+            changed(72, 2),
             "refusal 34: the rows do not fill the distance",
         ),
         (changed(8, 7), "refusal 2: the table is unsound"),
-        (changed(56, 4), "refusal 8: the list is unsound"),
+        (changed(64, 4), "refusal 8: the list is unsound"),
         (
             vec![0; 1 << 20],
             "refusal 31: the distance is not the image's length less 24",

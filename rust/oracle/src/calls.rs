@@ -8,15 +8,15 @@ use crate::frame::{read_register, read_release, write_register, Invoked, Release
 use crate::node::{finding, framed_request, request, result, sending, Answer};
 use crate::number::is_number;
 use crate::packing::{pack, packed_length, unpack};
-use crate::rows::{recount, FIGURES};
+use crate::rows::{recount, FIGURES, RECORD_WORDS, SUBSCRIBER_WORDS};
 use crate::string::{read_request, write_request, Fields, Operation};
 
 /// The octets of input that the program has room for.
 pub const CALLS_INPUT_LIMIT: usize = 64 * 1024;
 
 /// The words of a table and a list stay below these.
-const TABLE_WORDS: usize = 6 * 1100;
-const LIST_WORDS: usize = 2 * 4200;
+const TABLE_WORDS: usize = RECORD_WORDS * 1100;
+const LIST_WORDS: usize = SUBSCRIBER_WORDS * 4200;
 
 /// The most octets of a buffer, and the room for a tail.
 const MAX_BUFFER: usize = 512;
@@ -359,7 +359,8 @@ impl Calls {
     /// they are shown.
     fn after(&self, before: &[u64]) -> String {
         let mut text = String::new();
-        let rows = self.table.chunks(6).zip(before.chunks(6)).enumerate();
+        let rows = |table| <[u64]>::chunks(table, RECORD_WORDS);
+        let rows = rows(&self.table).zip(rows(before)).enumerate();
         for (place, (row, _)) in rows.filter(|(_, (row, before))| row != before) {
             write!(text, ", row {place}:{}", spaced(row)).expect("a string takes all");
         }
@@ -397,6 +398,9 @@ fn said(answer: Answer) -> String {
         Answer::Again => "again".into(),
         Answer::Found(number) => format!("due {number}"),
         Answer::NoneDue => "none due".into(),
+        Answer::Closed | Answer::Rows { .. } => {
+            unreachable!("the program withdraws no numbers")
+        }
     }
 }
 

@@ -21,16 +21,19 @@ use crate::node::{finding, framed_request, request, result, sending, Answer};
 use crate::number::{digit_count, is_number};
 use crate::packing::{pack, unpack};
 use crate::rows::{
-    figures_of, recount, Record, ADDRESSEE, FAILURE, FIGURES, HOLDER, LAST_PHASE, MAX_RECORDS,
-    MAX_SUBSCRIBERS, NUMBER, PHASE, SUPERVISOR,
+    figures_of, free_record, recount, Record, ADDRESSEE, CLOSED, FAILURE, FIGURES, HOLDER,
+    LAST_PHASE, MAX_RECORDS, MAX_SUBSCRIBERS, NOTICE, NUMBER, PHASE, RECORD_WORDS,
+    SUBSCRIBER_WORDS, SUPERVISOR,
 };
 use crate::string::{read_request, write_request, Additional, Fields, Operation};
 use crate::text::Text;
+use crate::withdrawal::{add, close, compact};
 
 mod along;
 mod frames;
 mod images;
 pub mod radio;
+mod withdrawals;
 
 pub use along::Along;
 pub use frames::changed_frames;
@@ -118,14 +121,18 @@ pub enum TableDamage {
     Supervisor,
     /// A notice whose addressee is the supervisor.
     SameNumbers,
-    /// A last word of 2^32 or more, where one is allowed.
+    /// A last failure of 2^32 or more, where one is allowed.
     FailureTooLarge,
-    /// A last word other than 0, where none is allowed.
+    /// A last failure other than 0, where none is allowed.
     FailureTooEarly,
+    /// A seventh word other than 0 and 1.
+    Closed,
+    /// Rows without their seventh word.
+    SixWords,
 }
 
 impl TableDamage {
-    pub const ALL: [Self; 15] = [
+    pub const ALL: [Self; 17] = [
         Self::Length,
         Self::TooMany,
         Self::Equal,
@@ -141,6 +148,8 @@ impl TableDamage {
         Self::SameNumbers,
         Self::FailureTooLarge,
         Self::FailureTooEarly,
+        Self::Closed,
+        Self::SixWords,
     ];
 }
 
@@ -284,12 +293,29 @@ pub enum Call {
         list: Vec<u64>,
         figures: Vec<u64>,
     },
+    Close {
+        table: Vec<u64>,
+        figures: Vec<u64>,
+        number: u64,
+    },
+    Compact {
+        words: Vec<u64>,
+        rows: usize,
+        figures: Vec<u64>,
+    },
+    Add {
+        words: Vec<u64>,
+        rows: usize,
+        figures: Vec<u64>,
+        number: u64,
+    },
 }
 
 /// What a call returns.
 #[derive(Clone, Copy, Debug, PartialEq, Eq)]
 pub enum Reply {
-    /// Of a request, framed or not, a sending, result or finding.
+    /// Of a request, framed or not, a sending, result or finding, of closing,
+    /// compacting or adding.
     Answer(Answer),
     /// Of a recount.
     Figures(Option<[u64; FIGURES]>),
@@ -374,6 +400,22 @@ impl Call {
                 list,
                 figures,
             } => Reply::Rows(read_image(image, table, list, figures)),
+            Self::Close {
+                table,
+                figures,
+                number,
+            } => Reply::Answer(close(table, figures, *number)),
+            Self::Compact {
+                words,
+                rows,
+                figures,
+            } => Reply::Answer(compact(words, *rows, figures)),
+            Self::Add {
+                words,
+                rows,
+                figures,
+                number,
+            } => Reply::Answer(add(words, *rows, figures, *number)),
         }
     }
 }
@@ -490,24 +532,26 @@ impl Generator {
 
     /// A sound list of `rows` rows.
     pub fn list(&mut self, rows: usize) -> Vec<u64> {
-        let mut list = Vec::with_capacity(2 * rows + 1);
+        let mut list = Vec::with_capacity(SUBSCRIBER_WORDS * rows + 1);
         for msisdn in self.ascending(rows, &[]) {
             list.extend([msisdn, self.random.pick(&[0, 1, 1, 1, 2, 3, 3, 3, 3, 3])]);
         }
         list
     }
 
-    /// A sound table of `rows` records, whose numbers, holders, addressees and
-    /// supervisors are often in `list`.
+    /// A sound table of `rows` records, some of them closed, whose numbers,
+    /// holders, addressees and supervisors are often in `list`.
     pub fn table(&mut self, rows: usize, list: &[u64]) -> Vec<u64> {
         let known: Vec<u64> = list.iter().step_by(2).copied().collect();
-        let mut table = Vec::with_capacity(6 * rows + 5);
+        let mut table = Vec::with_capacity(RECORD_WORDS * (rows + 1));
         for number in self.ascending(rows, &known) {
             let holder = match self.random.below(4) {
                 0 => 0,
                 _ => self.person(&known),
             };
-            let mut record = [number, holder, 0, 0, 0, 0];
+            let mut record = free_record(number);
+            record[HOLDER] = holder;
+            record[CLOSED] = self.random.pick(&[0, 0, 0, 1]);
             if self.random.below(3) > 0 {
                 let phase = 1 + self.random.below(LAST_PHASE);
                 self.set_notice(&mut record, phase, &known);
@@ -527,7 +571,7 @@ impl Generator {
     }
 
     /// Gives a record a sound notice at `phase`, 1 to the last.
-    fn set_notice(&mut self, record: &mut [u64], phase: u64, known: &[u64]) {
+    fn set_notice(&mut self, record: &mut Record, phase: u64, known: &[u64]) {
         record[PHASE] = phase;
         record[ADDRESSEE] = match record[HOLDER] {
             0 => self.person(known),
@@ -553,21 +597,23 @@ impl Generator {
             return;
         }
         if damage == TableDamage::Length {
-            self.cut_or_extend(table, 6);
+            self.cut_or_extend(table, RECORD_WORDS);
             return;
         }
-        if table.len() < 12 {
+        if table.len() < 2 * RECORD_WORDS {
             *table = self.table(2, &[]);
         }
         match damage {
-            TableDamage::Equal => return self.make_equal(table, 6),
-            TableDamage::Descending => return self.make_descending(table, 6),
-            TableDamage::Number => return self.make_malformed(table, 6),
+            TableDamage::Equal => return self.make_equal(table, RECORD_WORDS),
+            TableDamage::Descending => return self.make_descending(table, RECORD_WORDS),
+            TableDamage::Number => return self.make_malformed(table, RECORD_WORDS),
+            TableDamage::SixWords => return leave_out(table, CLOSED),
             _ => {}
         }
-        let place = 6 * self.random.index(table.len() / 6);
-        let record = &mut table[place..place + 6];
-        let idle = |record: &mut [u64]| record[PHASE..].fill(0);
+        let records: &mut [Record] = table.as_chunks_mut().0;
+        let place = self.random.index(records.len());
+        let record = &mut records[place];
+        let idle = |record: &mut Record| record[NOTICE].fill(0);
         let phase = 1 + self.random.below(LAST_PHASE);
         match damage {
             TableDamage::Holder => record[HOLDER] = self.malformed(),
@@ -584,7 +630,7 @@ impl Generator {
                     u64::MAX,
                 ]);
                 if self.random.once_in(4) {
-                    record[ADDRESSEE..].fill(0);
+                    record[ADDRESSEE..=FAILURE].fill(0);
                 }
             }
             TableDamage::IdleAddressee => {
@@ -627,8 +673,14 @@ impl Generator {
                     _ => u64::from(self.second().max(1)),
                 };
             }
+            TableDamage::Closed => {
+                record[CLOSED] =
+                    self.random
+                        .pick(&[2, 3, 256, 257, 1 << 32, (1 << 32) + 1, u64::MAX]);
+            }
             TableDamage::Length
             | TableDamage::TooMany
+            | TableDamage::SixWords
             | TableDamage::Equal
             | TableDamage::Descending
             | TableDamage::Number => unreachable!("done above"),
@@ -644,7 +696,7 @@ impl Generator {
             return;
         }
         if damage == ListDamage::Length {
-            self.cut_or_extend(list, 2);
+            self.cut_or_extend(list, SUBSCRIBER_WORDS);
             return;
         }
         if list.len() < 4 {
@@ -699,7 +751,8 @@ impl Generator {
         if !words.is_empty() && self.random.once_in(2) {
             words.truncate(words.len() - count);
         } else {
-            words.extend([1_999_999_999_999_999, 0, 0, 0, 0][..count].iter());
+            words.push(1_999_999_999_999_999);
+            words.extend(std::iter::repeat_n(0, count - 1));
         }
     }
 
@@ -790,7 +843,7 @@ impl Generator {
     }
 
     /// One of a table's records, if it has any.
-    fn some_record(&mut self, table: &[u64]) -> Option<[u64; 6]> {
+    fn some_record(&mut self, table: &[u64]) -> Option<Record> {
         let (records, _) = table.as_chunks();
         match records {
             [] => None,
@@ -1044,6 +1097,15 @@ impl Generator {
     }
 }
 
+/// Takes one word out of every row.
+fn leave_out(table: &mut Vec<u64>, word: usize) {
+    let mut place = 0;
+    table.retain(|_| {
+        place += 1;
+        (place - 1) % RECORD_WORDS != word
+    });
+}
+
 /// The numbers of a crew's fields.
 fn crew_numbers(fields: &Fields<Vec<u8>>) -> Vec<u64> {
     let codes = crew_codes(&fields.additional).unwrap_or_default();
@@ -1055,14 +1117,18 @@ fn crew_numbers(fields: &Fields<Vec<u8>>) -> Vec<u64> {
 impl Generator {
     /// Any call.
     pub fn call(&mut self) -> Call {
-        match self.random.below(31) {
+        match self.random.below(34) {
             0 => self.writing_image(),
             1 => self.reading_image(),
+            2 => self.closing(),
+            3 => self.compacting(),
+            4 => self.adding(),
             _ => self.line_call(),
         }
     }
 
-    /// Any call that the program `calls` makes: it makes none of images.
+    /// Any call that the program `calls` makes: it makes none of images, and
+    /// withdraws no numbers.
     fn line_call(&mut self) -> Call {
         match self.random.below(29) {
             0..=8 => self.request(),
@@ -1181,7 +1247,9 @@ impl Generator {
             2 | 3 if is_number(requester) => requester,
             _ => self.person(known),
         };
-        let mut record = [number, holder, 0, 0, 0, 0];
+        let mut record = free_record(number);
+        record[HOLDER] = holder;
+        record[CLOSED] = self.random.pick(&[0, 0, 0, 1]);
         if self.random.once_in(4) {
             let phase = 1 + self.random.below(LAST_PHASE);
             self.set_notice(&mut record, phase, known);
@@ -1190,8 +1258,9 @@ impl Generator {
     }
 
     /// A table, damaged now and then, with a record of it before the damage
-    /// and the number that a sending or result names: mostly that record's.
-    fn table_and_number(&mut self) -> (Vec<u64>, [u64; 6], u64) {
+    /// and the number that a sending, a result or a closing names: mostly that
+    /// record's.
+    fn table_and_number(&mut self) -> (Vec<u64>, Record, u64) {
         let list = self.list(4);
         let mut table = self.some_table(&list);
         let record = self.some_record(&table).unwrap_or_default();
@@ -1206,7 +1275,7 @@ impl Generator {
     }
 
     /// A time around the moment when a record is due.
-    fn now(&mut self, record: [u64; 6], delay: u32) -> u32 {
+    fn now(&mut self, record: Record, delay: u32) -> u32 {
         let failure = record[FAILURE] as u32;
         let delay = if delay == 0 { 300 } else { delay };
         match self.random.below(8) {
@@ -1560,10 +1629,10 @@ impl Generator {
     fn put_numbered_request(&mut self, input: &mut Vec<u8>) {
         let records = self.random.pick(&[1, 7, 1023, 1024, 1025, 1099, 1100]);
         let people = self.random.pick(&[1, 9, 4095, 4096, 4097, 4199, 4200]);
-        let flags = self.random.below(4);
+        let (closed, flags) = (self.random.pick(&[0, 0, 0, 1, 2]), self.random.below(4));
         for line in [
             "table".into(),
-            format!("table* {records} 100000 0 0 0 0 0"),
+            format!("table* {records} 100000 0 0 0 0 0 {closed}"),
             "list".into(),
             format!("list* {people} 100000 {flags}"),
         ] {
@@ -1695,6 +1764,9 @@ impl Generator {
             Call::WriteImage { .. } | Call::ReadImage { .. } => {
                 unreachable!("the program makes no calls of images")
             }
+            Call::Close { .. } | Call::Compact { .. } | Call::Add { .. } => {
+                unreachable!("the program withdraws no numbers")
+            }
         };
         self.put_line(input, line, 48);
     }
@@ -1716,7 +1788,7 @@ impl Generator {
     /// Appends the lines that set a table or a list.
     fn put_words(&mut self, input: &mut Vec<u8>, name: &str, words: &[u64]) {
         self.put_line(input, name.into(), 512);
-        for words in words.chunks(self.random.pick(&[6, 12, 24])) {
+        for words in words.chunks(self.random.pick(&[RECORD_WORDS, 2 * RECORD_WORDS, 24])) {
             let words: String = words.iter().map(|word| format!(" {word}")).collect();
             let line = format!("{name}+{words}");
             self.put_line(input, line.into_bytes(), 512);
@@ -1814,7 +1886,7 @@ mod tests {
             assert_eq!(list.len(), 8 * rows);
             assert!(list_is_sound(&list));
             let table = generator.table(rows, &list);
-            assert_eq!(table.len(), 6 * rows);
+            assert_eq!(table.len(), RECORD_WORDS * rows);
             assert!(table_is_sound(&table));
             for damage in TableDamage::ALL {
                 for _ in 0..10 {

@@ -27,6 +27,7 @@ pub mod radio;
 mod rows;
 mod string;
 mod text;
+mod withdrawal;
 
 pub use calls::{run_calls, CALLS_INPUT_LIMIT};
 pub use crew::{crew_codes, Code};
@@ -38,3 +39,4 @@ pub use packing::{pack, unpack};
 pub use program::{run, INPUT_LIMIT};
 pub use rows::{list_is_sound, recount, table_is_sound};
 pub use string::{read_request, write_request, Additional, Fields, Operation};
+pub use withdrawal::{add, close, compact};

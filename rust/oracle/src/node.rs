@@ -5,8 +5,8 @@ use crate::frame::{read_register, write_release, Invoked, Message, Released, FRA
 use crate::number::is_number;
 use crate::rows::{
     figures_of, find_flags, find_record, list_is_sound, sound_records, sound_records_mut, Record,
-    ADDRESSEE, FAILURE, HAS_FOLLOW_ME, HOLDER, IS_SUPERVISOR, LAST_PHASE, NUMBER, PHASE,
-    SUPERVISOR,
+    ADDRESSEE, CLOSED, FAILURE, HAS_FOLLOW_ME, HOLDER, IS_SUPERVISOR, LAST_PHASE, NOTICE, NUMBER,
+    PHASE, SUPERVISOR,
 };
 use crate::string::{read_fields, Fields, Operation, MAX_CHARACTERS};
 use crate::text::Text;
@@ -53,6 +53,13 @@ pub enum Answer {
     Found(u64),
     /// No notice is due.
     NoneDue,
+    /// The number is closed.
+    Closed,
+    /// So many rows are in use now, and so many went.
+    Rows {
+        in_use: usize,
+        gone: usize,
+    },
 }
 
 /// Carries out a call on the records of a table that is sound and has these
@@ -260,6 +267,9 @@ fn register(record: &mut Record, requester: u64) -> u8 {
     if record[NUMBER] == requester {
         return 67;
     }
+    if record[CLOSED] != 0 {
+        return 64;
+    }
     if record[HOLDER] != 0 && record[HOLDER] != requester {
         return 61;
     }
@@ -372,7 +382,7 @@ fn take_result(records: &mut [Record], number: u64, kind: u32, now: u32) -> Answ
         record[FAILURE] = u64::from(now);
         return Answer::Again;
     }
-    record[PHASE..].fill(0);
+    record[NOTICE].fill(0);
     if kind == 0 {
         Answer::Delivered
     } else {

@@ -3,7 +3,7 @@
 use crate::node::{request, result, sending, Answer};
 use crate::number::number_from_digits;
 use crate::packing::{pack, packed_length, unpack};
-use crate::rows::{FIGURES, MAX_RECORDS, MAX_SUBSCRIBERS};
+use crate::rows::{free_record, Record, Subscriber, FIGURES, MAX_RECORDS, MAX_SUBSCRIBERS, NUMBER};
 use crate::text::Text;
 
 /// The octets of input that are read.
@@ -45,7 +45,7 @@ pub fn run(input: &[u8]) -> Vec<u8> {
 
 struct Program {
     table: Vec<u64>,
-    /// Its figures. A number is added free and without a notice.
+    /// Its figures. A number is added open, free and without a notice.
     figures: [u64; FIGURES],
     list: Vec<u64>,
     /// Whether an `R`, `T` or `D` was answered, which ends the filling.
@@ -77,16 +77,16 @@ impl Program {
 
     fn add_number(&mut self, rest: &[u8]) -> Option<()> {
         let number = number_from_digits(rest)?;
-        let records: &[[u64; 6]] = self.table.as_chunks().0;
-        let fits = records.len() < MAX_RECORDS && records.last().is_none_or(|r| r[0] < number);
-        fits.then(|| self.table.extend([number, 0, 0, 0, 0, 0]))
+        let records: &[Record] = self.table.as_chunks().0;
+        let fits = records.len() < MAX_RECORDS && records.last().is_none_or(|r| r[NUMBER] < number);
+        fits.then(|| self.table.extend(free_record(number)))
     }
 
     fn add_subscriber(&mut self, rest: &[u8]) -> Option<()> {
         let (msisdn, flags) = split_field(rest)?;
         let msisdn = number_from_digits(msisdn)?;
         let flags = value(flags).filter(|&flags| flags <= 3)?;
-        let rows: &[[u64; 2]] = self.list.as_chunks().0;
+        let rows: &[Subscriber] = self.list.as_chunks().0;
         let fits = rows.len() < MAX_SUBSCRIBERS && rows.last().is_none_or(|r| r[0] < msisdn);
         fits.then(|| self.list.extend([msisdn, u64::from(flags)]))
     }
@@ -152,6 +152,9 @@ impl Program {
             Answer::Dropped => out.extend_from_slice(b"dropped"),
             Answer::Again => out.extend_from_slice(b"again"),
             Answer::Found(_) | Answer::NoneDue => unreachable!("the program finds nothing"),
+            Answer::Closed | Answer::Rows { .. } => {
+                unreachable!("the program withdraws no numbers")
+            }
             Answer::ReturnError { .. } | Answer::Reject { .. } => {
                 unreachable!("the program's requests are not framed")
             }

@@ -1,12 +1,13 @@
 //! The lent table and list: their rows, whether they are sound, and lookup.
 
 use std::borrow::Borrow;
+use std::ops::Range;
 
 use crate::number::{is_number, Ascent};
 
 /// One number's record.
 pub(crate) type Record = [u64; RECORD_WORDS];
-pub(crate) const RECORD_WORDS: usize = 6;
+pub(crate) const RECORD_WORDS: usize = 7;
 
 /// One subscriber: MSISDN and flags.
 pub(crate) type Subscriber = [u64; SUBSCRIBER_WORDS];
@@ -19,6 +20,10 @@ pub(crate) const PHASE: usize = 2;
 pub(crate) const ADDRESSEE: usize = 3;
 pub(crate) const SUPERVISOR: usize = 4;
 pub(crate) const FAILURE: usize = 5;
+pub(crate) const CLOSED: usize = 6;
+
+/// The words of a record's notice: 0 where it has none.
+pub(crate) const NOTICE: Range<usize> = PHASE..FAILURE + 1;
 
 /// The most rows of a table and of a list.
 pub(crate) const MAX_RECORDS: usize = 1024;
@@ -37,7 +42,7 @@ pub(crate) const FIGURES: usize = 3;
 /// The phase after the last sending.
 pub(crate) const LAST_PHASE: u64 = 2 * MAX_SENDINGS as u64;
 
-/// The largest last word by phase: any second where a failure is kept,
+/// The largest second of a last failure by phase: any where one is kept,
 /// otherwise 0.
 const LARGEST_FAILURE: [u64; 2 * MAX_SENDINGS + 1] = {
     let mut largest = [0; 2 * MAX_SENDINGS + 1];
@@ -70,8 +75,9 @@ pub(crate) fn records_are_sound(records: impl IntoIterator<Item = impl Borrow<Re
 
 /// Whether a record's words after the first are sound.
 #[inline]
-fn record_is_sound(&[_, holder, phase, addressee, supervisor, failure]: &Record) -> bool {
-    if holder != 0 && !is_number(holder) {
+fn record_is_sound(record: &Record) -> bool {
+    let &[_, holder, phase, addressee, supervisor, failure, closed] = record;
+    if closed > 1 || holder != 0 && !is_number(holder) {
         return false;
     }
     if phase == 0 {
@@ -137,11 +143,21 @@ pub(crate) fn sound_records_mut(table: &mut [u64]) -> Option<&mut [Record]> {
     table_is_sound(table).then_some(table.as_chunks_mut().0)
 }
 
+/// The record of an open number without holder and notice.
+pub(crate) fn free_record(number: u64) -> Record {
+    let mut record = [0; RECORD_WORDS];
+    record[NUMBER] = number;
+    record
+}
+
+/// Where `number` stands in a sound table, or where it would.
+pub(crate) fn find_place(records: &[Record], number: u64) -> Result<usize, usize> {
+    records.binary_search_by_key(&number, |record| record[NUMBER])
+}
+
 /// The record of `number` in a sound table.
 pub(crate) fn find_record(records: &mut [Record], number: u64) -> Option<&mut Record> {
-    let place = records
-        .binary_search_by_key(&number, |record| record[NUMBER])
-        .ok()?;
+    let place = find_place(records, number).ok()?;
     Some(&mut records[place])
 }
 
@@ -164,8 +180,8 @@ mod tests {
 
     fn sound(record: Record) -> bool {
         // Between two plain neighbours, at the start, at the end, and alone.
-        let before = [F - 1, 0, 0, 0, 0, 0];
-        let after = [F + 1, A, 0, 0, 0, 0];
+        let before = [F - 1, 0, 0, 0, 0, 0, 0];
+        let after = [F + 1, A, 0, 0, 0, 0, 0];
         let alone = table_is_sound(&record);
         for table in [
             &[before, record, after][..],
@@ -180,18 +196,18 @@ mod tests {
     #[test]
     fn sound_tables() {
         assert!(table_is_sound(&[]));
-        assert!(sound([F, 0, 0, 0, 0, 0]));
-        assert!(sound([F, A, 0, 0, 0, 0]));
+        assert!(sound([F, 0, 0, 0, 0, 0, 0]));
+        assert!(sound([F, A, 0, 0, 0, 0, 0]));
         // A holder may have the number's own digits or be in the notice.
-        assert!(sound([F, F, 1, F, A, 0]));
+        assert!(sound([F, F, 1, F, A, 0, 0]));
         for phase in 1..=12 {
-            assert!(sound([F, 0, phase, A, B, 0]));
-            assert!(sound([F, A, phase, A, B, 0]));
-            assert!(sound([F, B, phase, A, B, 0]));
+            assert!(sound([F, 0, phase, A, B, 0, 0]));
+            assert!(sound([F, A, phase, A, B, 0, 0]));
+            assert!(sound([F, B, phase, A, B, 0, 0]));
         }
         for phase in [3, 5, 7, 9, 11] {
-            assert!(sound([F, 0, phase, A, B, 1]));
-            assert!(sound([F, 0, phase, A, B, u64::from(u32::MAX)]));
+            assert!(sound([F, 0, phase, A, B, 1, 0]));
+            assert!(sound([F, 0, phase, A, B, u64::from(u32::MAX), 0]));
         }
     }
 
@@ -199,36 +215,65 @@ mod tests {
     fn unsound_records() {
         const MALFORMED: [u64; 6] = [1, 19_999, 99_999, 200_000, 10u64.pow(16), u64::MAX];
         for word in MALFORMED {
-            assert!(!table_is_sound(&[word, 0, 0, 0, 0, 0]));
-            assert!(!sound([F, word, 0, 0, 0, 0]));
-            assert!(!sound([F, 0, 1, word, B, 0]));
-            assert!(!sound([F, 0, 1, A, word, 0]));
+            assert!(!table_is_sound(&[word, 0, 0, 0, 0, 0, 0]));
+            assert!(!sound([F, word, 0, 0, 0, 0, 0]));
+            assert!(!sound([F, 0, 1, word, B, 0, 0]));
+            assert!(!sound([F, 0, 1, A, word, 0, 0]));
         }
-        assert!(!table_is_sound(&[0; 6]));
+        assert!(!table_is_sound(&[0; RECORD_WORDS]));
         for phase in 1..=12 {
-            assert!(!sound([F, 0, phase, 0, B, 0]));
-            assert!(!sound([F, 0, phase, A, 0, 0]));
-            assert!(!sound([F, 0, phase, 0, 0, 0]));
-            assert!(!sound([F, 0, phase, A, A, 0]));
-            assert!(!sound([F, 0, phase, A, B, 1 << 32]));
-            assert!(!sound([F, 0, phase, A, B, u64::MAX]));
+            assert!(!sound([F, 0, phase, 0, B, 0, 0]));
+            assert!(!sound([F, 0, phase, A, 0, 0, 0]));
+            assert!(!sound([F, 0, phase, 0, 0, 0, 0]));
+            assert!(!sound([F, 0, phase, A, A, 0, 0]));
+            assert!(!sound([F, 0, phase, A, B, 1 << 32, 0]));
+            assert!(!sound([F, 0, phase, A, B, u64::MAX, 0]));
         }
         for phase in [13, 14, 15, 255, 256, 1 << 32, (1 << 32) + 3, u64::MAX] {
-            assert!(!sound([F, 0, phase, A, B, 0]));
-            assert!(!sound([F, 0, phase, 0, 0, 0]));
+            assert!(!sound([F, 0, phase, A, B, 0, 0]));
+            assert!(!sound([F, 0, phase, 0, 0, 0, 0]));
         }
         for phase in [1, 2, 4, 6, 8, 10, 12] {
-            assert!(!sound([F, 0, phase, A, B, 1]));
+            assert!(!sound([F, 0, phase, A, B, 1, 0]));
         }
-        assert!(!sound([F, 0, 0, A, 0, 0]));
-        assert!(!sound([F, 0, 0, 0, B, 0]));
-        assert!(!sound([F, 0, 0, A, B, 0]));
-        assert!(!sound([F, 0, 0, 0, 0, 1]));
+        assert!(!sound([F, 0, 0, A, 0, 0, 0]));
+        assert!(!sound([F, 0, 0, 0, B, 0, 0]));
+        assert!(!sound([F, 0, 0, A, B, 0, 0]));
+        assert!(!sound([F, 0, 0, 0, 0, 1, 0]));
+    }
+
+    #[test]
+    fn the_seventh_word() {
+        for holder in [0, A] {
+            for phase in 0..=12 {
+                let notice = if phase == 0 { [0, 0] } else { [A, B] };
+                let row = |closed| [F, holder, phase, notice[0], notice[1], 0, closed];
+                assert!(sound(row(0)) && sound(row(1)));
+                for word in [
+                    2,
+                    3,
+                    255,
+                    256,
+                    257,
+                    1 << 32,
+                    (1 << 32) + 1,
+                    1 << 63,
+                    u64::MAX,
+                ] {
+                    assert!(!sound(row(word)));
+                }
+            }
+        }
+        // A closed row without a notice keeps the rules of one.
+        assert!(!sound([F, 0, 0, A, 0, 0, 1]));
+        assert!(!sound([F, 0, 0, 0, B, 0, 1]));
+        assert!(!sound([F, 0, 0, 0, 0, 1, 1]));
+        assert!(!sound([F, 7, 0, 0, 0, 0, 1]));
     }
 
     #[test]
     fn unsound_orders_and_lengths() {
-        let plain = |number| [number, 0, 0, 0, 0, 0];
+        let plain = |number| [number, 0, 0, 0, 0, 0, 0];
         let two = |first, second| table_is_sound([plain(first), plain(second)].as_flattened());
         assert!(two(F, F + 1));
         assert!(!two(F, F));
@@ -237,9 +282,9 @@ mod tests {
         assert!(two(199_999, 1_000_000));
         assert!(!two(1_000_000, 199_999));
         let words = [plain(F), plain(F + 1)];
-        for length in 0..12 {
+        for length in 0..2 * RECORD_WORDS {
             let table = &words.as_flattened()[..length];
-            assert_eq!(table_is_sound(table), length % 6 == 0);
+            assert_eq!(table_is_sound(table), length % RECORD_WORDS == 0);
         }
         let rows: Vec<Record> = (F..F + 1025).map(plain).collect();
         assert!(table_is_sound(rows[..1024].as_flattened()));
@@ -249,12 +294,12 @@ mod tests {
     #[test]
     fn figures() {
         assert_eq!(recount(&[]), Some([0, 0, 0]));
-        assert_eq!(recount(&[F, 0, 0, 0, 0, 0]), Some([0, 0, 0]));
-        assert_eq!(recount(&[F, A, 0, 0, 0, 0]), Some([1, 0, 0]));
+        assert_eq!(recount(&[F, 0, 0, 0, 0, 0, 0]), Some([0, 0, 0]));
+        assert_eq!(recount(&[F, A, 0, 0, 0, 0, 0]), Some([1, 0, 0]));
         for phase in 1..=12 {
             let notice = if phase % 2 == 1 { [1, 0] } else { [0, 1] };
             for (holder, held) in [(0, 0), (A, 1), (B, 1)] {
-                let figures = recount(&[F, holder, phase, A, B, 0]);
+                let figures = recount(&[F, holder, phase, A, B, 0, 0]);
                 assert_eq!(figures, Some([held, notice[0], notice[1]]));
             }
         }
@@ -262,8 +307,8 @@ mod tests {
         let record = |phase: u64| {
             let holder = [A, 0, 0][phase as usize % 3];
             match phase {
-                0 => [F, holder, 0, 0, 0, 0],
-                _ => [F + phase, holder, phase, A, B, 0],
+                0 => [F, holder, 0, 0, 0, 0, 0],
+                _ => [F + phase, holder, phase, A, B, 0, 0],
             }
         };
         let mut records: Vec<Record> = (0..=12).map(record).collect();
@@ -271,7 +316,7 @@ mod tests {
         records[12][PHASE] = 13;
         assert_eq!(recount(records.as_flattened()), None);
         assert_eq!(recount(&[F]), None);
-        let rows: Vec<Record> = (F..F + 1025).map(|n| [n, A, 2, A, B, 0]).collect();
+        let rows: Vec<Record> = (F..F + 1025).map(|n| [n, A, 2, A, B, 0, 0]).collect();
         assert_eq!(recount(rows[1..].as_flattened()), Some([1024, 0, 1024]));
         assert_eq!(recount(rows.as_flattened()), None);
     }
@@ -300,7 +345,7 @@ mod tests {
 
     #[test]
     fn lookup() {
-        let mut records: Vec<Record> = (0..50).map(|n| [F + 2 * n, n, 0, 0, 0, 0]).collect();
+        let mut records: Vec<Record> = (0..50).map(|n| [F + 2 * n, n, 0, 0, 0, 0, 0]).collect();
         let list: Vec<u64> = (0..50).flat_map(|n| [A + 2 * n, n % 4]).collect();
         for n in 0..50 {
             let found = find_record(&mut records, F + 2 * n).unwrap();

@@ -7,7 +7,7 @@ use common::*;
 use oracle::{finding, Answer};
 
 /// A table that is unsound: a holder that is no number.
-const UNSOUND: [u64; 6] = [F, 7, 0, 0, 0, 0];
+const UNSOUND: [u64; ROW] = [F, 7, 0, 0, 0, 0, 0];
 
 /// A request with everything open; it must leave table and buffer.
 fn untouched(
@@ -28,7 +28,7 @@ fn untouched(
 
 #[test]
 fn refusals_of_a_request_in_order() {
-    let table = [F, 0, 0, 0, 0, 0];
+    let table = [F, 0, 0, 0, 0, 0, 0];
     let string = packed(REGISTER);
     let bad_list = [A, 4];
     for room in [0, 1, 79] {
@@ -63,7 +63,7 @@ fn refusals_of_a_request_in_order() {
 
 #[test]
 fn errors_of_a_request_in_order() {
-    let table = [F, 0, 0, 0, 0, 0];
+    let table = [F, 0, 0, 0, 0, 0, 0];
     let string = packed(REGISTER);
     let error = |requester, scheme, string: &[u8]| {
         let answer = untouched(&table, &LIST, 80, requester, scheme, string);
@@ -109,7 +109,7 @@ fn errors_of_a_request_in_order() {
 #[test]
 fn outcome_42_comes_first() {
     let supervisor_only = [A, 1, B, 2];
-    let mut table = [F, A, 0, 0, 0, 0];
+    let mut table = [F, A, 0, 0, 0, 0, 0];
     // Absent, or without Follow Me: even if the number is unknown, or if the
     // erasure is forced by a supervisor without Follow Me.
     for string in [REGISTER, ERASE, INTERROGATE, FORCE_A, "**214*00000***#"] {
@@ -127,7 +127,7 @@ fn outcome_42_comes_first() {
 
 #[test]
 fn outcome_22_before_41() {
-    let mut table = [F, A, 0, 0, 0, 0];
+    let mut table = [F, A, 0, 0, 0, 0, 0];
     assert_eq!(ask(&mut table, &LIST, A, FORCE_A), "22");
     assert_eq!(
         ask(&mut table, &LIST, A, "##214*492123401*88*4915100001*#"),
@@ -141,7 +141,7 @@ fn outcome_22_before_41() {
 
 #[test]
 fn outcome_41() {
-    let mut table = [F, A, 0, 0, 0, 0];
+    let mut table = [F, A, 0, 0, 0, 0, 0];
     for operation in ["**", "##", "*#"] {
         for digits in ["492123401", "00492123401", "0492123402", "00000"] {
             let string = format!("{operation}214*{digits}***#");
@@ -155,21 +155,21 @@ fn outcome_41() {
 fn outcome_67_before_61() {
     let string = "**214*4915100001***#";
     for holder in [0, A, B, C] {
-        let mut table = [A, holder, 0, 0, 0, 0];
+        let mut table = [A, holder, 0, 0, 0, 0, 0];
         assert_eq!(ask(&mut table, &LIST, A, string), "67");
     }
     // Only a registration.
-    let mut table = [A, A, 0, 0, 0, 0];
+    let mut table = [A, A, 0, 0, 0, 0, 0];
     assert_eq!(
         ask(&mut table, &LIST, A, "*#214*4915100001***#"),
         "03 4915100001"
     );
     assert_eq!(ask(&mut table, &LIST, A, "##214*4915100001***#"), "02");
     // Other digits, though the value of the digits is the same.
-    let mut table = [stored("04915100001"), 0, 0, 0, 0, 0];
+    let mut table = [stored("04915100001"), 0, 0, 0, 0, 0, 0];
     assert_eq!(ask(&mut table, &LIST, A, "**214*04915100001***#"), "01");
     // The digits of somebody else.
-    let mut table = [A, 0, 0, 0, 0, 0];
+    let mut table = [A, 0, 0, 0, 0, 0, 0];
     assert_eq!(ask(&mut table, &LIST, B, string), "01");
 }
 
@@ -177,13 +177,13 @@ fn outcome_67_before_61() {
 fn outcomes_61_62_63() {
     // The holder need not be in the list.
     for holder in [B, C, stored("00000")] {
-        let mut table = [F, holder, 0, 0, 0, 0];
+        let mut table = [F, holder, 0, 0, 0, 0, 0];
         assert_eq!(ask(&mut table, &LIST, A, REGISTER), "61");
         assert_eq!(ask(&mut table, &LIST, A, ERASE), "63");
     }
     // With no holder the MSISDN named does not matter.
     for notice in [[0, 0, 0, 0], [1, A, B, 0], [3, A, B, 5]] {
-        let mut table = [F, 0, notice[0], notice[1], notice[2], notice[3]];
+        let mut table = [F, 0, notice[0], notice[1], notice[2], notice[3], 0];
         assert_eq!(ask(&mut table, &LIST, A, ERASE), "62");
         assert_eq!(ask(&mut table, &LIST, A, INTERROGATE), "62");
         assert_eq!(ask(&mut table, &LIST, B, FORCE_A), "62");
@@ -191,7 +191,7 @@ fn outcomes_61_62_63() {
     }
     // A supervisor has no plain erasure, and names the holder she forces off;
     // 63 comes before 68.
-    let mut table = [F, A, 1, C, B, 0];
+    let mut table = [F, A, 1, C, B, 0, 0];
     assert_eq!(ask(&mut table, &LIST, B, ERASE), "63");
     assert_eq!(ask(&mut table, &LIST, B, FORCE_B), "63");
     assert_eq!(
@@ -199,42 +199,42 @@ fn outcomes_61_62_63() {
         "63"
     );
     // Also the one that she holds herself.
-    let mut table = [F, B, 0, 0, 0, 0];
+    let mut table = [F, B, 0, 0, 0, 0, 0];
     assert_eq!(ask(&mut table, &LIST, B, FORCE_A), "63");
 }
 
 #[test]
 fn outcome_68() {
     for phase in 1..=12 {
-        let mut table = [F, A, phase, C, B, 0];
+        let mut table = [F, A, phase, C, B, 0, 0];
         assert_eq!(ask(&mut table, &LIST, B, FORCE_A), "68");
-        let mut table = [F, B, phase, C, A, 0];
+        let mut table = [F, B, phase, C, A, 0, 0];
         assert_eq!(ask(&mut table, &LIST, B, FORCE_B), "02");
-        assert_eq!(table, [F, 0, phase, C, A, 0]);
+        assert_eq!(table, [F, 0, phase, C, A, 0, 0]);
     }
 }
 
 #[test]
 fn outcomes_01_and_02_with_a_pending_notice() {
-    let mut table = [F, 0, 5, C, B, 99];
+    let mut table = [F, 0, 5, C, B, 99, 0];
     assert_eq!(ask(&mut table, &LIST, A, REGISTER), "01");
-    assert_eq!(table, [F, A, 5, C, B, 99]);
+    assert_eq!(table, [F, A, 5, C, B, 99, 0]);
     assert_eq!(ask(&mut table, &LIST, A, REGISTER), "01");
-    assert_eq!(table, [F, A, 5, C, B, 99]);
+    assert_eq!(table, [F, A, 5, C, B, 99, 0]);
     assert_eq!(ask(&mut table, &LIST, A, ERASE), "02");
-    assert_eq!(table, [F, 0, 5, C, B, 99]);
+    assert_eq!(table, [F, 0, 5, C, B, 99, 0]);
 }
 
 #[test]
 fn a_request_changes_its_own_record_alone() {
-    let before = [F - 1, A, 0, 0, 0, 0];
-    let after = [F + 1, A, 1, A, B, 0];
-    let mut table = [before, [F, 0, 0, 0, 0, 0], after];
+    let before = [F - 1, A, 0, 0, 0, 0, 0];
+    let after = [F + 1, A, 1, A, B, 0, 0];
+    let mut table = [before, [F, 0, 0, 0, 0, 0, 0], after];
     for (requester, string, outcome, record) in [
-        (A, REGISTER, "01", [F, A, 0, 0, 0, 0]),
-        (B, FORCE_A, "02", [F, 0, 1, A, B, 0]),
-        (B, REGISTER, "01", [F, B, 1, A, B, 0]),
-        (B, ERASE, "02", [F, 0, 1, A, B, 0]),
+        (A, REGISTER, "01", [F, A, 0, 0, 0, 0, 0]),
+        (B, FORCE_A, "02", [F, 0, 1, A, B, 0, 0]),
+        (B, REGISTER, "01", [F, B, 1, A, B, 0, 0]),
+        (B, ERASE, "02", [F, 0, 1, A, B, 0, 0]),
     ] {
         assert_eq!(
             ask(table.as_flattened_mut(), &LIST, requester, string),
@@ -248,14 +248,14 @@ fn a_request_changes_its_own_record_alone() {
 fn outcome_03_with_every_count_of_digits() {
     for count in 5..=15 {
         let digits = &"001234567890123"[..count];
-        let mut table = [F, stored(digits), 0, 0, 0, 0];
+        let mut table = [F, stored(digits), 0, 0, 0, 0, 0];
         assert_eq!(
             ask(&mut table, &LIST, A, INTERROGATE),
             format!("03 {digits}")
         );
     }
     // Twelve digits make fifteen characters, with a carriage return after.
-    let mut table = [F, stored("123456789012"), 0, 0, 0, 0];
+    let mut table = [F, stored("123456789012"), 0, 0, 0, 0, 0];
     let mut reply = [FILL; 80];
     let answer = request(&mut table, &LIST, &mut reply, A, 0x0F, &packed(INTERROGATE));
     assert_eq!(
@@ -282,8 +282,8 @@ fn refusals_of_a_sending_in_order() {
             _ => panic!("{answer:?}"),
         }
     };
-    let idle = [F, A, 0, 0, 0, 0];
-    let waiting = [F, A, 3, A, B, 1000];
+    let idle = [F, A, 0, 0, 0, 0, 0];
+    let waiting = [F, A, 3, A, B, 1000, 0];
     for room in [0, 79] {
         assert_eq!(refused(&UNSOUND, room, 0, 1, 0), 1);
         assert_eq!(refused(&waiting, room, F, 60, 1060), 1);
@@ -309,13 +309,13 @@ fn refusals_of_a_sending_in_order() {
     }
     for phase in [0, 2, 4, 6, 8, 10, 12] {
         let notice = if phase == 0 { [0, 0] } else { [A, B] };
-        let table = [F, A, phase, notice[0], notice[1], 0];
+        let table = [F, A, phase, notice[0], notice[1], 0, 0];
         for delay in [0, 60, 600] {
             assert_eq!(refused(&table, 80, F, delay, 5000), 4);
         }
     }
     for phase in [3, 5, 7, 9, 11] {
-        let table = [F, A, phase, A, B, 1000];
+        let table = [F, A, phase, A, B, 1000, 0];
         assert_eq!(refused(&table, 80, F, 0, 1000), 5);
         assert_eq!(refused(&table, 80, F, 0, 1299), 5);
         assert_eq!(refused(&table, 80, F, 60, 1059), 5);
@@ -340,8 +340,8 @@ fn sendings() {
         (3, u64::from(u32::MAX), 60, 59),
         (3, 0, 600, u32::MAX),
     ] {
-        let other = [F + 1, 0, 1, A, B, 0];
-        let mut table = [[F, C, phase, A, B, failure], other];
+        let other = [F + 1, 0, 1, A, B, 0, 0];
+        let mut table = [[F, C, phase, A, B, failure, 0], other];
         let mut buffer = [FILL; 81];
         let answer = sending(table.as_flattened_mut(), &mut buffer, F, delay, now);
         assert_eq!(
@@ -351,7 +351,7 @@ fn sendings() {
                 octets: 28
             }
         );
-        assert_eq!(table, [[F, C, phase + 1, A, B, 0], other]);
+        assert_eq!(table, [[F, C, phase + 1, A, B, 0, 0], other]);
         assert_eq!(unpacked(&buffer[..28]), "##214*0492123401*88*4915100002*#");
         assert!(buffer[28..].iter().all(|&octet| octet == FILL));
     }
@@ -363,7 +363,7 @@ fn sendings() {
         ("123456789012", "12345678901234", 34),
         ("1234567890123", "12345678901234", 35),
     ] {
-        let mut table = [stored(number), 0, 1, A, stored(supervisor), 0];
+        let mut table = [stored(number), 0, 1, A, stored(supervisor), 0, 0];
         let mut buffer = [FILL; 80];
         let answer = sending(&mut table, &mut buffer, stored(number), 0, 0);
         assert_eq!(
@@ -392,8 +392,8 @@ fn refusals_of_a_result_in_order() {
             _ => panic!("{answer:?}"),
         }
     };
-    let idle = [F, A, 0, 0, 0, 0];
-    let flying = [F, A, 2, A, B, 0];
+    let idle = [F, A, 0, 0, 0, 0, 0];
+    let flying = [F, A, 2, A, B, 0, 0];
     assert_eq!(refused(&UNSOUND, 0, 6), 2);
     for number in [0, 7, F + 1, stored("492123401"), u64::MAX] {
         assert_eq!(refused(&flying, number, 6), 7);
@@ -407,22 +407,22 @@ fn refusals_of_a_result_in_order() {
     for kind in 0..=5 {
         assert_eq!(refused(&idle, F, kind), 4);
         for phase in [1, 3, 5, 7, 9, 11] {
-            assert_eq!(refused(&[F, A, phase, A, B, 0], F, kind), 4);
+            assert_eq!(refused(&[F, A, phase, A, B, 0, 0], F, kind), 4);
         }
     }
 }
 
 #[test]
 fn results() {
-    let other = [F + 1, 0, 2, A, B, 0];
+    let other = [F + 1, 0, 2, A, B, 0, 0];
     for phase in [2, 4, 6, 8, 10, 12] {
         for kind in 0..=5 {
             for now in [0, 5000, u32::MAX] {
-                let mut table = [[F, C, phase, A, B, 0], other];
+                let mut table = [[F, C, phase, A, B, 0, 0], other];
                 let (answer, record) = match (kind, phase) {
-                    (0, _) => (Answer::Delivered, [F, C, 0, 0, 0, 0]),
-                    (5, 2..=10) => (Answer::Again, [F, C, phase + 1, A, B, u64::from(now)]),
-                    _ => (Answer::Dropped, [F, C, 0, 0, 0, 0]),
+                    (0, _) => (Answer::Delivered, [F, C, 0, 0, 0, 0, 0]),
+                    (5, 2..=10) => (Answer::Again, [F, C, phase + 1, A, B, u64::from(now), 0]),
+                    _ => (Answer::Dropped, [F, C, 0, 0, 0, 0, 0]),
                 };
                 assert_eq!(result(table.as_flattened_mut(), F, kind, now), answer);
                 assert_eq!(table, [record, other]);
@@ -433,7 +433,7 @@ fn results() {
 
 #[test]
 fn a_notice_ends_after_six_sendings() {
-    let mut table = [F, 0, 1, A, B, 0];
+    let mut table = [F, 0, 1, A, B, 0, 0];
     let mut buffer = [FILL; 80];
     let mut now = u32::MAX - 100;
     for count in 1..=6 {
@@ -445,7 +445,7 @@ fn a_notice_ends_after_six_sendings() {
         assert_eq!(answer, if last { Answer::Dropped } else { Answer::Again });
         now = now.wrapping_add(60);
     }
-    assert_eq!(table, [F, 0, 0, 0, 0, 0]);
+    assert_eq!(table, [F, 0, 0, 0, 0, 0, 0]);
 }
 
 #[test]
@@ -454,15 +454,18 @@ fn findings() {
     assert_eq!(finding(&UNSOUND, 1, 0), Answer::Refusal(2));
     for delay in [1, 59, 601, u32::MAX] {
         assert_eq!(finding(&[], delay, 0), Answer::Refusal(6));
-        assert_eq!(finding(&[F, 0, 1, A, B, 0], delay, 0), Answer::Refusal(6));
+        assert_eq!(
+            finding(&[F, 0, 1, A, B, 0, 0], delay, 0),
+            Answer::Refusal(6)
+        );
     }
     assert_eq!(finding(&[], 0, 0), Answer::NoneDue);
     let table = [
-        [stored("99999"), 0, 0, 0, 0, 0],
-        [stored("000000"), 0, 2, A, B, 0],
-        [F - 1, 0, 9, A, B, 4_294_967_290],
-        [F, A, 3, A, B, 1000],
-        [F + 1, A, 1, A, B, 0],
+        [stored("99999"), 0, 0, 0, 0, 0, 0],
+        [stored("000000"), 0, 2, A, B, 0, 0],
+        [F - 1, 0, 9, A, B, 4_294_967_290, 0],
+        [F, A, 3, A, B, 1000, 0],
+        [F + 1, A, 1, A, B, 0, 0],
     ];
     let find = |rows: usize, delay, now| finding(table[..rows].as_flattened(), delay, now);
     assert_eq!(find(5, 60, 54), Answer::Found(F - 1));
@@ -477,8 +480,8 @@ fn findings() {
     assert_eq!(find(2, 60, 4_294_967_290), Answer::NoneDue);
     // By stored word, 99999 is lower than 000000.
     let both = [
-        [stored("99999"), 0, 1, A, B, 0],
-        [stored("000000"), 0, 1, A, B, 0],
+        [stored("99999"), 0, 1, A, B, 0, 0],
+        [stored("000000"), 0, 1, A, B, 0, 0],
     ];
     assert_eq!(
         finding(both.as_flattened(), 0, 0),
@@ -488,33 +491,39 @@ fn findings() {
 
 #[test]
 fn unsound_tables_and_lists_of_each_kind() {
-    let plain = [F, 0, 0, 0, 0, 0];
-    let too_many: Vec<u64> = (F..F + 1025).flat_map(|n| [n, 0, 0, 0, 0, 0]).collect();
-    let tables: [&[u64]; 24] = [
+    let plain = [F, 0, 0, 0, 0, 0, 0];
+    let too_many: Vec<u64> = (F..F + 1025).flat_map(|n| [n, 0, 0, 0, 0, 0, 0]).collect();
+    let tables: [&[u64]; 29] = [
         &plain[..5],
+        // Rows of six words, as they once were, one and two.
+        &plain[..6],
+        &[F, 0, 0, 0, 0, 0, F + 1, 0, 0, 0, 0, 0],
         &[F, 0, 0, 0, 0, 0, F + 1],
+        &[F, 0, 0, 0, 0, 0, 0, F + 1],
         &too_many,
-        &[F, 0, 0, 0, 0, 0, F, 0, 0, 0, 0, 0],
-        &[F, 0, 0, 0, 0, 0, F - 1, 0, 0, 0, 0, 0],
-        &[0, 0, 0, 0, 0, 0],
-        &[492_123_401, 0, 0, 0, 0, 0],
-        &[19_999, 0, 0, 0, 0, 0],
-        &[10_000_000_000_000_000, 0, 0, 0, 0, 0],
-        &[F, 7, 0, 0, 0, 0],
-        &[F, 4_915_100_001, 0, 0, 0, 0],
-        &[F, 0, 13, A, B, 0],
-        &[F, 0, 0, A, 0, 0],
-        &[F, 0, 0, 0, B, 0],
-        &[F, 0, 0, 0, 0, 1],
-        &[F, 0, 1, 0, B, 0],
-        &[F, 0, 1, A, 0, 0],
-        &[F, 0, 1, 7, B, 0],
-        &[F, 0, 1, A, 7, 0],
-        &[F, 0, 1, A, A, 0],
-        &[F, 0, 3, A, B, 1 << 32],
-        &[F, 0, 1, A, B, 1],
-        &[F, 0, 2, A, B, 1],
-        &[F, 0, 12, A, B, 1],
+        &[F, 0, 0, 0, 0, 0, 0, F, 0, 0, 0, 0, 0, 0],
+        &[F, 0, 0, 0, 0, 0, 0, F - 1, 0, 0, 0, 0, 0, 0],
+        &[0, 0, 0, 0, 0, 0, 0],
+        &[492_123_401, 0, 0, 0, 0, 0, 0],
+        &[19_999, 0, 0, 0, 0, 0, 0],
+        &[10_000_000_000_000_000, 0, 0, 0, 0, 0, 0],
+        &[F, 7, 0, 0, 0, 0, 0],
+        &[F, 4_915_100_001, 0, 0, 0, 0, 0],
+        &[F, 0, 13, A, B, 0, 0],
+        &[F, 0, 0, A, 0, 0, 0],
+        &[F, 0, 0, 0, B, 0, 0],
+        &[F, 0, 0, 0, 0, 1, 0],
+        &[F, 0, 1, 0, B, 0, 0],
+        &[F, 0, 1, A, 0, 0, 0],
+        &[F, 0, 1, 7, B, 0, 0],
+        &[F, 0, 1, A, 7, 0, 0],
+        &[F, 0, 1, A, A, 0, 0],
+        &[F, 0, 3, A, B, 1 << 32, 0],
+        &[F, 0, 1, A, B, 1, 0],
+        &[F, 0, 2, A, B, 1, 0],
+        &[F, 0, 12, A, B, 1, 0],
+        &[F, 0, 0, 0, 0, 0, 2],
+        &[F, A, 1, A, B, 0, u64::MAX],
     ];
     let string = packed(INTERROGATE);
     for table in tables {

@@ -12,13 +12,13 @@ const F3: u64 = F + 2;
 /// A table of numbers with their holders, without notices.
 fn table(rows: &[(u64, u64)]) -> Vec<u64> {
     rows.iter()
-        .flat_map(|&(number, holder)| [number, holder, 0, 0, 0, 0])
+        .flat_map(|&(number, holder)| [number, holder, 0, 0, 0, 0, 0])
         .collect()
 }
 
 /// The holders, by the rows of a table.
 fn holders(table: &[u64]) -> Vec<u64> {
-    table.chunks(6).map(|record| record[1]).collect()
+    table.chunks(ROW).map(|record| record[1]).collect()
 }
 
 fn register(additional: &str) -> String {
@@ -199,14 +199,14 @@ fn a_step_with_the_requesters_digits() {
 
 #[test]
 fn a_pending_notice_stays() {
-    let mut table = [F, 0, 0, 0, 0, 0, F2, 0, 3, A, B, 9];
+    let mut table = [F, 0, 0, 0, 0, 0, 0, F2, 0, 3, A, B, 9, 0];
     assert_eq!(
         ask(&mut table, &LIST, A, &register("BULK1 02")),
         "11 2 0102 0"
     );
-    assert_eq!(table, [F, A, 0, 0, 0, 0, F2, A, 3, A, B, 9]);
+    assert_eq!(table, [F, A, 0, 0, 0, 0, 0, F2, A, 3, A, B, 9, 0]);
     assert_eq!(ask(&mut table, &LIST, A, &erase("BULK1 02")), "12 2 0102 0");
-    assert_eq!(table, [F, 0, 0, 0, 0, 0, F2, 0, 3, A, B, 9]);
+    assert_eq!(table, [F, 0, 0, 0, 0, 0, 0, F2, 0, 3, A, B, 9, 0]);
 }
 
 #[test]
@@ -219,7 +219,10 @@ fn refusals_come_before_the_steps() {
     };
     assert_eq!(at(&mut table, &LIST, 79), Answer::Refusal(1));
     assert_eq!(at(&mut table, &[A, 4], 80), Answer::Refusal(8));
-    assert_eq!(at(&mut [F, 7, 0, 0, 0, 0], &LIST, 80), Answer::Refusal(2));
+    assert_eq!(
+        at(&mut [F, 7, 0, 0, 0, 0, 0], &LIST, 80),
+        Answer::Refusal(2)
+    );
     assert_eq!(holders(&table), [0]);
     assert_eq!(reply, [FILL; 80]);
 }

@@ -4,12 +4,12 @@
 mod common;
 
 use common::{
-    packed, register, A, B, C, ERASE, F, FILL, FORCE_A, FORCE_B, INTERROGATE, LIST, REGISTER,
+    packed, register, A, B, C, ERASE, F, FILL, FORCE_A, FORCE_B, INTERROGATE, LIST, REGISTER, ROW,
 };
 use oracle::{finding, framed_request, recount, request, result, sending, Answer};
 
 /// A table that is unsound: a holder that is no number.
-const UNSOUND: [u64; 6] = [F, 7, 0, 0, 0, 0];
+const UNSOUND: [u64; ROW] = [F, 7, 0, 0, 0, 0, 0];
 
 /// Figures that differ from those of F held by A, which are 1, 0 and 0.
 const WRONG: [&[u64]; 9] = [
@@ -36,26 +36,26 @@ fn ask(table: &mut [u64], figures: &mut [u64], requester: u64, string: &str) -> 
 #[test]
 fn an_empty_table_and_one_of_each_phase() {
     assert_eq!(recount(&[]), Some([0, 0, 0]));
-    assert_eq!(recount(&[F, 0, 0, 0, 0, 0]), Some([0, 0, 0]));
-    assert_eq!(recount(&[F, A, 0, 0, 0, 0]), Some([1, 0, 0]));
+    assert_eq!(recount(&[F, 0, 0, 0, 0, 0, 0]), Some([0, 0, 0]));
+    assert_eq!(recount(&[F, A, 0, 0, 0, 0, 0]), Some([1, 0, 0]));
     assert_eq!(recount(&UNSOUND), None);
     for phase in 1..=12 {
         let (waiting, in_flight) = (phase % 2, 1 - phase % 2);
-        let free = [F, 0, phase, A, B, 0];
-        let held = [F, C, phase, A, B, 0];
+        let free = [F, 0, phase, A, B, 0, 0];
+        let held = [F, C, phase, A, B, 0, 0];
         assert_eq!(recount(&free), Some([0, waiting, in_flight]));
         assert_eq!(recount(&held), Some([1, waiting, in_flight]));
     }
     let phases: Vec<u64> = (1..=12)
-        .flat_map(|phase| [F + phase, 0, phase, A, B, 0])
+        .flat_map(|phase| [F + phase, 0, phase, A, B, 0, 0])
         .collect();
     assert_eq!(recount(&phases), Some([0, 6, 6]));
-    assert_eq!(recount(&phases[..66]), Some([0, 6, 5]));
+    assert_eq!(recount(&phases[..11 * ROW]), Some([0, 6, 5]));
 }
 
 #[test]
 fn registering_and_erasing() {
-    let (mut table, mut figures) = ([F, 0, 0, 0, 0, 0], [0, 0, 0]);
+    let (mut table, mut figures) = ([F, 0, 0, 0, 0, 0, 0], [0, 0, 0]);
     for (requester, string, outcome, held) in [
         (A, INTERROGATE, 62, 0),
         (A, ERASE, 62, 0),
@@ -76,29 +76,29 @@ fn registering_and_erasing() {
 
 #[test]
 fn forced_erasures() {
-    let (mut table, mut figures) = ([F, A, 0, 0, 0, 0], [1, 0, 0]);
+    let (mut table, mut figures) = ([F, A, 0, 0, 0, 0, 0], [1, 0, 0]);
     assert_eq!(ask(&mut table, &mut figures, B, FORCE_B), 63);
     assert_eq!(figures, [1, 0, 0]);
     assert_eq!(ask(&mut table, &mut figures, B, FORCE_A), 2);
-    assert_eq!((table, figures), ([F, 0, 1, A, B, 0], [0, 1, 0]));
+    assert_eq!((table, figures), ([F, 0, 1, A, B, 0, 0], [0, 1, 0]));
     // Held again while the notice waits, and not forced off again.
     assert_eq!(ask(&mut table, &mut figures, A, REGISTER), 1);
     assert_eq!(figures, [1, 1, 0]);
     assert_eq!(ask(&mut table, &mut figures, B, FORCE_A), 68);
     assert_eq!(figures, [1, 1, 0]);
     // By the holder herself: no notice is made, and one that is pending stays.
-    let (mut table, mut figures) = ([F, B, 0, 0, 0, 0], [1, 0, 0]);
+    let (mut table, mut figures) = ([F, B, 0, 0, 0, 0, 0], [1, 0, 0]);
     assert_eq!(ask(&mut table, &mut figures, B, FORCE_B), 2);
-    assert_eq!((table, figures), ([F, 0, 0, 0, 0, 0], [0, 0, 0]));
-    let (mut table, mut figures) = ([F, B, 2, A, C, 0], [1, 0, 1]);
+    assert_eq!((table, figures), ([F, 0, 0, 0, 0, 0, 0], [0, 0, 0]));
+    let (mut table, mut figures) = ([F, B, 2, A, C, 0, 0], [1, 0, 1]);
     assert_eq!(ask(&mut table, &mut figures, B, FORCE_B), 2);
-    assert_eq!((table, figures), ([F, 0, 2, A, C, 0], [0, 0, 1]));
+    assert_eq!((table, figures), ([F, 0, 2, A, C, 0, 0], [0, 0, 1]));
 }
 
 #[test]
 fn a_sending_and_each_kind_of_result() {
     for phase in [1, 3, 5, 7, 9, 11] {
-        let (mut table, mut figures) = ([F, C, phase, A, B, 0], [1, 1, 0]);
+        let (mut table, mut figures) = ([F, C, phase, A, B, 0, 0], [1, 1, 0]);
         let mut buffer = [FILL; 80];
         let sent = sending(&mut table, &mut figures, &mut buffer, F, 60, 100);
         assert!(matches!(sent, Answer::Sent { addressee: A, .. }));
@@ -127,7 +127,7 @@ fn a_crew_of_ten() {
         format!("**214*0492123401***{field}#"),
         format!("##214*0492123401***{field}#"),
     );
-    let mut table: Vec<u64> = (0..10).flat_map(|n| [F + n, 0, 0, 0, 0, 0]).collect();
+    let mut table: Vec<u64> = (0..10).flat_map(|n| [F + n, 0, 0, 0, 0, 0, 0]).collect();
     let mut figures = [0, 0, 0];
     for (requester, string, outcome, held) in [
         (A, &registers, 11, 10),
@@ -141,9 +141,9 @@ fn a_crew_of_ten() {
         assert_eq!(figures, [held, 0, 0]);
     }
     // One held by another, one with a notice, one that is not in the table.
-    table.truncate(54);
+    table.truncate(9 * ROW);
     table[1] = B;
-    table[14..17].copy_from_slice(&[5, A, B]);
+    table[2 * ROW + 2..2 * ROW + 5].copy_from_slice(&[5, A, B]);
     let mut figures = [1, 1, 0];
     assert_eq!(ask(&mut table, &mut figures, A, &registers), 11);
     assert_eq!(figures, [9, 1, 0]);
@@ -153,7 +153,7 @@ fn a_crew_of_ten() {
 
 #[test]
 fn a_framed_request_counts_as_the_bare_one() {
-    let (mut table, mut figures) = ([F, 0, 0, 0, 0, 0], [0, 0, 0]);
+    let (mut table, mut figures) = ([F, 0, 0, 0, 0, 0, 0], [0, 0, 0]);
     let mut frame = [FILL; 120];
     let mut ask = |figures: &mut [u64], scheme, string: &str| {
         let message = register(0x0B, 1, scheme, &packed(string));
@@ -201,7 +201,7 @@ fn requests_with_other_figures() {
             request(table, figures, list, reply, requester, scheme, &string)
         })
     };
-    let held = [F, A, 0, 0, 0, 0];
+    let held = [F, A, 0, 0, 0, 0, 0];
     for figures in WRONG {
         assert_eq!(said(&held, figures, &LIST, 80, A, 0x0F), 10);
         assert_eq!(said(&held, figures, &LIST, 80, 0, 0), 10);
@@ -228,7 +228,7 @@ fn framed_requests_with_other_figures() {
             framed_request(table, figures, list, frame, A, message)
         })
     };
-    let held = [F, A, 0, 0, 0, 0];
+    let held = [F, A, 0, 0, 0, 0, 0];
     let wrong = changed(1, 0x3B);
     for figures in WRONG {
         for message in [&good, &changed(11, 0x3C), &changed(12, 0x31)] {
@@ -254,7 +254,7 @@ fn sendings_and_results_with_other_figures() {
             result(table, figures, number, kind, 100)
         })
     };
-    let (waiting, flying) = ([F, 0, 1, A, B, 0], [F, 0, 2, A, B, 0]);
+    let (waiting, flying) = ([F, 0, 1, A, B, 0, 0], [F, 0, 2, A, B, 0, 0]);
     for figures in [&[0, 0, 0][..], &[1, 1, 1], &[0, 1], &[0, 0, 1, 0], &[]] {
         for number in [F, F + 1, 0] {
             assert_eq!(send(&waiting, figures, 80, number), 10);

@@ -59,7 +59,7 @@ fn ask_framed(table: &mut [u64], requester: u64, message: &[u8]) -> (Answer, Vec
 
 /// The same of free F.
 fn ask_of_free(message: &[u8]) -> (Answer, Vec<u8>) {
-    ask_framed(&mut [F, 0, 0, 0, 0, 0], A, message)
+    ask_framed(&mut [F, 0, 0, 0, 0, 0, 0], A, message)
 }
 
 fn outcome(number: u8, octets: usize, msisdn: u64) -> Answer {
@@ -90,11 +90,11 @@ fn ask_short(message: &[u8]) -> String {
 
 #[test]
 fn a_registration_answered_01() {
-    let mut table = [F, 0, 0, 0, 0, 0];
+    let mut table = [F, 0, 0, 0, 0, 0, 0];
     let (answer, frame) = ask_framed(&mut table, A, &hex(GOOD));
     assert_eq!(answer, outcome(1, 23, 0));
     assert_eq!(frame, hex(ANSWER_01));
-    assert_eq!(table, [F, A, 0, 0, 0, 0]);
+    assert_eq!(table, [F, A, 0, 0, 0, 0, 0]);
     // And it reads as what was written.
     let place = Place {
         start: 21,
@@ -111,7 +111,7 @@ fn a_registration_answered_01() {
 
 #[test]
 fn an_interrogation_answered_03() {
-    let mut table = [F, A, 0, 0, 0, 0];
+    let mut table = [F, A, 0, 0, 0, 0, 0];
     let message = register(0x0B, 1, 0x0F, &packed(INTERROGATE));
     let (answer, frame) = ask_framed(&mut table, B, &message);
     assert_eq!(answer, outcome(3, 33, A));
@@ -124,7 +124,7 @@ fn an_interrogation_answered_03() {
         )
     );
     assert_eq!(unpacked(&frame[21..]), "03 4915100001");
-    assert_eq!(table, [F, A, 0, 0, 0, 0]);
+    assert_eq!(table, [F, A, 0, 0, 0, 0, 0]);
 }
 
 #[test]
@@ -186,8 +186,8 @@ fn the_flag_is_inverted_and_the_invoke_number_kept() {
 
 #[test]
 fn the_order_of_the_checks() {
-    const UNSOUND: [u64; 6] = [F, 7, 0, 0, 0, 0];
-    let (sound, bad_list) = ([F, 0, 0, 0, 0, 0], [A, 4]);
+    const UNSOUND: [u64; ROW] = [F, 7, 0, 0, 0, 0, 0];
+    let (sound, bad_list) = ([F, 0, 0, 0, 0, 0, 0], [A, 4]);
     let good = hex(GOOD);
     let broken = |place: usize, octet: u8| {
         let mut message = good.clone();
@@ -195,7 +195,7 @@ fn the_order_of_the_checks() {
         message
     };
     let (refused, rejected) = (broken(6, 0), [broken(9, 0), broken(12, 0)]);
-    let said = |room: usize, message: &[u8], list: &[u64], table: &[u64; 6], requester| {
+    let said = |room: usize, message: &[u8], list: &[u64], table: &[u64; ROW], requester| {
         let mut lent = *table;
         let mut frame = vec![FILL; room];
         let answer = framed_request(&mut lent, list, &mut frame, requester, message);
@@ -466,7 +466,7 @@ fn every_octet_of_a_register_changed() {
                 Err(_) => assert_eq!(said, "refused 11"),
                 Ok(Invoked::Problem(problem)) => assert_eq!(said, format!("reject {problem}")),
                 Ok(Invoked::Request { scheme, string }) => {
-                    let mut table = [F, 0, 0, 0, 0, 0];
+                    let mut table = [F, 0, 0, 0, 0, 0, 0];
                     let string = string.of(&message);
                     let bare = request(&mut table, &LIST, &mut [0; 80], A, scheme, string);
                     match bare {
@@ -632,7 +632,7 @@ fn the_longest_frames() {
     let string = "##214*999999999999999*88*000000000000000*ABCDEFGHIJKLMNOPQRSTUVWXYZ0123#";
     assert_eq!(unpacked(&frame[19..82]), string);
     // A crew of ten, one of them held by another: 25 octets, 46 in a result.
-    let mut table: Vec<u64> = (0..10).flat_map(|n| [F + n, 0, 0, 0, 0, 0]).collect();
+    let mut table: Vec<u64> = (0..10).flat_map(|n| [F + n, 0, 0, 0, 0, 0, 0]).collect();
     table[1] = B;
     let crew = packed("**214*0492123401***BULK9 020304050607080910#");
     let (answer, frame) = ask_framed(&mut table, A, &register(0xFB, 0, 0x0F, &crew));

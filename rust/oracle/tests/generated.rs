@@ -5,7 +5,7 @@ mod common;
 
 use std::collections::BTreeMap;
 
-use common::{register, release};
+use common::{register, release, ROW};
 use oracle::generate::{changed_frames, Call, Generator, Reply};
 use oracle::{
     crew_codes, is_number, read_image, read_register, read_release, read_request, recount, request,
@@ -13,7 +13,7 @@ use oracle::{
     Message, Released,
 };
 
-const CALLS: usize = 200_000;
+const CALLS: usize = 280_000;
 
 /// How a call ended, in words fine enough to tell the rules apart.
 fn label(before: &Call, after: &Call, reply: &Reply) -> String {
@@ -127,12 +127,38 @@ fn label(before: &Call, after: &Call, reply: &Reply) -> String {
             Ok((1024, 4096)) => "read image: rows, full".into(),
             Ok(_) => "read image: rows".into(),
         },
+        (Call::Close { .. }, Reply::Answer(answer)) => match answer {
+            Answer::Closed if !changed => "close: closed, nothing changes".into(),
+            Answer::Closed => "close: closed".into(),
+            other => format!("close: {other:?}"),
+        },
+        (Call::Compact { words, rows, .. }, Reply::Answer(answer)) => match answer {
+            Answer::Refusal(2) if used(words, *rows).is_none() => {
+                "compact: Refusal(2), beyond the words".into()
+            }
+            Answer::Rows { gone: 0, .. } => "compact: rows, none gone".into(),
+            Answer::Rows { .. } => "compact: rows".into(),
+            other => format!("compact: {other:?}"),
+        },
+        (Call::Add { words, rows, .. }, Reply::Answer(answer)) => match answer {
+            Answer::Refusal(2) if used(words, *rows).is_none() => {
+                "add: Refusal(2), beyond the words".into()
+            }
+            Answer::Refusal(50) if *rows == 1024 => "add: Refusal(50), full".into(),
+            Answer::Rows { .. } => "add: rows".into(),
+            other => format!("add: {other:?}"),
+        },
         _ => panic!("{reply:?} does not belong to {before:?}"),
     }
 }
 
+/// The rows in use at the front of words, if there are so many.
+fn used(words: &[u64], rows: usize) -> Option<&[u64]> {
+    words.get(..rows.checked_mul(ROW)?)
+}
+
 /// What each call must come to at least a hundred times.
-const REACHED: [&str; 132] = [
+const REACHED: [&str; 154] = [
     "request: Refusal(1)",
     "request: Refusal(8)",
     "request: Refusal(2)",
@@ -160,6 +186,7 @@ const REACHED: [&str; 132] = [
     "step of a crew: 61",
     "step of a crew: 62",
     "step of a crew: 63",
+    "step of a crew: 64",
     "step of a crew: 67",
     "request: 22, forced",
     "request: 22, forced, naming herself",
@@ -176,6 +203,7 @@ const REACHED: [&str; 132] = [
     "request: 63",
     "request: 63, forced",
     "request: 63, forced, naming herself",
+    "request: 64",
     "request: 67",
     "request: 68, forced",
     "sending: Refusal(1)",
@@ -237,6 +265,7 @@ const REACHED: [&str; 132] = [
     "framed: 61",
     "framed: 62",
     "framed: 63",
+    "framed: 64",
     "framed: 67",
     "framed: 68",
     "write register: count",
@@ -265,6 +294,25 @@ const REACHED: [&str; 132] = [
     "read image: refusal 33",
     "read image: refusal 2",
     "read image: refusal 8",
+    "close: Refusal(2)",
+    "close: Refusal(10)",
+    "close: Refusal(7)",
+    "close: Refusal(52)",
+    "close: closed",
+    "close: closed, nothing changes",
+    "compact: Refusal(2)",
+    "compact: Refusal(2), beyond the words",
+    "compact: Refusal(10)",
+    "compact: rows",
+    "compact: rows, none gone",
+    "add: Refusal(2)",
+    "add: Refusal(2), beyond the words",
+    "add: Refusal(10)",
+    "add: Refusal(7)",
+    "add: Refusal(51)",
+    "add: Refusal(50)",
+    "add: Refusal(50), full",
+    "add: rows",
 ];
 
 #[test]
@@ -540,6 +588,55 @@ fn check(before: &Call, after: &Call, reply: &Reply) {
             Reply::Rows(Ok(rows)) => check_restored(before, after, *rows),
             _ => assert_eq!(before, after),
         },
+        (
+            Call::Close {
+                table: old, number, ..
+            },
+            Call::Close { table: new, .. },
+        ) => match reply {
+            Reply::Answer(Answer::Closed) => {
+                check_table(old, new, |n| n == *number);
+                let closed = |row: &[u64]| [&row[..6], &[1]].concat();
+                for (old, new) in old.chunks(ROW).zip(new.chunks(ROW)) {
+                    assert!(old[0] != *number || new == closed(old));
+                }
+            }
+            _ => assert_eq!(before, after),
+        },
+        (Call::Compact { words, rows, .. }, Call::Compact { words: new, .. }) => match reply {
+            Reply::Answer(Answer::Rows { in_use, gone }) => {
+                assert_eq!(in_use + gone, *rows);
+                let (table, behind) = words.split_at(ROW * rows);
+                let left = |row: &&[u64]| row[1] != 0 || row[2] != 0 || row[6] == 0;
+                let mut expected = table.chunks(ROW).filter(left).collect::<Vec<_>>().concat();
+                assert_eq!(expected.len(), ROW * in_use);
+                assert!(table_is_sound(&expected));
+                expected.resize(table.len(), 0);
+                assert_eq!(*new, [&expected, behind].concat());
+            }
+            _ => assert_eq!(before, after),
+        },
+        (
+            Call::Add {
+                words,
+                rows,
+                number,
+                ..
+            },
+            Call::Add { words: new, .. },
+        ) => match reply {
+            Reply::Answer(Answer::Rows { in_use, gone: 0 }) => {
+                assert_eq!(*in_use, rows + 1);
+                let (table, behind) = words.split_at(ROW * rows);
+                let row = [*number, 0, 0, 0, 0, 0, 0];
+                let mut expected: Vec<&[u64]> = table.chunks(ROW).chain([&row[..]]).collect();
+                expected.sort();
+                let expected = expected.concat();
+                assert!(table_is_sound(&expected));
+                assert_eq!(*new, [&expected, &behind[ROW..]].concat());
+            }
+            _ => assert_eq!(before, after),
+        },
         (Call::ReadRequest { octets }, _) => {
             if let Reply::Fields(Some(fields)) = reply {
                 let mut out = [0; 160];
@@ -609,13 +706,30 @@ fn check_restored(before: &Call, after: &Call, (rows, people): (usize, usize)) {
     assert_eq!((written, &out), (Ok(image.len()), image));
 }
 
-/// The table of a call, and the figures that it is lent beside it.
-fn counted(call: &Call) -> Option<(&[u64], &[u64])> {
+/// The table of a call, and the figures that it is lent beside it. Of rows in a
+/// buffer their count may be another than the call's.
+fn counted(call: &Call, in_use: Option<usize>) -> Option<(&[u64], &[u64])> {
     match call {
         Call::Request { table, figures, .. }
         | Call::FramedRequest { table, figures, .. }
         | Call::Sending { table, figures, .. }
-        | Call::Result { table, figures, .. } => Some((table, figures)),
+        | Call::Result { table, figures, .. }
+        | Call::Close { table, figures, .. } => Some((table, figures)),
+        Call::Compact {
+            words,
+            rows,
+            figures,
+        }
+        | Call::Add {
+            words,
+            rows,
+            figures,
+            ..
+        } => {
+            // A count beyond the words is of no table.
+            let table = used(words, in_use.unwrap_or(*rows));
+            Some((table.unwrap_or(&[0]), figures))
+        }
         _ => None,
     }
 }
@@ -623,8 +737,15 @@ fn counted(call: &Call) -> Option<(&[u64], &[u64])> {
 /// Refused 2 is an unsound table, 10 a sound one with other figures than its
 /// own; a call that gets past both keeps the figures those of the table.
 fn check_figures(before: &Call, after: &Call, reply: &Reply) {
-    let (Some((old, old_figures)), Some((new, figures)), Reply::Answer(answer)) =
-        (counted(before), counted(after), reply)
+    let Reply::Answer(answer) = reply else {
+        return;
+    };
+    let in_use = match answer {
+        Answer::Rows { in_use, .. } => Some(*in_use),
+        _ => None,
+    };
+    let (Some((old, old_figures)), Some((new, figures))) =
+        (counted(before, None), counted(after, in_use))
     else {
         return;
     };
@@ -732,7 +853,7 @@ fn expected<'a>(
 fn check_table(old: &[u64], new: &[u64], may_change: impl Fn(u64) -> bool) {
     assert!(table_is_sound(old) && table_is_sound(new));
     assert_eq!(old.len(), new.len());
-    for (old, new) in old.chunks(6).zip(new.chunks(6)) {
+    for (old, new) in old.chunks(ROW).zip(new.chunks(ROW)) {
         assert_eq!(old[0], new[0]);
         if !may_change(old[0]) {
             assert_eq!(old, new);

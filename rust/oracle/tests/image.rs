@@ -6,15 +6,16 @@ use common::{A, B, F, FILL};
 use oracle::generate::Generator;
 use oracle::{read_image, recount, write_image};
 
-/// F, free, and A, who has Follow Me.
-const TABLE: [u64; 6] = [F, 0, 0, 0, 0, 0];
+/// F, open and free, and A, who has Follow Me.
+const TABLE: [u64; 7] = [F, 0, 0, 0, 0, 0, 0];
 const LIST: [u64; 2] = [A, 1];
 
 /// Their image, worked out by hand: 10492123401 is 2_7161_1909 in base 16,
-/// 14915100001 is 3_7902_5D61, and the distance is 64.
+/// 14915100001 is 3_7902_5D61, and the distance is 72.
 #[rustfmt::skip]
-const IMAGE: [u8; 88] = [
+const IMAGE: [u8; 96] = [
     0x09, 0x19, 0x61, 0x71, 0x02, 0, 0, 0,
+    0, 0, 0, 0, 0, 0, 0, 0,
     0, 0, 0, 0, 0, 0, 0, 0,
     0, 0, 0, 0, 0, 0, 0, 0,
     0, 0, 0, 0, 0, 0, 0, 0,
@@ -24,7 +25,7 @@ const IMAGE: [u8; 88] = [
     1, 0, 0, 0, 0, 0, 0, 0,
     1, 0, 0, 0, 0, 0, 0, 0,
     1, 0, 0, 0, 0, 0, 0, 0,
-    64, 0, 0, 0, 0, 0, 0, 0,
+    72, 0, 0, 0, 0, 0, 0, 0,
 ];
 
 /// The words of a row, and the octets of the trailer.
@@ -140,8 +141,8 @@ fn one_number_and_one_subscriber() {
     assert_eq!(written(&TABLE, &LIST), IMAGE);
     assert_eq!(read(&IMAGE), Ok((TABLE.to_vec(), LIST.to_vec())));
     // Either alone.
-    assert_eq!(written(&TABLE, &[])[..48], IMAGE[..48]);
-    assert_eq!(written(&[], &LIST)[..16], IMAGE[48..64]);
+    assert_eq!(written(&TABLE, &[])[..56], IMAGE[..56]);
+    assert_eq!(written(&[], &LIST)[..16], IMAGE[56..72]);
 }
 
 #[test]
@@ -170,7 +171,7 @@ fn full_contents() {
 /// Each of the four checks of writing, alone and with those behind it.
 #[test]
 fn writing_is_refused_in_order() {
-    let (unsound, unlisted) = ([F, 7, 0, 0, 0, 0], [A, 4]);
+    let (unsound, unlisted) = ([F, 7, 0, 0, 0, 0, 0], [A, 4]);
     let right = recount(&TABLE).unwrap();
     for broken in 0..16 {
         let is_broken = |check: u32| broken >> check & 1 == 1;
@@ -181,7 +182,7 @@ fn writing_is_refused_in_order() {
         let mut out = vec![FILL; size];
         let said = write_image(&table, &figures, &list, &mut out);
         match [8, 2, 10, 33].into_iter().zip(0..).find(|c| is_broken(c.1)) {
-            None => assert_eq!((said, out), (Ok(88), IMAGE.to_vec())),
+            None => assert_eq!((said, out), (Ok(96), IMAGE.to_vec())),
             Some((number, _)) => {
                 assert_eq!(said, Err(number), "{broken:04b}");
                 assert_eq!(out, vec![FILL; size]);
@@ -220,9 +221,9 @@ fn writing_needs_room_for_the_image() {
         if size < IMAGE.len() {
             assert_eq!((said, out), (Err(33), vec![FILL; size]));
         } else {
-            assert_eq!(said, Ok(88));
-            assert_eq!(out[..88], IMAGE);
-            assert!(out[88..].iter().all(|&octet| octet == FILL));
+            assert_eq!(said, Ok(96));
+            assert_eq!(out[..96], IMAGE);
+            assert!(out[96..].iter().all(|&octet| octet == FILL));
         }
     }
     assert_eq!(write_image(&[], &[0; 3], &[], &mut [0; 23]), Err(33));
@@ -233,11 +234,11 @@ fn an_image_under_24_octets() {
     for length in 0..24 {
         assert_eq!(refused(&vec![0; length]), Some(30));
         assert_eq!(refused(&vec![0xFF; length]), Some(30));
-        assert_eq!(refused(&IMAGE[88 - length..]), Some(30));
+        assert_eq!(refused(&IMAGE[96 - length..]), Some(30));
         assert_eq!(Rooms::new(0, 0, 0).read(&IMAGE[..length]), Err(30));
     }
     // With 24 the trailer is there, and tells of rows that are not.
-    assert_eq!(refused(&IMAGE[64..]), Some(31));
+    assert_eq!(refused(&IMAGE[72..]), Some(31));
     assert_eq!(refused(&[0; 24]), None);
 }
 
@@ -246,25 +247,25 @@ fn a_distance_that_is_not_the_length_less_24() {
     for distance in [
         0,
         16,
-        48,
-        63,
-        65,
-        88,
-        64 | 1 << 8,
-        64 | 1 << 32,
-        64 | 1 << 63,
+        56,
+        71,
+        73,
+        96,
+        72 | 1 << 8,
+        72 | 1 << 32,
+        72 | 1 << 63,
         u64::MAX,
     ] {
-        let other = [&IMAGE[..80], &distance.to_le_bytes()].concat();
+        let other = [&IMAGE[..88], &distance.to_le_bytes()].concat();
         assert_eq!(refused(&other), Some(31), "{distance}");
         // Before counts, rooms and contents.
         let mut huge = other.clone();
-        huge[..80].fill(0xFF);
+        huge[..88].fill(0xFF);
         assert_eq!(Rooms::new(0, 0, 0).read(&huge), Err(31));
     }
     // Cut in front and behind, an octet more in front and behind.
-    for length in 24..88 {
-        assert_eq!(refused(&IMAGE[88 - length..]), Some(31));
+    for length in 24..96 {
+        assert_eq!(refused(&IMAGE[96 - length..]), Some(31));
         assert!(refused(&IMAGE[..length]).is_some());
     }
     for octet in [0, 1, 0xFF] {
@@ -294,8 +295,10 @@ fn a_count_over_its_limit() {
         assert_eq!(Rooms::new(0, 0, 0).read(&huge), Err(32));
     }
     // Rows that together wrap to none.
-    let half = (1 << 63) / (8 * ROW as u64);
-    assert_eq!(refused(&image(&[], &[], half, 1 << 59)), Some(32));
+    let (many, more): (u64, u64) = (1 << 60, 1 << 59);
+    let octets = |rows: u64, words: usize| rows.wrapping_mul(8 * words as u64);
+    assert_eq!(octets(many, ROW).wrapping_add(octets(more, SUBSCRIBER)), 0);
+    assert_eq!(refused(&image(&[], &[], many, more)), Some(32));
 }
 
 #[test]
@@ -312,9 +315,9 @@ fn rows_that_do_not_fill_the_distance() {
     assert_eq!(refused(&image(&TABLE[1..], &LIST, 1, 1)), Some(34));
     assert_eq!(refused(&image(&TABLE, &[A, 1, B], 1, 1)), Some(34));
     for more in 1..8 {
-        let distance = 64 + more as u64;
+        let distance = 72 + more as u64;
         let trailer = octets(&[1, 1, distance]);
-        let odd = [&IMAGE[..64], &vec![0; more], &trailer].concat();
+        let odd = [&IMAGE[..72], &vec![0; more], &trailer].concat();
         assert_eq!(refused(&odd), Some(34));
     }
     // Other rows fill the same distance, but are not sound.
@@ -347,7 +350,7 @@ fn rooms_that_are_too_small() {
 
 #[test]
 fn unsound_contents() {
-    let (unsound, unlisted) = ([F, 7, 0, 0, 0, 0], [A, 4]);
+    let (unsound, unlisted) = ([F, 7, 0, 0, 0, 0, 0], [A, 4]);
     assert_eq!(refused(&image(&unsound, &LIST, 1, 1)), Some(2));
     assert_eq!(refused(&image(&TABLE, &unlisted, 1, 1)), Some(8));
     assert_eq!(refused(&image(&unsound, &unlisted, 1, 1)), Some(2));
@@ -362,6 +365,52 @@ fn unsound_contents() {
         refused(&image(&[TABLE, TABLE].concat(), &LIST, 2, 1)),
         Some(2)
     );
+}
+
+#[test]
+fn the_seventh_word_of_a_row() {
+    let mut closed = notice(F);
+    closed[6] = 1;
+    let table = [closed, notice(F + 1)].concat();
+    let image_of = written(&table, &LIST);
+    assert_eq!(image_of[48..56], [1, 0, 0, 0, 0, 0, 0, 0]);
+    assert_eq!(read(&image_of), Ok((table, LIST.to_vec())));
+    for word in [2, 256, 1 << 32, 1 << 63, u64::MAX] {
+        let mut row = TABLE;
+        row[6] = word;
+        assert_eq!(refused(&image(&row, &LIST, 1, 1)), Some(2));
+        let mut out = [FILL; 96];
+        let said = write_image(&row, &[0; 3], &LIST, &mut out);
+        assert_eq!((said, out), (Err(2), [FILL; 96]));
+    }
+}
+
+/// An image from before rows had seven words: its rows do not fill the distance.
+#[test]
+fn an_old_image() {
+    for (of_table, of_list) in [
+        (1, 0),
+        (1, 1),
+        (2, 7),
+        (6, 0),
+        (7, 0),
+        (1024, 0),
+        (1024, 4096),
+    ] {
+        let old: Vec<u64> = rows(of_table)
+            .chunks(ROW)
+            .flat_map(|row| row[..6].to_vec())
+            .collect();
+        let list = people(of_list);
+        assert_eq!(refused(&image(&old, &list, of_table, of_list)), Some(34));
+    }
+    // One without numbers is as it was.
+    for of_list in [0, 1, 7, 4096] {
+        let list = people(of_list);
+        let old = image(&[], &list, 0, of_list);
+        assert_eq!(written(&[], &list), old);
+        assert_eq!(read(&old), Ok((vec![], list)));
+    }
 }
 
 #[test]

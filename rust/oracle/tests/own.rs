@@ -6,7 +6,7 @@ use common::*;
 
 /// A row with no notice.
 fn held(number: u64, holder: u64) -> Vec<u64> {
-    vec![number, holder, 0, 0, 0, 0]
+    vec![number, holder, 0, 0, 0, 0, 0]
 }
 
 /// What the requester is told, and who holds the only number afterwards.
@@ -22,9 +22,9 @@ fn she_erases_whoever_holds_it() {
     assert_eq!(told(held(A, 0), &LIST, A, erase), ("62".into(), 0));
     // Nobody else may, and a pending notice stays.
     assert_eq!(told(held(A, C), &LIST, B, erase), ("63".into(), C));
-    let mut pending = vec![A, B, 3, C, B, 9];
+    let mut pending = vec![A, B, 3, C, B, 9, 0];
     assert_eq!(ask(&mut pending, &LIST, A, erase), "02");
-    assert_eq!(pending, [A, 0, 3, C, B, 9]);
+    assert_eq!(pending, [A, 0, 3, C, B, 9, 0]);
 }
 
 #[test]
@@ -66,7 +66,7 @@ fn nothing_else_is_hers() {
     );
     let mut forced = held(B, C);
     assert_eq!(ask(&mut forced, &LIST, B, &force("4915100003")), "02");
-    assert_eq!(forced, [B, 0, 1, C, B, 0]);
+    assert_eq!(forced, [B, 0, 1, C, B, 0, 0]);
     let without_flag_2 = "##214*4915100001*88*4915100002*#";
     assert_eq!(told(held(A, B), &LIST, A, without_flag_2), ("22".into(), B));
 }

@@ -773,7 +773,7 @@ fn round(radio: &mut Radio, table: &mut [u64], list: &[u64], string: &[u8]) -> u
 
 /// The table after B forced A off F, and the notice that the node sends.
 fn forced_off_f(rows: &[(u64, u64)]) -> (Vec<u64>, Vec<u8>) {
-    let row = |&(number, holder)| [number, holder, 0, 0, 0, 0];
+    let row = |&(number, holder)| [number, holder, 0, 0, 0, 0, 0];
     let mut table: Vec<u64> = rows.iter().flat_map(row).collect();
     assert_eq!(ask(&mut table, &LIST, B, FORCE_A), "02");
     let mut string = vec![FILL; 80];

@@ -17,7 +17,7 @@ notice-of-requires c κs =
 
 returns : tie.Need-returns
 unfolding recordAt
-returns c = rw (c .notice-of .ensures, c .before .words-at .ensures)
+returns c = rw (c .before .notice-of .ensures, c .before .before .words-at .ensures)
 
 pub load-spec : {M : Type 1} → statement M
 load-spec = tie.close (tie.spec words-at-requires notice-of-requires returns)

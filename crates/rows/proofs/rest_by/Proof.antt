@@ -9,7 +9,7 @@ notice-by-requires : tie.Need-notice-by-requires
 notice-by-requires c κs = search needs
 
 returns : tie.Need-returns
-returns c = rw (c .notice-by .ensures, c .before .is-from .ensures)
+returns c = let k = c .before .before in rw (k .notice-by .ensures, k .before .is-from .ensures)
 
 pub rest-by-spec : {M : Type 1} → statement M
 rest-by-spec = tie.close (tie.spec is-from-requires notice-by-requires returns)

@@ -1,7 +1,7 @@
 use native.Mathlib.Omega.{arith}
 use lib.ListN.{length-set}
 use borrow.Author.Needs.{needs}
-use Rattle.rows.proofs.Rows.{five-stores}
+use Rattle.rows.proofs.Rows.{six-stores}
 use Rattle.rows.proofs.store.Statement.{statement}
 use Rattle.rows.proofs.store.Tie as tie
 
@@ -13,6 +13,9 @@ phase-of-requires c κs = search needs
 
 second-of-requires : tie.Need-second-of-requires
 second-of-requires c κs = search needs
+
+one-if-requires : tie.Need-one-if-requires
+one-if-requires c κs = search needs
 
 add-table : tie.Need-add-table
 add-table c = search needs
@@ -59,13 +62,23 @@ mul-table-5 c = search needs
 slice-write-table-5 : tie.Need-slice-write-table-5
 slice-write-table-5 c = simp length-set (omega arith)
 
+add-table-6 : tie.Need-add-table-6
+add-table-6 c = search needs
+
+mul-table-6 : tie.Need-mul-table-6
+mul-table-6 c = search needs
+
+slice-write-table-6 : tie.Need-slice-write-table-6
+slice-write-table-6 c = simp length-set (omega arith)
+
 same-length : tie.Need-same-length
 same-length c = search needs
 
 returns : tie.Need-returns
 returns c =
-    let start = c .before .before .before in
-    five-stores (start .args .table .now) (start .args .row) (start .args .next) _ _ (c .before .phase-of .ensures) (c .second-of .ensures)
+    let k = c .before in
+    let start = k .before .before .before in
+    six-stores (start .args .table .now) (start .args .row) (start .args .next) _ _ _ (k .before .phase-of .ensures) (k .second-of .ensures) (c .one-if .ensures)
 
 pub store-spec : {M : Type 1} → statement M
 store-spec =
@@ -89,5 +102,9 @@ store-spec =
     add-table-5
     mul-table-5
     slice-write-table-5
+    one-if-requires
+    add-table-6
+    mul-table-6
+    slice-write-table-6
     same-length
     returns)

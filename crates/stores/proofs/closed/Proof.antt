@@ -5,13 +5,13 @@ use native.Mathlib.Omega.{arith}
 use lib.ListN.{length, length-set}
 use borrow.Author.Needs.{needs}
 use Rattle.stores.specs.Stores.{mostStored}
-use Rattle.stores.specs.Places.{closedAt}
+use Rattle.stores.specs.Places.{closedUp}
 use Rattle.stores.proofs.Begun.{moves, last}
 use Rattle.stores.proofs.closed.Statement.{statement}
 use Rattle.stores.proofs.closed.Tie as tie
 
 abbrev Inv-loop : tie.InvT-loop
-Inv-loop at all₀ i₀ all i = (i < mostStored) × (length all ≡ mostStored) × (closedAt all₀ i₀ ≡ closedAt all i)
+Inv-loop at all₀ i₀ all i = (i < mostStored) × (length all ≡ mostStored) × (closedUp all₀ i₀ ≡ closedUp all i)
 
 abbrev μ-loop : tie.MeasureT-loop
 μ-loop at all₀ i₀ all i = mostStored - i

@@ -4,9 +4,9 @@ use Prim.Native.Nat.{ℕ, _+_, _%_}
 use native.Mathlib.Omega.{arith}
 use borrow.Author.Needs.{needs}
 use borrow.Author.Tests.{ne-eqb}
-use Rattle.rows.specs.Rows.{phaseAt}
+use Rattle.rows.specs.Rows.{phaseAt, one}
 use Rattle.tables.specs.declared.Figures.{Figures}
-use Rattle.tables.specs.Figures.{isHeldAt, waitsAt, fliesAt, one, withRow}
+use Rattle.tables.specs.Figures.{isHeldAt, waitsAt, fliesAt, withRow}
 use Rattle.tables.proofs.Counts.{one-most}
 use Rattle.tables.proofs.count_row.Statement.{statement}
 use Rattle.tables.proofs.count_row.Tie as tie

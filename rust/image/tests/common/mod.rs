@@ -7,12 +7,13 @@
 use std::fs;
 use std::path::{Path, PathBuf};
 
-/// 0492123401 is free, 4915100001 has Follow Me.
+/// 0492123401 is open and free, 4915100001 has Follow Me.
 pub const LINES: &[u8] = b"N 0492123401\nS 4915100001 1\n";
 
 #[rustfmt::skip]
-pub const IMAGE: [u8; 88] = [
+pub const IMAGE: [u8; 96] = [
     0x09, 0x19, 0x61, 0x71, 0x02, 0, 0, 0,
+    0, 0, 0, 0, 0, 0, 0, 0,
     0, 0, 0, 0, 0, 0, 0, 0,
     0, 0, 0, 0, 0, 0, 0, 0,
     0, 0, 0, 0, 0, 0, 0, 0,
@@ -22,7 +23,7 @@ pub const IMAGE: [u8; 88] = [
     1, 0, 0, 0, 0, 0, 0, 0,
     1, 0, 0, 0, 0, 0, 0, 0,
     1, 0, 0, 0, 0, 0, 0, 0,
-    64, 0, 0, 0, 0, 0, 0, 0,
+    72, 0, 0, 0, 0, 0, 0, 0,
 ];
 
 /// A temporary folder of a test.

@@ -1,8 +1,8 @@
 //! Calls one after the other over one table: requests, framed ones, crews,
-//! sendings and results, most of them about its few numbers.
+//! sendings, results and closings, most of them about its few numbers.
 
 use super::{Call, Generator};
-use crate::rows::{recount, Record, NUMBER, PHASE};
+use crate::rows::{recount, Record, NOTICE, NUMBER};
 
 /// The memory that such calls share, with the delay of its sendings.
 #[derive(Clone, Debug, PartialEq, Eq)]
@@ -22,7 +22,7 @@ impl Generator {
         if self.random.once_in(2) {
             let (records, _): (&mut [Record], _) = table.as_chunks_mut();
             for record in records {
-                record[PHASE..].fill(0);
+                record[NOTICE].fill(0);
             }
         }
         let figures = recount(&table).map_or(Vec::new(), Vec::from);
@@ -49,9 +49,14 @@ impl Generator {
             0 => self.number(),
             _ => record[NUMBER],
         };
-        match self.random.below(8) {
-            0..=3 => self.request_along(along),
-            4 | 5 => Call::Sending {
+        match self.random.below(64) {
+            0 => Call::Close {
+                table,
+                figures,
+                number,
+            },
+            1..=31 => self.request_along(along),
+            32..=47 => Call::Sending {
                 table,
                 figures,
                 buffer: self.buffer_along(80),
@@ -120,7 +125,8 @@ impl Call {
             Self::Request { table, figures, .. }
             | Self::FramedRequest { table, figures, .. }
             | Self::Sending { table, figures, .. }
-            | Self::Result { table, figures, .. } => Some((table, figures)),
+            | Self::Result { table, figures, .. }
+            | Self::Close { table, figures, .. } => Some((table, figures)),
             _ => None,
         }
     }

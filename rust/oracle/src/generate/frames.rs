@@ -319,7 +319,7 @@ fn framed_lines(messages: &[Vec<u8>]) -> (Vec<u8>, u64) {
     let mut lines = format!("list {requester} 1\nbuffer 120 238\n");
     for message in messages {
         let message = hexadecimal(message);
-        lines += &format!("table {number} 0 0 0 0 0\nframed {requester} x{message}\n");
+        lines += &format!("table {number} 0 0 0 0 0 0\nframed {requester} x{message}\n");
     }
     (lines.into_bytes(), messages.len() as u64)
 }

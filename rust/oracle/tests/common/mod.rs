@@ -6,6 +6,9 @@
 
 use oracle::{number_from_digits, pack, recount, unpack, Answer, Released};
 
+/// The words of a number's row.
+pub const ROW: usize = 7;
+
 /// F, the functional number of the examples.
 pub const F: u64 = 10_492_123_401;
 /// A has Follow Me, B is a supervisor too, C has neither.

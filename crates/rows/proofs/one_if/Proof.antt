@@ -2,9 +2,9 @@ use mathlib.Core.Path.{_≡_, refl}
 use mathlib.Core.Bool.{Bool, true, false}
 use mir.Val.{boolByte}
 use borrow.Author.Needs.{needs}
-use Rattle.tables.specs.Figures.{one}
-use Rattle.tables.proofs.one_if.Statement.{statement}
-use Rattle.tables.proofs.one_if.Tie as tie
+use Rattle.rows.specs.Rows.{one}
+use Rattle.rows.proofs.one_if.Statement.{statement}
+use Rattle.rows.proofs.one_if.Tie as tie
 
 cast-result : tie.Need-cast-result
 cast-result c = search needs
