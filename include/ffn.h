@@ -19,17 +19,19 @@
  *
  * Table. Seven words a number, at most 1,024 numbers, strictly ascending by the
  * first word: functional number; holder, or 0; phase; the notice's addressee;
- * supervisor; second of the last failure; 0 where the number is open, 1 where it
- * is closed. A closed number is not registered; all else goes on, and requests,
- * sendings and results leave the word.
+ * supervisor, or 0 where the holder was forced off at the node's terminal; second
+ * of the last failure; 0 where the number is open, 1 where it is closed. A closed
+ * number is not registered; all else goes on, and requests, erasures at the
+ * terminal, sendings and results leave the word.
  *
  * Figures. Three words beside the table: numbers held (with a holder), notices
  * waiting (in an odd phase), notices in flight (in an even phase above 0). A
  * caller recounts them once at the start, by ffn_recount, or has them from the
  * image that she reads; after that she only lends the words with the table. Each
- * request, sending and result that is not refused leaves them equal to a recount
- * of the table; closing, compacting and adding change none of them. Words that
- * differ from it, or of another length than three, are refused 10.
+ * request, erasure at the terminal, sending and result that is not refused leaves
+ * them equal to a recount of the table; closing, compacting and adding change none
+ * of them. Words that differ from it, or of another length than three, are refused
+ * 10.
  * List. Two words a subscriber, at most 4,096, strictly ascending: MSISDN;
  * flags 0 to 3 (1 has Follow Me, 2 supervisor).
  *
@@ -49,6 +51,11 @@
  * have one image, and an image has one reading. That of nothing is 24 zeros, that
  * of 1,024 numbers and 4,096 subscribers has 122,904 octets. One that was written
  * before rows had their seventh word is refused 34, unless it has no numbers.
+ *
+ * The terminal. Staff at the node clear a number without a subscription, by
+ * ffn_terminal_erasure, which is lent no list. They name its holder exactly, as a
+ * supervisor does; the notice to the holder then leaves the supervisor's place
+ * blank.
  *
  * Withdrawn numbers. ffn_close closes a number, which keeps its holder and its
  * notice until they run out. ffn_compact then removes its row, and ffn_add uses
@@ -117,11 +124,12 @@ enum {
  * 1 a buffer is too short; 2 the table is unsound; 3 the kind is above 5;
  * 4 the notice is not in the phase that the call needs; 5 it is not due;
  * 6 the delay is neither 0 nor 60 to 600 seconds; 7 the functional number is
- * malformed or not in the table; 8 the list is unsound; 9 the fields break the
- * string's rules, a character is not one that the packer takes, unused bits are
- * not 0, or the transaction identifier is above 15; 10 the figures differ from a
- * recount of the table; 11 the message is wrong anywhere up to and with its
- * invoke number, or is no Release Complete that the node could have written.
+ * malformed or not in the table, or the holder named is malformed; 8 the list is
+ * unsound; 9 the fields break the string's rules, a character is not one that the
+ * packer takes, unused bits are not 0, or the transaction identifier is above 15;
+ * 10 the figures differ from a recount of the table; 11 the message is wrong
+ * anywhere up to and with its invoke number, or is no Release Complete that the
+ * node could have written.
  * Of images: 30 the image has under 24 octets; 31 the distance is not the image's
  * length less 24; 32 a count of rows is over its limit, 1,024 or 4,096; 33 a
  * buffer is too small for the image, or for what it holds; 34 the rows do not
@@ -246,10 +254,26 @@ struct ffn_answer ffn_request(uint64_t *table, size_t table_words, uint64_t *fig
                               uint64_t requester, uint8_t scheme, const uint8_t *string, size_t string_length);
 
 /*
+ * An erasure at the node's terminal, which names the holder: a forced erasure by
+ * nobody listed. FFN_OUTCOME with the two digits of the outcome, packed, in reply.
+ * The first that holds of 41, 62, 63 (the holder is another) and 68 (any notice of
+ * the number is pending) leaves the table. Otherwise it is 02: nobody holds the
+ * number, a notice to the holder waits, with supervisor 0, and the figures change
+ * with the record. Whether the number is closed plays no part. Refused 1 (reply
+ * under 80 octets), 2, 10, 7 (the number or the holder is malformed, 0 too), in
+ * this order.
+ */
+struct ffn_answer ffn_terminal_erasure(uint64_t *table, size_t table_words, uint64_t *figures, size_t figure_words,
+                                       uint8_t *reply, size_t reply_length,
+                                       uint64_t functional_number, uint64_t holder);
+
+/*
  * Sends the notice of a number. FFN_SENT with the addressee, and the packed
- * notice in buffer; the record's phase grows by 1. delay is 0 (300 seconds) or
- * 60 to 600; now is the second counter, which wraps. Refused 1 (buffer under 80
- * octets), 2, 10, 7, 6, 4 (the phase is not odd), 5.
+ * notice in buffer: "##214*", the number, "*88*", the supervisor and "*#". From the
+ * terminal the supervisor's place is blank, "##214*0492123401*88**#", a form that
+ * no request has. The record's phase grows by 1. delay is 0 (300 seconds) or 60 to
+ * 600; now is the second counter, which wraps. Refused 1 (buffer under 80 octets),
+ * 2, 10, 7, 6, 4 (the phase is not odd), 5.
  */
 struct ffn_answer ffn_sending(uint64_t *table, size_t table_words, uint64_t *figures, size_t figure_words,
                               uint8_t *buffer, size_t buffer_length,

@@ -24,6 +24,12 @@
  * 10492123401. Its last two digits are the branch, all others the root; numbers
  * of another length have another root.
  *
+ * Notices. A notice is a forced erasure's string, "##214*", a functional number,
+ * "*88*", the MSISDN of the supervisor, "*", an additional field and "#". Where the
+ * holder was forced off at the node's terminal the MSISDN is blank. The additional
+ * field has 0 to 30 characters from 0-9, A-Z and space, and does not start with
+ * BULK; it says nothing, and neither does the MSISDN.
+ *
  * Rounds. Strings are packed characters (TS 23.038, USSD), as the network carries
  * them with scheme 0x0F. A notice or a reply is answered with octets, the count of
  * the question that now stands at the start of the question buffer, and with its
@@ -84,9 +90,9 @@ struct ffn_radio_doing {
  * Refusals:
  * 24 the radio is unsound; 23 the number is malformed; 20 the number is new and
  * the store is full; 1 the question buffer has under 160 octets, whether or not a
- * question follows; 21 the notice is not the string of a forced erasure; 22 no
- * question is open, or the reply answers another one. Each function names its own
- * in the order of its checks.
+ * question follows; 21 the string is no notice; 22 no question is open, or the
+ * reply answers another one. Each function names its own in the order of its
+ * checks.
  */
 
 /*

@@ -48,7 +48,7 @@ static void recount(void)
     figures[2] = n.in_flight;
 }
 
-/* Numbers, every second one with a notice, every fifth closed, and subscribers. */
+/* Numbers, every second one with a notice, every fourth with one from the terminal, every fifth closed, and subscribers. */
 static void set_contents(size_t numbers, size_t subscribers)
 {
     table_words = ROW * numbers;
@@ -61,7 +61,7 @@ static void set_contents(size_t numbers, size_t subscribers)
         if (i % 2 == 1) {
             row[2] = 1 + i / 2 % 12;
             row[3] = A;
-            row[4] = B;
+            row[4] = i % 4 == 1 ? B : 0;
             row[5] = row[2] % 2 == 1 && row[2] > 1 ? 4294967295 - i : 0;
         }
         row[6] = i % 5 == 4; /* closed */
@@ -358,6 +358,27 @@ static void unsound_contents(void)
     HOLDS(contents_refused(8));
 }
 
+/* A notice may name no supervisor, but always an addressee, who is not the supervisor. */
+static void supervisors(void)
+{
+    for (uint64_t phase = 1; phase <= 12; phase++) {
+        set_contents(4, 1);
+        uint64_t *row = table + ROW;
+        row[2] = phase;
+        row[4] = 0;
+        row[5] = 0;
+        recount();
+        size_t size = put_image(expected, 4, 1);
+        HOLDS(is_written(size) && restored(read_whole(image, size)));
+        row[3] = 0; /* to nobody */
+        HOLDS(contents_refused(2) && not_written(write_into(IMAGE_ROOM), 2));
+        row[4] = B;
+        HOLDS(contents_refused(2) && not_written(write_into(IMAGE_ROOM), 2));
+        row[3] = B; /* from her who is told */
+        HOLDS(contents_refused(2) && not_written(write_into(IMAGE_ROOM), 2));
+    }
+}
+
 /* The seventh word of a row is 0 or 1. */
 static void seventh_words(void)
 {
@@ -431,6 +452,7 @@ int main(void)
     counts();
     rooms();
     unsound_contents();
+    supervisors();
     seventh_words();
     old_images();
     single_bits();

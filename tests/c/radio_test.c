@@ -185,14 +185,19 @@ static void noticing(void)
     HOLDS(asks(notice(NOTICE), 1, 1, "999999999999999"));
 }
 
-/* What is no forced erasure, with a question open and without. */
+/* What is no notice, with a question open and without. */
 static void no_notices(void)
 {
     static const char *const others[] = {
-        "##214*0492123401***#", "**214*0492123401***#", "*#214*0492123401***#", "##214*0492123401*88**#",
+        "##214*0492123401***#", "**214*0492123401***#", "*#214*0492123401***#",
         "**214*0492123401*88*4915100002*#", "##213*0492123401*88*4915100002*#", "##214*0492123401*89*4915100002*#",
         "##214*0492*88*4915100002*#", "##214*0492123401*88*4915100002*BULK0#", "##214*0492123401*88*4915100002*# ",
-        "##214*0492123401*88*4915100002*", "**214*0492123401***BULK1 02#", "03 4915100001", "62", ""};
+        "##214*0492123401*88*4915100002*", "**214*0492123401***BULK1 02#", "03 4915100001", "62", "",
+        "**214*0492123401*88**#", "*#214*0492123401*88**#", "##213*0492123401*88**#", "##214*0492123401*89**#", /* the blank form */
+        "##214*0492*88**#", "##214*1234567890123456*88**#", "##214*0492123401*88*#", "##214*0492123401*88***#",
+        "##214*0492123401*88**", "##214*0492123401*88**# ", "##214*0492123401*88**a#", "##214*0492123401*88**BULK#",
+        "##214*0492123401*88**BULK0#", "##214*0492123401*88**BULK1 02#", "##214*0492123401*88**0123456789012345678901234567890#",
+        "##214*0492123401*88*0*#", "##214*0492123401*88*4915*#", "##214*0492123401*88* *#"};
     uint8_t string[ROOM];
     fresh_with_three(0);
     for (int open = 0; open <= 1; open++) {
@@ -202,11 +207,34 @@ static void no_notices(void)
         string[count - 1] |= 0x80;
         lend();
         HOLDS(refused(ffn_radio_notice(&radio, string, count, question, QUESTION_ROOM), 21));
+        count = pack("##214*0492123401*88**#", string); /* 22 characters in 20 octets: six bits are left over */
+        string[count - 1] |= 0x04;
+        lend();
+        HOLDS(refused(ffn_radio_notice(&radio, string, count, question, QUESTION_ROOM), 21));
         memset(string, 0x55, sizeof string);
         lend();
         HOLDS(refused(ffn_radio_notice(&radio, string, sizeof string, question, QUESTION_ROOM), 21));
         HOLDS(asks(notice(NOTICE), 1, (uint8_t)(open + 1), "0492123401"));
     }
+}
+
+/* A notice from the terminal begins a round as a supervisor's does, with a question open and without. */
+static void from_the_terminal(void)
+{
+    static const char *const fields[] = {"", " ", "7", "CAB 7", "BUL", " BULK0", "012345678901234567890123456789"};
+    for (size_t i = 0; i < sizeof fields / sizeof *fields; i++) {
+        char text[ROOM];
+        snprintf(text, sizeof text, "##214*0492123499*88**%s#", fields[i]);
+        fresh_with_three(0);
+        HOLDS(asks(notice(text), 1, 1, "0492123401") && stores("0492123401! 0492123501 0492123402!"));
+        HOLDS(asks(reply(1, "62"), 0, 2, "0492123402"));
+        HOLDS(asks(notice(text), 1, 3, "0492123402") && stores("0492123501 0492123402!"));
+        HOLDS(is_over(reply(3, "03 4915100001"), 0) && stores("0492123501 0492123402"));
+        fresh_with_three(1);
+        HOLDS(asks(notice(text), 1, 1, "0492123401") && stores("0492123401! 0492123501! 0492123402!"));
+    }
+    fresh_with_three(0);
+    HOLDS(is_over(notice("##214*492123401*88**#"), 1) && stores("0492123401 0492123501 0492123402")); /* no number of its root */
 }
 
 static void a_cab_radio_asks_one_root(void)
@@ -418,26 +446,28 @@ static void fill_table(void)
     figures[2] = n.in_flight;
 }
 
-/* B forces A off F, and the node sends the notice. */
-static struct ffn_radio_doing force_off(const uint64_t list[6])
+/* B forces A off F, or the terminal does, and the node sends the notice. */
+static struct ffn_radio_doing force_off(const uint64_t list[6], int at_terminal)
 {
     uint8_t string[ROOM], buffer[80];
     fill_table();
     size_t count = pack("##214*0492123401*88*4915100001*#", string);
-    struct ffn_answer erased = ffn_request(table, TABLE, figures, 3, list, 6, buffer, sizeof buffer, B, 0x0F, string, count);
-    HOLDS(erased.class_ == FFN_OUTCOME && erased.number == 2);
+    struct ffn_answer erased = at_terminal
+        ? ffn_terminal_erasure(table, TABLE, figures, 3, buffer, sizeof buffer, F, A)
+        : ffn_request(table, TABLE, figures, 3, list, 6, buffer, sizeof buffer, B, 0x0F, string, count);
+    HOLDS(erased.class_ == FFN_OUTCOME && erased.number == 2 && table[4] == (at_terminal ? 0 : B));
     struct ffn_answer sent = ffn_sending(table, TABLE, figures, 3, buffer, sizeof buffer, F, 60, 100);
-    HOLDS(sent.class_ == FFN_SENT && sent.value == A);
+    HOLDS(sent.class_ == FFN_SENT && sent.value == A && sent.count == (at_terminal ? 20 : 28));
     lend();
     return ffn_radio_notice(&radio, buffer, sent.count, question, QUESTION_ROOM);
 }
 
 /* A whole round: each question goes to the node, each reply to the radio. How many there were. */
-static int round_with_node(const uint64_t list[6])
+static int round_with_node(const uint64_t list[6], int at_terminal)
 {
     uint8_t answer[80];
     int questions = 0;
-    struct ffn_radio_doing d = force_off(list);
+    struct ffn_radio_doing d = force_off(list, at_terminal);
     HOLDS(d.refusal == 0 && d.respond == 1);
     for (; d.octets != 0; questions++) {
         struct ffn_answer a = ffn_request(table, TABLE, figures, 3, list, 6, answer, sizeof answer, radio.own, 0x0F, question, d.octets);
@@ -449,7 +479,7 @@ static int round_with_node(const uint64_t list[6])
     return questions;
 }
 
-static void rounds_with_the_node(void)
+static void rounds_with_the_node(int at_terminal)
 {
     const uint64_t list[6] = {A, 1, B, 3, C, 1}, without[6] = {A, 0, B, 3, C, 1};
     const uint64_t stored[] = {F + 4, F, G, F + 1, F + 2, F + 3};
@@ -458,11 +488,11 @@ static void rounds_with_the_node(void)
         for (size_t i = 0; i < sizeof stored / sizeof *stored; i++)
             store(stored[i]);
         if (turn == 0) /* a cab radio: A's are kept, the unknown one is marked, G is not asked */
-            HOLDS(round_with_node(list) == 5 && stores("0492123405? 0492123501 0492123402"));
+            HOLDS(round_with_node(list, at_terminal) == 5 && stores("0492123405? 0492123501 0492123402"));
         else if (turn == 1) /* a hand-held: G too, which is C's */
-            HOLDS(round_with_node(list) == 6 && stores("0492123405? 0492123402"));
+            HOLDS(round_with_node(list, at_terminal) == 6 && stores("0492123405? 0492123402"));
         else /* A has no Follow Me: each reply is 42 */
-            HOLDS(round_with_node(without) == 5
+            HOLDS(round_with_node(without, at_terminal) == 5
                 && stores("0492123405? 0492123401? 0492123501 0492123402? 0492123403? 0492123404?"));
     }
 }
@@ -472,6 +502,7 @@ int main(void)
     storing();
     noticing();
     no_notices();
+    from_the_terminal();
     a_cab_radio_asks_one_root();
     a_hand_held_asks_all();
     replies();
@@ -479,6 +510,7 @@ int main(void)
     invoke_numbers();
     unsound_radios();
     short_buffers();
-    rounds_with_the_node();
+    rounds_with_the_node(0);
+    rounds_with_the_node(1);
     return all_hold();
 }

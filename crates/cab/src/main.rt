@@ -1,6 +1,6 @@
 // A small exchange between a node's table and a cab radio, over packed strings. The driver A registers three numbers of two roots, and her radio stores them; the
-// supervisor B forces her off one; the notice comes to her radio, and the radio asks the node about every number that it stores of that root. Each string that
-// passes is printed as text, a line each. What is printed, in the file stdout, was worked out by hand from documents 01 and 02.
+// supervisor B forces her off one; the notice comes to her radio, and the radio asks the node about every number that it stores of that root. Then staff at the node's
+// terminal clear her number of the other root, and the notice names nobody. Each string that passes is printed as text, a line each. What is printed, in the file stdout, was worked out by hand from documents 01 and 02.
 use answers::Written;
 use node::BUFFER_ROOM;
 use numbers::FunctionalNumber;
@@ -180,11 +180,30 @@ fn request(table: &mut [u64], figures: &mut [u64], requester: u64, text: &[u8]) 
     ask_node(table, figures, &mut reply, requester, &string[..n]);
 }
 
+// Staff at the node's terminal clear a number, naming its holder.
+fn clear(table: &mut [u64], figures: &mut [u64], number: u64, holder: u64) {
+    put(b"terminal clears ");
+    put_number(number);
+    put(b" of ");
+    put_subscriber(holder);
+    let mut reply = [0u8; BUFFER_ROOM];
+    let answer = node::terminal_erasure(
+        table,
+        figures,
+        &mut reply,
+        FunctionalNumber(number),
+        Msisdn(holder),
+    );
+    let octets = streams::within(reply_octets(answer), &reply);
+    put(b"\nnode -> terminal ");
+    put_string(&reply[..octets]);
+}
+
 // The notice to the one who was forced off; how many octets it has.
-fn send_notice(table: &mut [u64], figures: &mut [u64], notice: &mut [u8]) -> usize
+fn send_notice(table: &mut [u64], figures: &mut [u64], number: u64, notice: &mut [u8]) -> usize
     ensures { λ r. ⌜ Counts r (now (notice .exit)) ⌝ }
 {
-    let number = FunctionalNumber(LEADING);
+    let number = FunctionalNumber(number);
     let answer = node::sending(table, figures, notice, number, DELAY, SENT_AT);
     let SendingAnswer::Sent(addressee, octets) = answer else {
         put(b"node: nothing sent\n");
@@ -196,9 +215,9 @@ fn send_notice(table: &mut [u64], figures: &mut [u64], notice: &mut [u8]) -> usi
 }
 
 // The radio's empty response tells the node that the notice was delivered.
-fn respond(table: &mut [u64], figures: &mut [u64]) {
+fn respond(table: &mut [u64], figures: &mut [u64], number: u64) {
     put(b"radio returns the empty response\n");
-    let number = FunctionalNumber(LEADING);
+    let number = FunctionalNumber(number);
     let answer = node::result(table, figures, number, DELIVERED, SENT_AT);
     let ResultAnswer::Delivered = answer else {
         put(b"node: notice not delivered\n");
@@ -299,14 +318,20 @@ fn store_others(radio: Radio) -> Radio {
 }
 
 // The notice passes from the node to the radio; the first question stands in its buffer.
-fn notify(table: &mut [u64], figures: &mut [u64], radio: Radio, question: &mut [u8]) -> Next {
+fn notify(
+    table: &mut [u64],
+    figures: &mut [u64],
+    radio: Radio,
+    number: u64,
+    question: &mut [u8],
+) -> Next {
     let mut notice = [0u8; BUFFER_ROOM];
-    let octets = send_notice(table, figures, &mut notice);
+    let octets = send_notice(table, figures, number, &mut notice);
     let next = radio::noticed(radio, &notice[..octets], question);
     let doing = next.doing;
     put_refusal(doing);
     if doing.respond == 1 {
-        respond(table, figures);
+        respond(table, figures, number);
     }
     next
 }
@@ -346,6 +371,20 @@ fn ask_round(table: &mut [u64], figures: &mut [u64], first: Next, question: &mut
     next.radio
 }
 
+// She is told that she was forced off a number: the notice, the round, and what her radio stores then.
+fn tell(
+    table: &mut [u64],
+    figures: &mut [u64],
+    radio: Radio,
+    number: u64,
+    question: &mut [u8],
+) -> Radio {
+    let first = notify(table, figures, radio, number, question);
+    let radio = ask_round(table, figures, first, question);
+    put_stored(radio);
+    radio
+}
+
 fn main() {
     let mut table = known_numbers();
     let mut figures = figures_of(&table);
@@ -358,6 +397,13 @@ fn main() {
         SUPERVISOR,
         b"##214*0492123401*88*4915100001*#",
     );
-    let first = notify(&mut table, &mut figures, radio, &mut question);
-    put_stored(ask_round(&mut table, &mut figures, first, &mut question));
+    let radio = tell(&mut table, &mut figures, radio, LEADING, &mut question);
+    clear(&mut table, &mut figures, OTHER_LEADING, DRIVER);
+    tell(
+        &mut table,
+        &mut figures,
+        radio,
+        OTHER_LEADING,
+        &mut question,
+    );
 }

@@ -21,6 +21,7 @@ ghost use Rattle.timetable.specs.Timetable.{closingNumber, compacting, adding};
 ghost use Rattle.rules.specs.Crews.{requesting};
 ghost use Rattle.rules.specs.Frames.{framedRequest};
 ghost use Rattle.rules.specs.Notices as notices;
+ghost use Rattle.rules.specs.Terminal.{terminalErasure};
 ghost use Rattle.structs.specs.Numbers.{ofAnswer, operationOf, erasingOf};
 ghost use Rattle.structs.specs.Figures.{ofFigures};
 ghost use Rattle.structs.specs.Frames.{ofRegister, ofRelease};
@@ -113,6 +114,22 @@ pub extern "C" fn ffn_request(
     let requester = Msisdn(requester);
     let answer = node::request(table, figures, list, reply, requester, scheme, string);
     structs::of_request(answer)
+}
+
+// An erasure at the node's terminal: the number and its holder over the lent table and figures, with the reply.
+#[no_mangle]
+pub extern "C" fn ffn_terminal_erasure(
+    table: &mut [u64],
+    figures: &mut [u64],
+    reply: &mut [u8],
+    number: u64,
+    holder: u64,
+) -> Answer
+    ensures { λ r. ⌜ returning r (now (table .exit)) (now (figures .exit)) (now (reply .exit)) ≡ ofCall (terminalErasure (beside (now (table .entry)) (now (figures .entry))) (now (reply .entry)) (record { 0 = number }) (record { 0 = holder })) ⌝ }
+{
+    let number = FunctionalNumber(number);
+    let holder = Msisdn(holder);
+    structs::of_request(node::terminal_erasure(table, figures, reply, number, holder))
 }
 
 // A sending of a number's notice, with the notice in the buffer.

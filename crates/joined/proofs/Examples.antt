@@ -10,7 +10,8 @@ use Rattle.answers.specs.Leading.{leading}
 use Rattle.packing.specs.Packing.{valueOf, digits, octetsFor, charsIn, padded, packed, characters, readable, filled, kept, unpacked}
 use Rattle.numbers.specs.Numbers.{isDigit, pushed, storedForm, isNumber, digitsUpTo, digitsOf, leadingNumber}
 use Rattle.crews.specs.Crews.{crewOf, countOf}
-use Rattle.strings.specs.Text.{isAdditional, textOf, noticeFields}
+use Rattle.strings.specs.Text.{isAdditional, textOf}
+use Rattle.strings.specs.Notices.{noticeText, noticeFields, supervisorFieldAt, noticeStringAt, noticeStringOf}
 use Rattle.strings.specs.Reader.{operationAt, serviceAt, numberFieldAt, forcedAt, erasingAt, additionalAt, fieldsOf}
 use Rattle.strings.specs.Outcomes.{requestOf}
 use Rattle.records.specs.Steps.{delayOf, delayAllowed}
@@ -88,7 +89,7 @@ pub record Computed : Type 0 where
   pub conditions-met : Met
 
 pub computed : Computed
-unfolding countOf crewOf valueOf digits octetsFor charsIn padded packed characters readable filled kept unpacked isDigit pushed storedForm isNumber digitsUpTo digitsOf leading leadingNumber isAdditional textOf noticeFields begins operationAt serviceAt numberFieldAt forcedAt erasingAt additionalAt fieldsOf requestOf delayOf delayAllowed rows.noticeUpTo rows.rowUpTo rows.noticeOf rows.recordAt placeOf tableUpTo rowOf recordOf figures.recount states.figuresRight listSound flagsOf requests.step crews.requesting notices.sendingNotice radioSound every has noneTwice openOf begun settled noticing replying storing questionOf verdictOn verdictOf asksIn numbersThat
+unfolding countOf crewOf valueOf digits octetsFor charsIn padded packed characters readable filled kept unpacked isDigit pushed storedForm isNumber digitsUpTo digitsOf leading leadingNumber isAdditional textOf noticeText noticeFields supervisorFieldAt noticeStringAt noticeStringOf begins operationAt serviceAt numberFieldAt forcedAt erasingAt additionalAt fieldsOf requestOf delayOf delayAllowed rows.noticeUpTo rows.rowUpTo rows.noticeOf rows.recordAt placeOf tableUpTo rowOf recordOf figures.recount states.figuresRight listSound flagsOf requests.step crews.requesting notices.sendingNotice radioSound every has noneTwice openOf begun settled noticing replying storing questionOf verdictOn verdictOf asksIn numbersThat
 computed =
     let well : WellAsked table (dueAt radio string) table (replicate 80 9) question =
     record { sound = refl; reply-room = omega arith; question-room = omega arith; unchanged = λ n h. refl } in

@@ -15,7 +15,7 @@ use Rattle.answers.proofs.Tests.{less-or-not}
 use Rattle.answers.proofs.Checks.{not-some}
 use Rattle.packing.specs.Packing.{packed, takes}
 use Rattle.packing.proofs.RoundTrip.{packed-reads, unpacked-packed}
-use Rattle.numbers.specs.Numbers.{isNumber, digitsOf, twoDigits}
+use Rattle.numbers.specs.Numbers.{isNumber, digitsOf, twoDigits, isNobody}
 use Rattle.numbers.specs.declared.Msisdn.{Msisdn}
 use Rattle.numbers.proofs.Lengths.{number-some}
 use Rattle.numbers.proofs.Reading.{number-read-last}
@@ -24,7 +24,7 @@ use Rattle.strings.specs.Text.{codingScheme}
 use Rattle.strings.specs.Outcomes.{requestOf}
 use Rattle.strings.proofs.Octets.{octets-most}
 use Rattle.records.specs.declared.Record.{Record}
-use Rattle.records.specs.Steps.{isNobody, interrogated}
+use Rattle.records.specs.Steps.{interrogated}
 use Rattle.rows.specs.Rows.{recordSound}
 use Rattle.rows.proofs.Rows.{record-sound}
 use Rattle.rows.proofs.Kept.{holder-number}

@@ -11,14 +11,13 @@ use Rattle.answers.specs.Checks.{isNone}
 use Rattle.answers.proofs.Tests.{no-path, and-both, or-neither}
 use Rattle.answers.proofs.Decide.{decide-by}
 use Rattle.packing.specs.Packing.{packed}
-use Rattle.numbers.specs.Numbers.{isNumber}
+use Rattle.numbers.specs.Numbers.{isNumber, numberOrNobody}
 use Rattle.numbers.specs.declared.FunctionalNumber.{FunctionalNumber}
 use Rattle.numbers.specs.declared.Msisdn.{Msisdn}
 use Rattle.numbers.proofs.Lengths.{number-some}
-use Rattle.strings.specs.Text.{textOf, noticeFields}
+use Rattle.strings.specs.Notices.{noticeText, noticeFields}
 use Rattle.strings.specs.Outcomes.{writerRoom}
-use Rattle.strings.proofs.Text.{notice-sound}
-use Rattle.strings.proofs.Octets.{reads-written}
+use Rattle.strings.proofs.Notices.{notice-sound, notice-written}
 use Rattle.records.specs.declared.Notice.{Notice}
 use Rattle.records.specs.declared.Notice.the-variants.{Absent, Waiting, InFlight}
 use Rattle.records.specs.Steps.{isAbsent, isWaiting}
@@ -45,10 +44,10 @@ waits-there (Waiting k s) h = refl
 waits-there (InFlight k) h = refl
 
 -- the string of a notice is about its number
-notice-about : (number : FunctionalNumber) (supervisor : Msisdn) → isNumber (number .0) ≡ true → isNumber (supervisor .0) ≡ true
-    → noticeOf (packed (textOf (noticeFields number supervisor))) ≡ number .0
+notice-about : (number : FunctionalNumber) (supervisor : Msisdn) → isNumber (number .0) ≡ true → numberOrNobody (supervisor .0) ≡ true
+    → noticeOf (packed (noticeText (noticeFields number supervisor))) ≡ number .0
 unfolding noticeFields
-notice-about number supervisor h s = rw (reads-written (noticeFields number supervisor) (notice-sound number supervisor h s))
+notice-about number supervisor h s = rw (notice-written (noticeFields number supervisor) (notice-sound number supervisor h s))
 
 module _ (radio : Radio) (question : List ℕ) (sound : radioSound radio ≡ true) (room : writerRoom ≤ length question) where
   heard : (string : List ℕ) (number : ℕ) → isNumber number ≡ true → noticeOf string ≡ number → Heard radio string question number
@@ -75,7 +74,7 @@ module _ (radio : Radio) (question : List ℕ) (sound : radioSound radio ≡ tru
         let r = recordIn t i in
         let pending = waits-there (r .notice) (rw (record-found (t .table) (number .0) i p) at w) in
         let words = pending-words r (record-sound (t .table) i (found-sound t (number .0) i s p)) pending in
-        let text = textOf (noticeFields number (r .supervisor)) in
+        let text = noticeText (noticeFields number (r .supervisor)) in
         let count : octets ≡ length (packed text) = cc in
         rw (count, take-append-seam (packed text) (drop (length (packed text)) buffer))
         (heard (packed text) (number .0) h (notice-about number (r .supervisor) h (words .supervised)))

@@ -7,7 +7,8 @@ use Rattle.answers.specs.Ascii.{ascii}
 use Rattle.packing.specs.Packing.{valueOf, digits, octetsFor, charsIn, taken, padded, packed, characters, readable, filled, kept, unpacked}
 use Rattle.numbers.specs.Numbers.{isDigit, pushed, storedForm, isNumber, digitsUpTo, digitsOf, leadingNumber}
 use Rattle.crews.specs.Crews.{crewOf, countOf}
-use Rattle.strings.specs.Text.{isAdditional, textOf, noticeFields}
+use Rattle.strings.specs.Text.{isAdditional, textOf}
+use Rattle.strings.specs.Notices.{noticeText, noticeFields}
 use Rattle.strings.specs.Reader.{operationAt, serviceAt, numberFieldAt, forcedAt, erasingAt, additionalAt, fieldsOf}
 use Rattle.strings.specs.Outcomes.{requestOf}
 use Rattle.records.specs.Steps.{elapsed, delayOf, delayAllowed}
@@ -42,5 +43,5 @@ laterOutput =
     "R 01\nR 02\nT 4915100001 ##214*0492123401*88*4915100002*#\nD again\nT refused 5\nT refused 5\nT 4915100001 ##214*0492123401*88*4915100002*#\nD delivered\n"
 
 pub listings : (outputOf (ascii wholeInput) ≡ ascii wholeOutput) × (outputOf (ascii laterInput) ≡ ascii laterOutput)
-unfolding countOf crewOf valueOf digits octetsFor charsIn taken each padded packed characters readable filled kept unpacked isDigit pushed storedForm isNumber digitsUpTo digitsOf leading leadingNumber isAdditional textOf noticeFields begins operationAt serviceAt numberFieldAt forcedAt erasingAt additionalAt fieldsOf requestOf elapsed delayOf delayAllowed rows.noticeUpTo rows.rowUpTo rows.noticeOf rows.recordAt rows.stored placeOf tableUpTo rowOf recordOf listSound flagsOf recount figuresRight moved requests.step crews.requesting notices.sendingNotice notices.takingResult lines.linesOf lines.firstField lines.behindField lines.isDigits lines.numberOf lines.askedOf lines.valueBelow lines.numberForm lines.subscriberForm lines.requestForm lines.sendingForm lines.resultFields lines.resultForm lines.delayForm lines.lettered lines.formOf program.mayFollow program.numbered program.subscribed program.delayed program.asked program.requested program.dispatched program.reported program.lineEffect program.linesEffect program.programEffect program.outputOf
+unfolding countOf crewOf valueOf digits octetsFor charsIn taken each padded packed characters readable filled kept unpacked isDigit pushed storedForm isNumber digitsUpTo digitsOf leading leadingNumber isAdditional textOf noticeText noticeFields begins operationAt serviceAt numberFieldAt forcedAt erasingAt additionalAt fieldsOf requestOf elapsed delayOf delayAllowed rows.noticeUpTo rows.rowUpTo rows.noticeOf rows.recordAt rows.stored placeOf tableUpTo rowOf recordOf listSound flagsOf recount figuresRight moved requests.step crews.requesting notices.sendingNotice notices.takingResult lines.linesOf lines.firstField lines.behindField lines.isDigits lines.numberOf lines.askedOf lines.valueBelow lines.numberForm lines.subscriberForm lines.requestForm lines.sendingForm lines.resultFields lines.resultForm lines.delayForm lines.lettered lines.formOf program.mayFollow program.numbered program.subscribed program.delayed program.asked program.requested program.dispatched program.reported program.lineEffect program.linesEffect program.programEffect program.outputOf
 listings = (refl, refl)

@@ -1,5 +1,5 @@
 -- Every answer of a request or a sending can be printed: its octets are packed characters, and its addressee is a number. Assumes nothing.
-use mathlib.Core.Path.{_≡_, refl, _∙_}
+use mathlib.Core.Path.{_≡_, refl, sym, subst, _∙_}
 use mathlib.Core.Bool.{Bool, true, false, cond}
 use mathlib.Core.List.{List, [], _∷_, _++_}
 use Prim.Native.Nat.{ℕ, zero, suc, _+_, _/_, _%_, _≤_, _<_}
@@ -20,7 +20,9 @@ use Rattle.packing.proofs.RoundTrip.{packed-reads}
 use Rattle.numbers.specs.Numbers.{isNumber, digitsUpTo, digitsOf, twoDigits}
 use Rattle.numbers.specs.declared.FunctionalNumber.{FunctionalNumber}
 use Rattle.numbers.specs.declared.Msisdn.{Msisdn}
-use Rattle.strings.specs.Text.{textOf, noticeFields, codingScheme}
+use Rattle.strings.specs.Text.{textOf, codingScheme}
+use Rattle.strings.specs.Notices.{noticeText, noticeFields}
+use Rattle.strings.proofs.Notices.{forced-text}
 use Rattle.tables.specs.declared.Found.{Found}
 use Rattle.tables.specs.declared.Found.the-variants.{At, Nothing}
 use Rattle.records.specs.declared.Notice.{Notice}
@@ -138,12 +140,13 @@ unfolding octetsFor
 notice-short a b p q = omega (arith, length-append a (ascii "*88*" ++ (b ++ ascii "*#")), length-append b (ascii "*#"))
 
 notice-stands : (number : FunctionalNumber) (supervisor : Msisdn) (lentBuffer : List ℕ)
-    → Text mostNoticeOctets (octetCount (textOf (noticeFields number supervisor))) (packedOver (textOf (noticeFields number supervisor)) lentBuffer)
+    → Text mostNoticeOctets (octetCount (noticeText (noticeFields number supervisor))) (packedOver (noticeText (noticeFields number supervisor)) lentBuffer)
 unfolding textOf noticeFields digitsOf
 notice-stands number supervisor lentBuffer =
-    text-stands mostNoticeOctets (textOf (noticeFields number supervisor)) lentBuffer
+    subst (λ (text : List ℕ). Text mostNoticeOctets (octetCount text) (packedOver text lentBuffer)) (sym (forced-text (noticeFields number supervisor)))
+    (text-stands mostNoticeOctets (notice (digitsOf (number .0)) (digitsOf (supervisor .0))) lentBuffer
     (notice-taken _ _ (takes-digits 15 (number .0)) (takes-digits 15 (supervisor .0)))
-    (notice-short (digitsOf (number .0)) (digitsOf (supervisor .0)) (digits-short 15 (number .0)) (digits-short 15 (supervisor .0)))
+    (notice-short (digitsOf (number .0)) (digitsOf (supervisor .0)) (digits-short 15 (number .0)) (digits-short 15 (supervisor .0))))
 
 present : (n : Notice) → isWaiting n ≡ true → isAbsent n ≡ false
 present Absent h = no-path h

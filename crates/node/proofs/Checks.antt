@@ -7,7 +7,7 @@ use Prim.Native.Nat.{ℕ, _≤_, _<_}
 use lib.ListN.{length}
 use borrow.Author.Tests.{lt-ltb, le-ltb, eq-eqb, ne-eqb}
 use Rattle.answers.specs.Checks.{anyHolds}
-use Rattle.numbers.specs.Numbers.{isNumber}
+use Rattle.numbers.specs.Numbers.{isNumber, nobody}
 use Rattle.numbers.specs.declared.FunctionalNumber.{FunctionalNumber}
 use Rattle.numbers.specs.declared.Msisdn.{Msisdn}
 use Rattle.strings.specs.Text.{Request, codingScheme}
@@ -16,9 +16,10 @@ use Rattle.tables.specs.Tables.{tableSound, listSound}
 use Rattle.states.specs.States.{State, figuresRight, stateSound, refusalOf, recordIn}
 use Rattle.states.proofs.States.{state-table, state-right, state-refuses}
 use Rattle.rules.specs.Answers.{refusal, error, made, bufferRoom, Outcome}
-use Rattle.rules.specs.Requests.{mostStringOctets, refusalChecks}
+use Rattle.rules.specs.Requests.{mostStringOctets, refusalChecks, once}
 use Rattle.rules.specs.Crews.{requesting}
 use Rattle.rules.specs.Notices.{sendingNotice, takingResult, finding, firstDue}
+use Rattle.rules.specs.Terminal.{terminalRequest, bothNumbers, terminalErasure}
 use Rattle.rules.specs.Visits.{storing, leaving, sentStep, visitSending, missedSending}
 use Rattle.records.specs.Steps.{sent, delayAllowed}
 use Rattle.tables.specs.Tables.{rowsIn}
@@ -114,6 +115,31 @@ module _ (state : State) (number : FunctionalNumber) (kind clock : ℕ) where
   pub result-7 : stateSound state ≡ true → isNumber (number .0) ≡ false → takingResult state number kind clock ≡ made (refusal 7) state []
   unfolding takingResult
   result-7 sound malformed = rw (state-table state sound, state-right state sound, malformed)
+
+-- ---- the terminal
+
+module _ (state : State) (reply : List ℕ) (number : FunctionalNumber) (holder : Msisdn) where
+  abbrev erasure : Outcome
+  erasure = terminalErasure state reply number holder
+
+  pub terminal-1 : length reply < bufferRoom → erasure ≡ made (refusal 1) state reply
+  unfolding terminalErasure
+  terminal-1 short = rw (lt-ltb _ _ short)
+
+  module _ (room : bufferRoom ≤ length reply) where
+    pub terminal-state : (n : ℕ) → n ≡ refusalOf state → (n ≡ 0 → ⊥) → made (refusal n) state reply ≡ erasure
+    unfolding terminalErasure
+    terminal-state n e refused = rw (le-ltb _ _ room) (state-refuses state n e (λ m. made (refusal m) state reply) _ refused)
+
+    module _ (sound : stateSound state ≡ true) where
+      pub terminal-7 : bothNumbers number holder ≡ false → erasure ≡ made (refusal 7) state reply
+      unfolding terminalErasure
+      terminal-7 malformed = rw (le-ltb _ _ room, state-table state sound, state-right state sound, malformed)
+
+      -- none holds
+      pub terminal-asks : bothNumbers number holder ≡ true → erasure ≡ once state reply nobody (terminalRequest number holder)
+      unfolding terminalErasure
+      terminal-asks numbers = rw (le-ltb _ _ room, state-table state sound, state-right state sound, numbers)
 
 -- ---- findings
 

@@ -1,10 +1,11 @@
-// The four calls of the node over lent memory: a request, a sending, a result and a finding, each equal to the rules of documents 01 and 02 for every input.
+// The five calls of the node over lent memory: a request, a sending, a result, a finding and an erasure at the terminal, each equal to the rules of documents 01 and 02 for every input.
 use crews::Crew;
 use numbers::FunctionalNumber;
 use numbers::Msisdn;
 use strings::CODING_SCHEME;
 use strings::Erasing;
 use strings::Fields;
+use strings::Operation;
 use strings::Reading;
 use tables::Found;
 use visits::FindingAnswer;
@@ -26,6 +27,7 @@ ghost use Rattle.rules.specs.Requests.{isForced, isSupervisor};
 ghost use Rattle.rules.specs.Requests as requests;
 ghost use Rattle.rules.specs.Crews as crews;
 ghost use Rattle.rules.specs.Notices as notices;
+ghost use Rattle.rules.specs.Terminal.{terminalErasure};
 ghost use Rattle.node.specs.Asked.{withAdditional, askedBy};
 ghost use Rattle.visits.specs.Said.{saidRequest, saidSending, saidResult, saidFinding};
 
@@ -160,6 +162,37 @@ pub fn request(
         return RequestAnswer::Refused(refused);
     }
     ask_string(table, figures, list, reply, requester, scheme, string)
+}
+
+// An erasure at the node's terminal: a forced one by nobody listed, naming the number's holder.
+pub fn terminal_erasure(
+    table: &mut [u64],
+    figures: &mut [u64],
+    reply: &mut [u8],
+    number: FunctionalNumber,
+    holder: Msisdn,
+) -> RequestAnswer
+    ensures { λ r. ⌜ made (saidRequest r) (beside (now (table .exit)) (now (figures .exit))) (now (reply .exit)) ≡ terminalErasure (beside (now (table .entry)) (now (figures .entry))) (now (reply .entry)) number holder ⌝ }
+{
+    if reply.len() < BUFFER_ROOM {
+        return RequestAnswer::Refused(1);
+    }
+    let refused = states::refusal(table, figures);
+    if refused != 0 {
+        return RequestAnswer::Refused(refused);
+    }
+    if !(numbers::is_number(number.0) & numbers::is_number(holder.0)) {
+        return RequestAnswer::Refused(7);
+    }
+    let fields = Fields {
+        operation: Operation::Erase,
+        number,
+        erasing: Erasing::Forced(holder),
+        start: 0,
+        count: 0,
+        crew: Crew::Single,
+    };
+    ask_single(table, figures, reply, Msisdn(0), fields)
 }
 
 // A sending names a number.

@@ -1,14 +1,15 @@
 -- A number in stored form is a 1 with 5 to 15 digits behind it: its length, and what that says of its size. Assumes nothing.
-use mathlib.Core.Path.{_≡_}
-use mathlib.Core.Logic.{_⊎_, inl, inr}
+use mathlib.Core.Path.{_≡_, refl}
+use mathlib.Core.Logic.{_⊎_, inl, inr, ⊎-elim}
 use mathlib.Core.Bool.{Bool, true, false, _&&_, _||_}
+use mathlib.Core.List.{[]}
 use Prim.Native.Nat.{ℕ, zero, suc, _+_, _*_, _^_, _≤_, _<_}
 use native.Mathlib.Nat.{pow-le-pow-right}
 use native.Mathlib.Omega.{arith}
-use lib.Dec.{leb, ltb, lit<}
-use borrow.Author.Tests.{leb-true, ltb-true, le-leb, lt-ltb}
+use lib.Dec.{eqb, leb, ltb, lit<}
+use borrow.Author.Tests.{eqb-true, leb-true, ltb-true, le-leb, lt-ltb}
 use Rattle.answers.proofs.Tests.{no-path, and-left, and-right, and-both, or-cases, or-left, or-right, less-or-not}
-use Rattle.numbers.specs.Numbers.{fewestDigits, mostDigits, oneAnd, isNumber}
+use Rattle.numbers.specs.Numbers.{fewestDigits, mostDigits, oneAnd, isNumber, numberOrNobody, digitsUpTo, digitsOf}
 use Rattle.numbers.specs.Least.{lengths}
 
 -- ---- a test of n numbers from d on: one passes, all pass
@@ -91,3 +92,14 @@ number-below w h = let l = length-of w h in omega (arith, l .1 .below, pow-le-po
 -- 0, which means nobody, is none
 pub number-some : (w : ℕ) → isNumber w ≡ true → w ≡ 0 → ⊥
 number-some w h e = omega (arith, number-least w h)
+
+-- ---- nobody
+
+-- nobody has no digits
+pub no-digits : digitsOf 0 ≡ []
+unfolding digitsUpTo digitsOf
+no-digits = refl
+
+-- what holds of nobody and of every number
+pub nobody-or-number : (P : ℕ → Type 0) (w : ℕ) → numberOrNobody w ≡ true → P 0 → (isNumber w ≡ true → P w) → P w
+nobody-or-number P w h nobody number = ⊎-elim (λ z. rw (eqb-true w 0 z) nobody) number (or-cases (eqb w 0) (isNumber w) h)

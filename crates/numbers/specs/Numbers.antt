@@ -3,9 +3,10 @@ use Prim.Native.Nat.{ℕ, zero, suc, _+_, _-_, _*_, _/_, _%_, _^_}
 use mathlib.Core.Bool.{Bool, not, cond, _&&_, _||_}
 use mathlib.Core.List.{List, [], _∷_, _++_}
 use lib.ListN.{length, take}
-use lib.Dec.{leb, ltb}
+use lib.Dec.{eqb, leb, ltb}
 use Rattle.answers.specs.Leading.{each, leading}
 use Rattle.answers.specs.Writing.{WriteOutcome, writing}
+use Rattle.numbers.specs.declared.Msisdn.{Msisdn}
 use Rattle.numbers.specs.declared.NumberRead.{NumberRead}
 use Rattle.numbers.specs.declared.NumberRead.the-variants.{Number, Unreadable}
 
@@ -41,6 +42,17 @@ unfoldable pub isNumber : ℕ → Bool
 isNumber w =
     oneAnd 5 w || oneAnd 6 w || oneAnd 7 w || oneAnd 8 w || oneAnd 9 w || oneAnd 10 w || oneAnd 11 w || oneAnd 12 w || oneAnd 13 w || oneAnd 14 w
     || oneAnd 15 w
+
+-- "0 means nobody"
+abbrev pub nobody : Msisdn
+nobody = record { 0 = 0 }
+
+abbrev pub isNobody : Msisdn → Bool
+isNobody m = eqb (m .0) 0
+
+-- a number, or nobody
+abbrev pub numberOrNobody : ℕ → Bool
+numberOrNobody w = eqb w 0 || isNumber w
 
 -- the digits of w behind its first one, at most `room` of them
 unfoldable pub digitsUpTo : ℕ → ℕ → List ℕ

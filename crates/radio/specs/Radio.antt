@@ -13,12 +13,11 @@ use Rattle.packing.specs.Packing.{packed, readable, unpacked}
 use Rattle.numbers.specs.Numbers.{isNumber, leadingNumber}
 use Rattle.numbers.specs.declared.NumberRead.{NumberRead}
 use Rattle.numbers.specs.declared.NumberRead.the-variants.{Number, Unreadable}
-use Rattle.strings.specs.declared.Operation.{Operation}
-use Rattle.strings.specs.declared.Operation.the-variants.{Register, Erase, Interrogate}
-use Rattle.strings.specs.declared.Erasing.{Erasing}
-use Rattle.strings.specs.declared.Erasing.the-variants.{Empty, Forced}
+use Rattle.strings.specs.declared.Operation.the-variants.{Interrogate}
+use Rattle.strings.specs.declared.Erasing.the-variants.{Empty}
 use Rattle.strings.specs.Text.{Request, requestFrom, textOf}
-use Rattle.strings.specs.Outcomes.{requestOf, writerRoom}
+use Rattle.strings.specs.Outcomes.{writerRoom}
+use Rattle.strings.specs.Notices.{NoticeString, noticeStringOf}
 use Rattle.stores.specs.declared.Entry.{Entry}
 use Rattle.stores.specs.declared.Radio.{Radio}
 use Rattle.stores.specs.declared.Verdict.{Verdict}
@@ -87,19 +86,13 @@ storing radio number =
 
 -- ---- a notice
 
--- "it checks operation and service code": the number of a forced erasure's string, 0 where it is none
-abbrev pub forcedNumber : Operation → Erasing → ℕ → ℕ
-forcedNumber Register e number = 0
-forcedNumber Interrogate e number = 0
-forcedNumber Erase Empty number = 0
-forcedNumber Erase (Forced supervisor) number = number
-
-abbrev pub noticeRead : Option Request → ℕ
-noticeRead none = 0
-noticeRead (some f) = forcedNumber (f .operation) (f .erasing) (f .number .0)
+-- "it checks operation and service code": the number that a notice's string names, 0 where it is none
+abbrev pub noticedNumber : Option NoticeString → ℕ
+noticedNumber none = 0
+noticedNumber (some n) = n .number .0
 
 abbrev pub noticeOf : List ℕ → ℕ
-noticeOf string = noticeRead (requestOf string)
+noticeOf string = noticedNumber (noticeStringOf string)
 
 -- "A notice during a round drops the open question and starts its own round"
 unfoldable pub noticing : Radio → List ℕ → List ℕ → Outcome

@@ -7,8 +7,8 @@ use stores::MOST_STORED;
 use stores::Radio;
 use stores::Verdict;
 use strings::Erasing;
+use strings::NoticeReading;
 use strings::Operation;
-use strings::Reading;
 use writers::WRITER_ROOM;
 ghost use mathlib.Core.Path.{_≡_};
 ghost use Prim.Native.Nat.{_≤_};
@@ -73,22 +73,11 @@ pub fn stored(radio: Radio, number: u64) -> Next
     quiet(0, 0, next)
 }
 
-// The number of a forced erasure's string; 0 where it is none.
+// The number that a notice's string names; 0 where it is none.
 fn notice_number(string: &[u8]) -> u64
     ensures { λ r. ⌜ r ≡ noticeOf (now (string .entry)) ⌝ }
 {
-    let read = strings::read_request(string);
-    let reading = read.reading;
-    let Reading::Read(fields) = reading else {
-        return 0;
-    };
-    let operation = fields.operation;
-    let erasing = fields.erasing;
-    let number = fields.number;
-    let Operation::Erase = operation else {
-        return 0;
-    };
-    let Erasing::Forced(_) = erasing else {
+    let NoticeReading::Notice(number, _) = strings::read_notice(string) else {
         return 0;
     };
     number.0

@@ -4,6 +4,7 @@ use mathlib.Core.Bool.{Bool, true, false, cond, not, _&&_, _||_}
 use mathlib.Core.List.{[], _∷_}
 use lib.Dec.{eqb, ltb, leb}
 use Rattle.answers.specs.Checks.{decide}
+use Rattle.numbers.specs.Numbers.{nobody, isNobody}
 use Rattle.numbers.specs.declared.FunctionalNumber.{FunctionalNumber}
 use Rattle.numbers.specs.declared.Msisdn.{Msisdn}
 use Rattle.records.specs.declared.Notice.{Notice}
@@ -19,13 +20,6 @@ use Rattle.records.specs.declared.Resulted.{Resulted}
 use Rattle.records.specs.declared.Resulted.the-variants.{Refused, Delivered, Dropped, Again}
 
 -- ---- who holds the number
-
--- "0 means nobody"
-abbrev pub nobody : Msisdn
-nobody = record { 0 = 0 }
-
-abbrev pub isNobody : Msisdn → Bool
-isNobody m = eqb (m .0) 0
 
 -- two MSISDNs with the same digits
 abbrev pub same : Msisdn → Msisdn → Bool
@@ -70,7 +64,7 @@ withNotice n r = record { holder = r .holder; notice = n; addressee = r .address
 abbrev pub cleared : Record → Record
 cleared r = record { holder = r .holder; notice = Absent; addressee = nobody; supervisor = nobody; closed = r .closed }
 
--- the holder forced off by a supervisor, with a notice to her: "the phase becomes 1 with addressee and supervisor set"
+-- the holder forced off by a supervisor (M-111: at the terminal, by nobody), with a notice to her: "the phase becomes 1 with addressee and supervisor set"
 abbrev pub forcedOff : Msisdn → Record → Record
 forcedOff supervisor r = record { holder = nobody; notice = Waiting 0 0; addressee = r .holder; supervisor = supervisor; closed = r .closed }
 

@@ -194,7 +194,7 @@ impl Record {
         Step::Becomes(self.held_by(Msisdn(0)))
     }
 
-    // A supervisor forces off the holder whom she names; there is no notice to herself.
+    // A supervisor (M-111: at the terminal, nobody) forces off the holder whom she names; there is no notice to herself.
     pub fn force(self, supervisor: Msisdn, named: Msisdn) -> Step
         ensures { λ r. ⌜ r ≡ forced supervisor named self ⌝ }
     {

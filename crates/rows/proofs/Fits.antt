@@ -10,22 +10,22 @@ use lib.ListN.{getD}
 use lib.Dec.{eqb}
 use borrow.Author.Tests.{eqb-true}
 use Rattle.answers.proofs.Tests.{or-cases, less-or-not}
-use Rattle.numbers.specs.Numbers.{isNumber}
-use Rattle.numbers.proofs.Lengths.{number-below}
-use Rattle.rows.specs.Rows.{rowWords, word, numberAt, holderAt, phaseAt, addresseeAt, supervisorAt, secondAt, closedAt, closedSound, lastPhase, holderSound, noticeSound, rowSound}
+use Rattle.numbers.specs.Numbers.{isNumber, numberOrNobody}
+use Rattle.numbers.proofs.Lengths.{number-below, nobody-or-number}
+use Rattle.rows.specs.Rows.{rowWords, word, numberAt, holderAt, phaseAt, addresseeAt, supervisorAt, secondAt, closedAt, closedSound, lastPhase, noticeSound, rowSound}
 use Rattle.rows.proofs.Notices.{pending, absent-words, notice-bounds}
 use Rattle.rows.proofs.Rows.{sound-row}
 
 pub number-fits : (w : ℕ) → isNumber w ≡ true → w < 2 ^ 64
 number-fits w h = omega (arith, number-below w h)
 
-holder-fits : (w : ℕ) → holderSound w ≡ true → w < 2 ^ 64
-holder-fits w h = ⊎-elim (λ z. omega (arith, eqb-true w 0 z)) (λ n. number-fits w n) (or-cases (eqb w 0) (isNumber w) h)
+nobody-fits : (w : ℕ) → numberOrNobody w ≡ true → w < 2 ^ 64
+nobody-fits w h = nobody-or-number (λ (w : ℕ). w < 2 ^ 64) w h (omega arith) (number-fits w)
 
 notice-fits : (phase addressee supervisor second : ℕ) → noticeSound phase addressee supervisor second ≡ true → (addressee < 2 ^ 64) × (supervisor < 2 ^ 64)
 notice-fits phase addressee supervisor second e =
     ⊎-elim
-    (λ h. let p = pending phase addressee supervisor second e h in (number-fits addressee (p .addressed), number-fits supervisor (p .supervised)))
+    (λ h. let p = pending phase addressee supervisor second e h in (number-fits addressee (p .addressed), nobody-fits supervisor (p .supervised)))
     (λ h. let z : phase ≡ 0 = omega arith in let w = absent-words addressee supervisor second (rw z at e) in (omega (arith, w .0), omega (arith, w .1)))
     (less-or-not 0 phase)
 
@@ -41,7 +41,7 @@ module _ (t : List ℕ) (i : ℕ) (e : rowSound t i ≡ true) where
 
   pub row-fits : (place : ℕ) → place < rowWords → word t i place < 2 ^ 64
   row-fits zero l = rw (ap (λ (n : ℕ). getD t n 0) (add-zero (rowWords * i))) (number-fits (numberAt t i) (sound-row t i e .number))
-  row-fits (suc zero) l = holder-fits (holderAt t i) (sound-row t i e .holder)
+  row-fits (suc zero) l = nobody-fits (holderAt t i) (sound-row t i e .holder)
   row-fits (suc (suc zero)) l = omega (arith, phase-and-second .0)
   row-fits (suc (suc (suc zero))) l = notice-words .0
   row-fits (suc (suc (suc (suc zero)))) l = notice-words .1

@@ -9,7 +9,7 @@ use lib.Dec.{eqb, ltb, leb}
 use borrow.Author.Tests.{eq-eqb, le-leb, leb-true, leb-false, not-false}
 use Rattle.answers.proofs.Tests.{no-path, or-cases, or-right}
 use Rattle.answers.proofs.Decide.{decide-by, decide-each}
-use Rattle.numbers.specs.Numbers.{isNumber}
+use Rattle.numbers.specs.Numbers.{isNumber, numberOrNobody, nobody, isNobody}
 use Rattle.numbers.specs.declared.FunctionalNumber.{FunctionalNumber}
 use Rattle.numbers.specs.declared.Msisdn.{Msisdn}
 use Rattle.records.specs.declared.Notice.{Notice}
@@ -21,8 +21,8 @@ use Rattle.records.specs.declared.Sending.{Sending}
 use Rattle.records.specs.declared.Sending.the-variants as sending
 use Rattle.records.specs.declared.Resulted.{Resulted}
 use Rattle.records.specs.declared.Resulted.the-variants.{Refused, Delivered, Dropped, Again}
-use Rattle.records.specs.Steps.{nobody, isNobody, same, isOwn, mayErase, heldBy, mostSendings, isAbsent, isWaiting, isInFlight, sendingsDone, withNotice, cleared, forcedOff, registered, erased, forced, delayAllowed, isDue, launched, sent, lastKind, resulted}
-use Rattle.rows.specs.Rows.{lastPhase, failedOnce, holderSound, noticeUpTo, phaseOf, secondOf, sentOnce, recordSound}
+use Rattle.records.specs.Steps.{same, isOwn, mayErase, heldBy, mostSendings, isAbsent, isWaiting, isInFlight, sendingsDone, withNotice, cleared, forcedOff, registered, erased, forced, delayAllowed, isDue, launched, sent, lastKind, resulted}
+use Rattle.rows.specs.Rows.{lastPhase, failedOnce, noticeUpTo, phaseOf, secondOf, sentOnce, recordSound}
 use Rattle.rows.proofs.Notices.{Pending, pending, pending-sound}
 use Rattle.rows.proofs.Rows.{sound-record, record-is-sound}
 
@@ -76,7 +76,7 @@ SoundResult (Dropped r) = recordSound r ≡ true
 SoundResult (Again r) = recordSound r ≡ true
 
 module _ (r : Record) (s : recordSound r ≡ true) where
-  held-sound : (m : Msisdn) → holderSound (m .0) ≡ true → recordSound (heldBy m r) ≡ true
+  held-sound : (m : Msisdn) → numberOrNobody (m .0) ≡ true → recordSound (heldBy m r) ≡ true
   held-sound m h = record-is-sound (heldBy m r) (record { holder = h; notice = sound-record r s .notice; once = sound-record r s .once })
 
   pub registered-sound : (number : FunctionalNumber) (requester : Msisdn) → isNumber (requester .0) ≡ true → SoundStep (registered number requester r)
@@ -92,11 +92,11 @@ module _ (r : Record) (s : recordSound r ≡ true) where
       decide-each SoundStep ((isNobody (r .holder), Stays 62) ∷ (not (mayErase number requester (r .holder)), Stays 63) ∷ []) (Becomes (heldBy nobody r)) (tt, (tt, tt))
       (held-sound nobody refl)
 
-  off-sound : (supervisor : Msisdn) → isNumber (r .holder .0) ≡ true → isNumber (supervisor .0) ≡ true → same (r .holder) supervisor ≡ false → recordSound (forcedOff supervisor r) ≡ true
+  off-sound : (supervisor : Msisdn) → isNumber (r .holder .0) ≡ true → numberOrNobody (supervisor .0) ≡ true → same (r .holder) supervisor ≡ false → recordSound (forcedOff supervisor r) ≡ true
   unfolding recordSound noticeUpTo
   off-sound supervisor h n e = simp (e, h, n)
 
-  pub forced-sound : (supervisor named : Msisdn) → isNumber (supervisor .0) ≡ true → SoundStep (forced supervisor named r)
+  pub forced-sound : (supervisor named : Msisdn) → numberOrNobody (supervisor .0) ≡ true → SoundStep (forced supervisor named r)
   unfolding forced
   forced-sound supervisor named n =
       decide-by SoundStep

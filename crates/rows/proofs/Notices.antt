@@ -7,11 +7,11 @@ use native.Mathlib.Omega.{arith}
 use lib.Dec.{eqb, ltb, leb}
 use borrow.Author.Tests.{eq-eqb, ne-eqb, eqb-true, eqb-false, leb-true, le-leb, ltb-true, lt-ltb}
 use Rattle.answers.proofs.Tests.{no-path, and-left, and-right, and-three, or-cases, less-or-not}
-use Rattle.numbers.specs.Numbers.{isNumber}
+use Rattle.numbers.specs.Numbers.{isNumber, numberOrNobody}
 use Rattle.records.specs.declared.Notice.{Notice}
 use Rattle.records.specs.declared.Notice.the-variants.{Absent, Waiting, InFlight}
 use Rattle.records.specs.Steps.{isAbsent, isWaiting, isInFlight}
-use Rattle.rows.specs.Rows.{lastPhase, failedOnce, noticeUpTo, noticeSound, noticeOf, phaseOf, secondOf, sentOnce}
+use Rattle.rows.specs.Rows.{lastPhase, failedOnce, partiesSound, noticeUpTo, noticeSound, noticeOf, phaseOf, secondOf, sentOnce}
 
 -- ---- what the words of a notice say
 
@@ -20,23 +20,23 @@ pub record Pending (phase addressee supervisor second : ℕ) : Type 0 where
   pub some : 1 ≤ phase
   pub most : phase ≤ lastPhase
   pub addressed : isNumber addressee ≡ true
-  pub supervised : isNumber supervisor ≡ true
+  pub supervised : numberOrNobody supervisor ≡ true
   pub differ : not (eqb addressee supervisor) ≡ true
   pub below : second < 2 ^ 32
   pub failed : (eqb second 0 || failedOnce phase) ≡ true
 
 module _ (phase addressee supervisor second : ℕ) where
-  numbers : Bool
-  numbers = isNumber addressee && isNumber supervisor && not (eqb addressee supervisor)
+  parties : Bool
+  parties = partiesSound addressee supervisor && not (eqb addressee supervisor)
 
   seconds : Bool
   seconds = ltb second (2 ^ 32) && (eqb second 0 || failedOnce phase)
 
   pub pending : noticeSound phase addressee supervisor second ≡ true → 1 ≤ phase → Pending phase addressee supervisor second
-  unfolding noticeUpTo numbers seconds
+  unfolding noticeUpTo parties seconds
   pending e h =
-      let w = and-three (leb phase lastPhase) numbers seconds (rw (ne-eqb phase 0 (λ z. omega arith)) at e) in
-      let n = and-three (isNumber addressee) (isNumber supervisor) (not (eqb addressee supervisor)) (w .1) in
+      let w = and-three (leb phase lastPhase) parties seconds (rw (ne-eqb phase 0 (λ z. omega arith)) at e) in
+      let n = and-three (isNumber addressee) (numberOrNobody supervisor) (not (eqb addressee supervisor)) (w .1) in
       record {
         some = h;
         most = leb-true phase lastPhase (w .0);

@@ -10,9 +10,9 @@ use lib.Dec.{eqb}
 use borrow.Author.Tests.{eqb-true}
 use lib.Seq.{length-sets}
 use Rattle.answers.proofs.Tests.{and-left, and-right, and-three, or-cases, less-or-not}
-use Rattle.numbers.specs.Numbers.{isNumber}
+use Rattle.numbers.specs.Numbers.{isNumber, numberOrNobody}
 use Rattle.records.specs.declared.Record.{Record}
-use Rattle.rows.specs.Rows.{rowWords, word, numberAt, holderAt, phaseAt, addresseeAt, supervisorAt, secondAt, closedAt, closedSound, one, holderSound, noticeSound, rowUpTo, rowSound, phaseOf, secondOf, recordAt, wordsOf, stored, sentOnce, recordSound}
+use Rattle.rows.specs.Rows.{rowWords, word, numberAt, holderAt, phaseAt, addresseeAt, supervisorAt, secondAt, closedAt, closedSound, one, noticeSound, rowUpTo, rowSound, phaseOf, secondOf, recordAt, wordsOf, stored, sentOnce, recordSound}
 use Rattle.rows.proofs.Notices.{phase-back, second-back, once-back, notice-back}
 use Rattle.rows.proofs.Stores.{sets-other, sets-at, sets-same}
 
@@ -20,7 +20,7 @@ use Rattle.rows.proofs.Stores.{sets-other, sets-at, sets-same}
 
 pub record SoundRow (t : List ℕ) (i : ℕ) : Type 0 where
   pub number : isNumber (numberAt t i) ≡ true
-  pub holder : holderSound (holderAt t i) ≡ true
+  pub holder : numberOrNobody (holderAt t i) ≡ true
   pub notice : noticeSound (phaseAt t i) (addresseeAt t i) (supervisorAt t i) (secondAt t i) ≡ true
   pub closed : closedSound (closedAt t i) ≡ true
 
@@ -28,18 +28,18 @@ pub sound-row : (t : List ℕ) (i : ℕ) → rowSound t i ≡ true → SoundRow 
 unfolding rowUpTo
 sound-row t i e =
     let notice = noticeSound (phaseAt t i) (addresseeAt t i) (supervisorAt t i) (secondAt t i) in
-    let w = and-three (isNumber (numberAt t i)) (holderSound (holderAt t i)) (notice && closedSound (closedAt t i)) e in
+    let w = and-three (isNumber (numberAt t i)) (numberOrNobody (holderAt t i)) (notice && closedSound (closedAt t i)) e in
     record { number = w .0; holder = w .1; notice = and-left notice (closedSound (closedAt t i)) (w .2); closed = and-right notice (closedSound (closedAt t i)) (w .2) }
 
 pub record SoundRecord (r : Record) : Type 0 where
-  pub holder : holderSound (r .holder .0) ≡ true
+  pub holder : numberOrNobody (r .holder .0) ≡ true
   pub notice : noticeSound (phaseOf (r .notice)) (r .addressee .0) (r .supervisor .0) (secondOf (r .notice)) ≡ true
   pub once : sentOnce (r .notice) ≡ true
 
 pub sound-record : (r : Record) → recordSound r ≡ true → SoundRecord r
 unfolding recordSound
 sound-record r e =
-    let w = and-three (holderSound (r .holder .0)) (noticeSound (phaseOf (r .notice)) (r .addressee .0) (r .supervisor .0) (secondOf (r .notice))) (sentOnce (r .notice)) e in
+    let w = and-three (numberOrNobody (r .holder .0)) (noticeSound (phaseOf (r .notice)) (r .addressee .0) (r .supervisor .0) (secondOf (r .notice))) (sentOnce (r .notice)) e in
     record { holder = w .0; notice = w .1; once = w .2 }
 
 pub record-is-sound : (r : Record) → SoundRecord r → recordSound r ≡ true

@@ -8,11 +8,11 @@ use native.Mathlib.Omega.{arith}
 use lib.Dec.{eqb, ltb, leb}
 use borrow.Author.Tests.{leb-true, le-leb}
 use Rattle.answers.proofs.Tests.{and-left, and-right, and-three, and-both, or-cases, or-right}
-use Rattle.numbers.specs.Numbers.{isNumber}
+use Rattle.numbers.specs.Numbers.{isNumber, numberOrNobody}
 use Rattle.numbers.specs.Least.{leastFor, isFrom}
 use Rattle.numbers.proofs.Least.{Starts, starts-for, least-tells}
 use Rattle.records.specs.Steps.{mostSendings}
-use Rattle.rows.specs.Rows.{numberAt, holderAt, phaseAt, addresseeAt, supervisorAt, secondAt, closedAt, closedSound, lastPhaseOf, failedOnce, holderSound, noticeUpTo, noticeBy, noticeSound, rowUpTo, rowSound}
+use Rattle.rows.specs.Rows.{numberAt, holderAt, phaseAt, addresseeAt, supervisorAt, secondAt, closedAt, closedSound, lastPhaseOf, failedOnce, partiesSound, noticeUpTo, noticeBy, noticeSound, rowUpTo, rowSound}
 use Rattle.rows.specs.Starts.{nearFrom, holderStart, restFrom}
 
 -- the start that the next holder is tested by
@@ -25,7 +25,7 @@ starts-holder near h s = go (eqb h 0 || isFrom near h)
     go false = starts-for h
 
 -- it tells whether a holder is sound
-holder-tells : (near h : ℕ) → Starts near → holderSound h ≡ (eqb h 0 || isFrom (holderStart near h) h)
+holder-tells : (near h : ℕ) → Starts near → numberOrNobody h ≡ (eqb h 0 || isFrom (holderStart near h) h)
 unfolding holderStart
 holder-tells near h s = go (eqb h 0) (isFrom near h) refl
   where
@@ -39,7 +39,7 @@ pub row-tells : (near : ℕ) (t : List ℕ) (i : ℕ) → Starts near → rowSou
 unfolding rowUpTo restFrom
 row-tells near t i s =
     let rest = noticeSound (phaseAt t i) (addresseeAt t i) (supervisorAt t i) (secondAt t i) && closedSound (closedAt t i) in
-    and-assoc (isNumber (numberAt t i)) (holderSound (holderAt t i)) rest
+    and-assoc (isNumber (numberAt t i)) (numberOrNobody (holderAt t i)) rest
     ∙ ap (λ (b : Bool). isNumber (numberAt t i) && (b && rest)) (holder-tells near (holderAt t i) s)
 
 -- what is sound with fewer numbers and fewer sendings is sound with more
@@ -60,11 +60,11 @@ notice-more few many a b phase addressee supervisor second h more = go (eqb phas
 pub row-more : (few many : ℕ) → few ≤ many → (t : List ℕ) (i : ℕ) → rowUpTo few t i ≡ true → rowUpTo many t i ≡ true
 unfolding rowUpTo
 row-more few many h t i e =
-    let w = and-three (isNumber (numberAt t i)) (holderSound (holderAt t i)) _ e in
-    let numbers = isNumber (addresseeAt t i) && isNumber (supervisorAt t i) in
-    let before = noticeUpTo few numbers (phaseAt t i) (addresseeAt t i) (supervisorAt t i) (secondAt t i) in
+    let w = and-three (isNumber (numberAt t i)) (numberOrNobody (holderAt t i)) _ e in
+    let parties = partiesSound (addresseeAt t i) (supervisorAt t i) in
+    let before = noticeUpTo few parties (phaseAt t i) (addresseeAt t i) (supervisorAt t i) (secondAt t i) in
     let closed = closedSound (closedAt t i) in
-    let notice = notice-more few many numbers numbers (phaseAt t i) (addresseeAt t i) (supervisorAt t i) (secondAt t i) h (λ b. b) (and-left before closed (w .2)) in
+    let notice = notice-more few many parties parties (phaseAt t i) (addresseeAt t i) (supervisorAt t i) (secondAt t i) h (λ b. b) (and-left before closed (w .2)) in
     rw (w .0, w .1) (and-both _ closed notice (and-right before closed (w .2)))
 
 -- a row with a number is sound if one start tells what stands behind it
@@ -78,8 +78,8 @@ near-sound near t i s n p =
     let notice = and-left said closed rest in
     rw (n, holder (and-left _ (said && closed) p))
     (and-both _ closed (notice-more mostSendings mostSendings (a && isFrom near (supervisorAt t i)) _ (phaseAt t i) (addresseeAt t i) (supervisorAt t i) (secondAt t i) (omega arith)
-    (λ both. and-both _ _ (s .numbers (addresseeAt t i) (and-left a _ both)) (s .numbers (supervisorAt t i) (and-right a _ both))) notice) (and-right said closed rest))
+    (λ both. and-both _ _ (s .numbers (addresseeAt t i) (and-left a _ both)) (or-right (eqb (supervisorAt t i) 0) _ (s .numbers (supervisorAt t i) (and-right a _ both)))) notice) (and-right said closed rest))
   where
-    holder : (eqb (holderAt t i) 0 || isFrom near (holderAt t i)) ≡ true → holderSound (holderAt t i) ≡ true
+    holder : (eqb (holderAt t i) 0 || isFrom near (holderAt t i)) ≡ true → numberOrNobody (holderAt t i) ≡ true
     holder e =
         ⊎-elim (λ z. rw z) (λ f. or-right (eqb (holderAt t i) 0) _ (s .numbers (holderAt t i) f)) (or-cases (eqb (holderAt t i) 0) (isFrom near (holderAt t i)) e)

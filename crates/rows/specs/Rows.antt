@@ -5,7 +5,7 @@ use mathlib.Core.List.{List, [], _∷_}
 use lib.ListN.{getD, take, drop}
 use lib.Seq.{sets}
 use lib.Dec.{eqb, ltb, leb}
-use Rattle.numbers.specs.Numbers.{isNumber}
+use Rattle.numbers.specs.Numbers.{isNumber, numberOrNobody}
 use Rattle.records.specs.declared.Notice.{Notice}
 use Rattle.records.specs.declared.Notice.the-variants.{Absent, Waiting, InFlight}
 use Rattle.records.specs.declared.Record.{Record}
@@ -73,35 +73,35 @@ lastPhase = lastPhaseOf mostSendings
 abbrev pub failedOnce : ℕ → Bool
 failedOnce phase = eqb (phase % 2) 1 && leb 3 phase
 
--- "With phase 0 the last three words are 0. Otherwise addressee and supervisor are numbers and differ. The last word is below 2^32",
--- M-102: "may be non-zero in odd phases from 3 to 11"; whether addressee and supervisor are numbers is said beside them
+-- "addressee and supervisor are numbers", M-111: "a pending notice may have supervisor 0"
+abbrev pub partiesSound : ℕ → ℕ → Bool
+partiesSound addressee supervisor = isNumber addressee && numberOrNobody supervisor
+
+-- "With phase 0 the last three words are 0. Otherwise addressee and supervisor … differ. The last word is below 2^32",
+-- M-102: "may be non-zero in odd phases from 3 to 11"; whether addressee and supervisor are sound is said beside them
 unfoldable pub noticeUpTo : ℕ → Bool → ℕ → ℕ → ℕ → ℕ → Bool
-noticeUpTo limit numbers phase addressee supervisor second =
+noticeUpTo limit parties phase addressee supervisor second =
     cond (eqb phase 0) (eqb addressee 0 && eqb supervisor 0 && eqb second 0)
     (leb phase (lastPhaseOf limit)
-    && (numbers && not (eqb addressee supervisor))
+    && (parties && not (eqb addressee supervisor))
     && (ltb second (2 ^ 32) && (eqb second 0 || failedOnce phase)))
 
 abbrev pub noticeBy : Bool → ℕ → ℕ → ℕ → ℕ → Bool
 noticeBy = noticeUpTo mostSendings
 
 abbrev pub noticeSound : ℕ → ℕ → ℕ → ℕ → Bool
-noticeSound phase addressee supervisor second = noticeBy (isNumber addressee && isNumber supervisor) phase addressee supervisor second
-
--- "holder, a number, or 0"
-abbrev pub holderSound : ℕ → Bool
-holderSound holder = eqb holder 0 || isNumber holder
+noticeSound phase addressee supervisor second = noticeBy (partiesSound addressee supervisor) phase addressee supervisor second
 
 -- M-110: "0 open or 1 closed"
 abbrev pub closedSound : ℕ → Bool
 closedSound closed = eqb closed 0 || eqb closed 1
 
--- row i, by itself, as document 01 says, with at most `limit` sendings of a notice
+-- row i, by itself, as document 01 says ("holder, a number, or 0"), with at most `limit` sendings of a notice
 unfoldable pub rowUpTo : ℕ → List ℕ → ℕ → Bool
 rowUpTo limit t i =
     isNumber (numberAt t i)
-    && holderSound (holderAt t i)
-    && (noticeUpTo limit (isNumber (addresseeAt t i) && isNumber (supervisorAt t i)) (phaseAt t i) (addresseeAt t i) (supervisorAt t i) (secondAt t i)
+    && numberOrNobody (holderAt t i)
+    && (noticeUpTo limit (partiesSound (addresseeAt t i) (supervisorAt t i)) (phaseAt t i) (addresseeAt t i) (supervisorAt t i) (secondAt t i)
     && closedSound (closedAt t i))
 
 abbrev pub rowSound : List ℕ → ℕ → Bool
@@ -152,6 +152,6 @@ sentOnce (InFlight k) = leb 1 k
 -- a record that the words of a sound row can be
 unfoldable pub recordSound : Record → Bool
 recordSound r =
-    holderSound (r .holder .0)
+    numberOrNobody (r .holder .0)
     && noticeSound (phaseOf (r .notice)) (r .addressee .0) (r .supervisor .0) (secondOf (r .notice))
     && sentOnce (r .notice)

@@ -3,10 +3,9 @@ use Prim.Native.Nat.{ℕ}
 use mathlib.Core.Bool.{Bool, cond, _&&_, _||_}
 use mathlib.Core.List.{List}
 use lib.Dec.{eqb}
-use Rattle.numbers.specs.Numbers.{isNumber}
 use Rattle.numbers.specs.Least.{leastFor, isFrom}
 use Rattle.rows.specs.declared.Words.{Words}
-use Rattle.rows.specs.Rows.{addresseeAt, supervisorAt, wordsAt, noticeBy, closedSound}
+use Rattle.rows.specs.Rows.{addresseeAt, supervisorAt, wordsAt, partiesSound, noticeBy, closedSound}
 
 -- the start by which a holder is tested: one that was found before, where that tells already, else the least number as long as she is
 unfoldable pub holderStart : ℕ → ℕ → ℕ
@@ -14,14 +13,14 @@ holderStart near holder = cond (eqb holder 0 || isFrom near holder) near (leastF
 
 -- what stands behind a row's number, the holder by a start
 abbrev pub restBy : ℕ → Bool → Words → Bool
-restBy start numbers w =
+restBy start parties w =
     (eqb (w .holder) 0 || isFrom start (w .holder))
-    && (noticeBy numbers (w .phase) (w .addressee) (w .supervisor) (w .second) && closedSound (w .closed))
+    && (noticeBy parties (w .phase) (w .addressee) (w .supervisor) (w .second) && closedSound (w .closed))
 
 -- of row i
 unfoldable pub restFrom : ℕ → List ℕ → ℕ → Bool
-restFrom start t i = restBy start (isNumber (addresseeAt t i) && isNumber (supervisorAt t i)) (wordsAt t i)
+restFrom start t i = restBy start (partiesSound (addresseeAt t i) (supervisorAt t i)) (wordsAt t i)
 
--- addressee and supervisor by the same start
+-- addressee and supervisor by the same start; a notice from the terminal is not told so
 unfoldable pub nearFrom : ℕ → List ℕ → ℕ → Bool
 nearFrom start t i = restBy start (isFrom start (addresseeAt t i) && isFrom start (supervisorAt t i)) (wordsAt t i)

@@ -90,16 +90,16 @@ pub fn one_if(so: bool) -> u64
     so as u64
 }
 
-// Whether words three to six of a row are those of a notice, or of none; `numbers` says whether addressee and supervisor are numbers.
-fn notice_by(numbers: bool, phase: u64, addressee: u64, supervisor: u64, second: u64) -> bool
-    ensures { λ r. ⌜ r ≡ noticeBy numbers phase addressee supervisor second ⌝ }
+// Whether words three to six of a row are those of a notice, or of none; `parties` says whether addressee and supervisor are sound.
+fn notice_by(parties: bool, phase: u64, addressee: u64, supervisor: u64, second: u64) -> bool
+    ensures { λ r. ⌜ r ≡ noticeBy parties phase addressee supervisor second ⌝ }
 {
     if phase == 0 {
         return (addressee == 0) & (supervisor == 0) & (second == 0);
     }
     let failed = (phase % 2 == 1) & (3 <= phase);
     (phase <= LAST_PHASE)
-        & (numbers & (addressee != supervisor))
+        & (parties & (addressee != supervisor))
         & ((second < SECONDS) & ((second == 0) | failed))
 }
 
@@ -189,14 +189,14 @@ pub fn put_row(table: &mut [u64], i: usize, words: [u64; ROW_WORDS])
     table[at + CLOSED] = words[CLOSED];
 }
 
-// Whether what stands behind a row's number is sound, the holder tested by a start; `numbers` says whether addressee and supervisor are numbers.
-fn rest_by(words: Words, start: u64, numbers: bool) -> bool
+// Whether what stands behind a row's number is sound, the holder tested by a start; `parties` says whether addressee and supervisor are sound.
+fn rest_by(words: Words, start: u64, parties: bool) -> bool
     requires { ⌜ start ≤ 10 ^ mostDigits ⌝ }
-    ensures { λ r. ⌜ r ≡ restBy start numbers words ⌝ }
+    ensures { λ r. ⌜ r ≡ restBy start parties words ⌝ }
 {
     let holder = (words.holder == 0) | is_from(words.holder, start);
     let notice = notice_by(
-        numbers,
+        parties,
         words.phase,
         words.addressee,
         words.supervisor,
@@ -212,8 +212,8 @@ pub fn is_near(table: &[u64], row: usize, start: u64) -> bool
     ensures { λ r. ⌜ r ≡ nearFrom start (now (table .entry)) row ⌝ }
 {
     let words = words_at(table, row);
-    let numbers = is_from(words.addressee, start) & is_from(words.supervisor, start);
-    rest_by(words, start, numbers)
+    let parties = is_from(words.addressee, start) & is_from(words.supervisor, start);
+    rest_by(words, start, parties)
 }
 
 // The start by which a row's holder is tested: `near` where that tells that she is a number or nobody, else the least number as long as hers.
@@ -236,6 +236,7 @@ pub fn rest_sound(table: &[u64], row: usize, start: u64) -> bool
     ensures { λ r. ⌜ r ≡ restFrom start (now (table .entry)) row ⌝ }
 {
     let words = words_at(table, row);
-    let numbers = is_number(words.addressee) & is_number(words.supervisor);
-    rest_by(words, start, numbers)
+    let parties = is_number(words.addressee)
+        & ((words.supervisor == 0) | is_number(words.supervisor));
+    rest_by(words, start, parties)
 }

@@ -11,6 +11,7 @@ use borrow.Author.Tests.{eqb-true, eq-eqb, ltb-true, ltb-false, not-true, leb-tr
 use Rattle.answers.proofs.Tests.{no-path, and-left, and-right, and-no}
 use Rattle.answers.proofs.Checks.{not-some}
 use Rattle.packing.specs.Packing.{packed}
+use Rattle.numbers.specs.Numbers.{nobody}
 use Rattle.numbers.specs.declared.FunctionalNumber.{FunctionalNumber}
 use Rattle.numbers.specs.declared.Msisdn.{Msisdn}
 use Rattle.strings.specs.declared.Erasing.{Erasing}
@@ -19,7 +20,7 @@ use Rattle.strings.specs.Text.{Request, textOf}
 use Rattle.records.specs.declared.Notice.{Notice}
 use Rattle.records.specs.declared.Notice.the-variants.{Absent, Waiting, InFlight}
 use Rattle.records.specs.declared.Record.{Record}
-use Rattle.records.specs.Steps.{nobody, same, heldBy, isAbsent, isWaiting, launched, sendingsDone, mostSendings, lastKind}
+use Rattle.records.specs.Steps.{same, heldBy, isAbsent, isWaiting, launched, sendingsDone, mostSendings, lastKind}
 use Rattle.rows.specs.Rows.{one}
 use Rattle.states.specs.States.{State, stateSound, recordFor}
 use Rattle.rules.specs.Answers.{resultClass, deliveredNumber, droppedNumber, againNumber, numbersOf, isOf, isSent, isClearing}
@@ -27,12 +28,12 @@ use Rattle.rules.specs.Requests.{holderIn}
 use Rattle.rules.specs.Crews.{memberOf, crewCodes}
 use Rattle.rules.specs.Run.{only, last, end, log}
 use Rattle.rules.specs.Notices.{noticeIn}
-use Rattle.rules.specs.Calls.{Call, request, framed, sending, result, Reply, call, readOf, codesRead, codesOf, nameOf, namesOne, singleCalls, stepsOf}
+use Rattle.rules.specs.Calls.{Call, request, framed, sending, result, terminal, Reply, call, readOf, codesRead, codesOf, nameOf, namesOne, singleCalls, stepsOf}
 use Rattle.rules.specs.Visits.{Visited, visit, missed}
 use Rattle.rules.specs.Demand.{holderOf, gotBy}
 use Rattle.rules.specs.Pending.{noticeFor, holdsAt, Between, sendingDone, noticeCleared}
-use Rattle.rules.specs.Users.{askerOf, isRequest, telling}
-use Rattle.rules.specs.Accounts.{ofNumber, namesAnother, forcesAnother, makesNotice, hasKind, isZero, isOneToFour, isFive, isDelivery, isDroppedByKind, isDroppedLast, howOften, pendingFor, Balanced, Notified, holderNamed, notifiedBy, notifiedIn, notifiedAfter, CountedOnce}
+use Rattle.rules.specs.Users.{askerOf, telling}
+use Rattle.rules.specs.Accounts.{ofNumber, namesAnother, forcesAnother, forcesOff, makesNotice, hasKind, isZero, isOneToFour, isFive, isDelivery, isDroppedByKind, isDroppedLast, howOften, pendingFor, Balanced, Notified, holderNamed, holderNamedBy, notifiedBy, notifiedIn, notifiedAfter, CountedOnce}
 use Rattle.rules.proofs.Once.{single}
 use Rattle.rules.proofs.Sound.{single-own, single-absent, single-other, single-keeps}
 use Rattle.rules.proofs.Local.{named-some}
@@ -41,7 +42,7 @@ use Rattle.rules.proofs.Single.{call-single}
 use Rattle.rules.proofs.Crews.{Small, member-reads}
 use Rattle.rules.proofs.Steps.{own-step, forced-alone, Goes, goes-room, goes-shared, goes-small, View, own, stops, goes, view}
 use Rattle.rules.proofs.Calls.{calls-local, singly-end}
-use Rattle.rules.proofs.Along.{Asked, negative, registration, erasure, herself, forced, Does, asks, unsent, sends, untaken, clears, goes-on, delivers, drops, gives-up, does, missed-negative, unnamed, missing, same-one}
+use Rattle.rules.proofs.Along.{isRequest, Asked, negative, registration, erasure, herself, forced, Does, asks, unsent, sends, untaken, clears, goes-on, unmoved, removes, delivers, drops, gives-up, does, missed-negative, unnamed, missing, same-one}
 use Rattle.rules.proofs.NoticeEnds.{launched-flies, flies-pending, farther, passed-unsent, sent-flies, state-most}
 use Rattle.rules.proofs.Told.{sending-tells}
 
@@ -67,6 +68,22 @@ request-kindless (request requester scheme string reply) test i = refl
 request-kindless (framed requester message frame) test i = refl
 request-kindless (sending now number buffer) test i = no-path i
 request-kindless (result now number kind) test i = no-path i
+request-kindless (terminal number holder reply) test i = no-path i
+
+-- whom a request forces off and names is in its string
+request-forces : (c : Call) → isRequest c ≡ true → forcesOff c ≡ forcesAnother (askerOf c) (readOf c)
+request-forces (request requester scheme string reply) i = refl
+request-forces (framed requester message frame) i = refl
+request-forces (sending now number buffer) i = refl
+request-forces (result now number kind) i = refl
+request-forces (terminal number holder reply) i = no-path i
+
+request-names : (c : Call) → isRequest c ≡ true → holderNamedBy c ≡ holderNamed (readOf c)
+request-names (request requester scheme string reply) i = refl
+request-names (framed requester message frame) i = refl
+request-names (sending now number buffer) i = refl
+request-names (result now number kind) i = refl
+request-names (terminal number holder reply) i = no-path i
 
 -- the class of a kind that drops a notice: of one below 5, and of 5
 below-class : (kind : ℕ) → eqb kind 0 ≡ false → ltb kind lastKind ≡ true → (isZero kind ≡ false) × (isOneToFour kind ≡ true) × (isFive kind ≡ false)
@@ -110,7 +127,7 @@ by-asking {r = r} {requester = requester} (forced {named = named} p q e m o x y 
 by-visit : {list : List ℕ} {r : Record} {c : Call} {v : Visited} → Does list r c v → ByVisit (isAbsent (r .notice)) (isAbsent (v .next .notice)) (c, v .reply)
 by-visit {c = c} (asks i d) =
     let t = by-asking d in
-    record { made = t .made; ended = rw (request-kindless c isZero i, request-kindless c isOneToFour i, request-kindless c isFive i, t .ended) refl }
+    record { made = rw (request-forces c i) (t .made); ended = rw (request-kindless c isZero i, request-kindless c isOneToFour i, request-kindless c isFive i, t .ended) refl }
 by-visit {r = r} unsent = record { made = sym (never-both (isAbsent (r .notice))); ended = rw (neither-both (isAbsent (r .notice))) refl }
 by-visit {r = r} (sends w) =
     let before = waits-pending (r .notice) w in
@@ -134,16 +151,19 @@ by-visit {r = r} (goes-on {kind = kind} f p) =
       made = rw (flies-pending (r .notice) f) refl;
       ended = rw (flies-pending (r .notice) f, and-no (isZero kind) false refl, and-no (isOneToFour kind) false refl, and-no (isFive kind) false refl) refl;
     }
+by-visit {r = r} (unmoved p q) = record { made = q ∙ sym (never-both (isAbsent (r .notice))); ended = rw (neither-both (isAbsent (r .notice))) refl }
+by-visit (removes m x z) = record { made = rw x refl; ended = rw x refl }
 
 -- a number that is not in the table: nothing is counted
 by-missing : (list : List ℕ) (c : Call) → ByVisit true true (c, missed list c)
-by-missing list c = record { made = and-no (forcesAnother (askerOf c) (readOf c)) _ (missed-negative list c); ended = by-call c }
+by-missing list c = record { made = and-no (forcesOff c) _ (missed-negative list c); ended = by-call c }
   where
     by-call : (c : Call) → one (isDelivery (c, missed list c)) + one (isDroppedByKind (c, missed list c)) + one (isDroppedLast (c, missed list c)) ≡ 0
     by-call (request requester scheme string reply) = refl
     by-call (framed requester message frame) = refl
     by-call (sending now number buffer) = refl
     by-call (result now number kind) = rw (and-no (isZero kind) false refl, and-no (isOneToFour kind) false refl, and-no (isFive kind) false refl) refl
+    by-call (terminal number holder reply) = refl
 
 -- ---- a crew's request counts nothing, and leaves every notice as it is
 
@@ -175,6 +195,8 @@ visit-plain (sends w) p = no-path (p .1)
 visit-plain untaken p = refl
 visit-plain (clears f e) p = no-path (p .1)
 visit-plain (goes-on f e) p = no-path (p .1)
+visit-plain (unmoved m n) p = refl
+visit-plain (removes m x z) p = no-path (p .1)
 
 module _ (list : List ℕ) (delay k : ℕ) where
   single-plain : (c : Call) (t : State) → stateSound t ≡ true → Plain c → butHolder (recordFor (single list delay c t .1) k) ≡ butHolder (recordFor t k)
@@ -204,13 +226,14 @@ members-plain list delay requester scheme string reply g (code ∷ codes) (c, sm
 
 -- whatever a crew's request gets
 pub crew-uncounted : (c : Call) {codes : List ℕ} → codesOf c ≡ some codes → (a : Reply) (test : ℕ → Bool) → (makesNotice (c, a) ≡ false) × (hasKind test c ≡ false)
-crew-uncounted c {codes} crew a test = (rw (plain (readOf c) refl) refl, kindless c crew)
+crew-uncounted c {codes} crew a test = (rw (request-forces c (asked c crew), plain (readOf c) refl) refl, kindless c crew)
   where
     kindless : (c : Call) → codesOf c ≡ some codes → hasKind test c ≡ false
     kindless (request requester scheme string reply) e = refl
     kindless (framed requester message frame) e = refl
     kindless (sending now number buffer) e = refl
     kindless (result now number kind) e = not-some e
+    kindless (terminal number holder reply) e = refl
 
     plain-fields : (f : Request) → readOf c ≡ some f → (e : Erasing) → f .erasing ≡ e → namesAnother (askerOf c) e ≡ false
     plain-fields f r Empty e = refl
@@ -219,6 +242,13 @@ crew-uncounted c {codes} crew a test = (rw (plain (readOf c) refl) refl, kindles
     plain : (read : Option Request) → readOf c ≡ read → forcesAnother (askerOf c) read ≡ false
     plain none r = refl
     plain (some f) r = plain-fields f r (f .erasing) refl
+
+    asked : (c : Call) → codesOf c ≡ some codes → isRequest c ≡ true
+    asked (request requester scheme string reply) e = refl
+    asked (framed requester message frame) e = refl
+    asked (sending now number buffer) e = not-some e
+    asked (result now number kind) e = not-some e
+    asked (terminal number holder reply) e = not-some e
 
 -- ---- a call, and the notice of one number
 
@@ -236,12 +266,14 @@ asked-notifies {r = r} {requester = requester} (forced {named = named} p q e m o
 -- where a notice is pending behind a visit, whom it is to tell
 visit-notifies : {list : List ℕ} {r : Record} {c : Call} {v : Visited} → Does list r c v → isAbsent (v .next .notice) ≡ false
     → notifiedIn (some (v .next)) ≡ cond (makesNotice (c, v .reply)) (notifiedBy (c, v .reply)) (notifiedIn (some r))
-visit-notifies (asks i d) p = asked-notifies d
+visit-notifies {c = c} (asks i d) p = rw (request-forces c i, request-names c i) (asked-notifies d)
 visit-notifies unsent p = refl
 visit-notifies (sends w) p = refl
 visit-notifies untaken p = refl
 visit-notifies (clears f e) p = no-path (sym p)
 visit-notifies (goes-on f e) p = refl
+visit-notifies (unmoved m n) p = rw n refl
+visit-notifies {r = r} (removes {holder = holder} m x z) p = rw (same-one (r .holder) holder m) refl
 
 -- an erasure that makes a notice names the record's holder
 asked-holder : {list : List ℕ} {r next : Record} {requester : Msisdn} {read : Option Request} {one two : Bool} → Asked list r requester read one two next
@@ -252,13 +284,15 @@ asked-holder (erasure p q e h m) u = no-path (rw (p, e) at u)
 asked-holder {r = r} (herself {named = named} p q e m o) u = rw (p, e) (same-one (r .holder) named m)
 asked-holder {r = r} (forced {named = named} p q e m o x y z v) u = rw (p, e) (same-one (r .holder) named m)
 
-visit-holder : {list : List ℕ} {r : Record} {c : Call} {v : Visited} → Does list r c v → makesNotice (c, v .reply) ≡ true → r .holder ≡ holderNamed (readOf c)
-visit-holder (asks i d) u = asked-holder d u
+visit-holder : {list : List ℕ} {r : Record} {c : Call} {v : Visited} → Does list r c v → makesNotice (c, v .reply) ≡ true → r .holder ≡ holderNamedBy c
+visit-holder {c = c} (asks i d) u = rw (request-names c i) (asked-holder d (rw (request-forces c i) at u))
 visit-holder unsent u = no-path u
 visit-holder (sends w) u = no-path u
 visit-holder untaken u = no-path u
 visit-holder (clears f e) u = no-path u
 visit-holder (goes-on f e) u = no-path u
+visit-holder (unmoved m n) u = no-path (sym n ∙ u)
+visit-holder {r = r} (removes {holder = holder} m x z) u = same-one (r .holder) holder m
 
 -- a notice that kind 5 drops had the most sendings done
 visit-last : {list : List ℕ} {r : Record} {c : Call} {v : Visited} → Does list r c v → isDroppedLast (c, v .reply) ≡ true → leb mostSendings (sendingsDone (r .notice)) ≡ true
@@ -270,6 +304,8 @@ visit-last (clears {kind = kind} f (delivers e)) u = no-path (and-right (isFive 
 visit-last (clears {kind = kind} f (drops e l)) u = no-path (sym (below-class kind e l .2) ∙ and-left (isFive kind) true u)
 visit-last (clears f (gives-up e l m)) u = m
 visit-last (goes-on {kind = kind} f p) u = no-path (and-right (isFive kind) false u)
+visit-last (unmoved m n) u = no-path u
+visit-last (removes m x z) u = no-path u
 
 but-absent : (o : Option Record) → isAbsent (noticeIn (butHolder o)) ≡ isAbsent (noticeIn o)
 but-absent none = refl
@@ -285,7 +321,7 @@ module _ (list : List ℕ) (delay k : ℕ) where
     made : ofNumber list k makesNotice (c, a) ≡ (isAbsent (noticeFor t k) && not (isAbsent (noticeFor u k)))
     ended : one (ofNumber list k isDelivery (c, a)) + one (ofNumber list k isDroppedByKind (c, a)) + one (ofNumber list k isDroppedLast (c, a))
         ≡ one (not (isAbsent (noticeFor t k)) && isAbsent (noticeFor u k))
-    holder : ofNumber list k makesNotice (c, a) ≡ true → holderOf t k ≡ holderNamed (readOf c) .0
+    holder : ofNumber list k makesNotice (c, a) ≡ true → holderOf t k ≡ holderNamedBy c .0
     last : ofNumber list k isDroppedLast (c, a) ≡ true → leb mostSendings (sendingsDone (noticeFor t k)) ≡ true
     sent : sendingDone k (c, a) ≡ true → isAbsent (noticeFor t k) ≡ false
     notifies : isAbsent (noticeFor u k) ≡ false → notifiedIn (recordFor u k) ≡ cond (ofNumber list k makesNotice (c, a)) (notifiedBy (c, a)) (notifiedIn (recordFor t k))
@@ -346,6 +382,7 @@ module _ (list : List ℕ) (delay k : ℕ) where
       crew-unsent (framed requester message frame) e = refl
       crew-unsent (sending now number buffer) e = not-some e
       crew-unsent (result now number kind) e = refl
+      crew-unsent (terminal number holder reply) e = refl
 
   by-view : {c : Call} → View list delay c → (t : State) → stateSound t ≡ true → ByCall c (call list delay c t .0) t (call list delay c t .1)
   by-view (own c e s) t sound = rw (call-single list delay c t e) (by-single c t sound)
@@ -441,6 +478,7 @@ module _ (list : List ℕ) (delay k : ℕ) where
   uncleared (request requester scheme string reply) a u = rw (and-no (namesOne list (request requester scheme string reply) k) false refl) refl
   uncleared (framed requester message frame) a u = rw (and-no (namesOne list (framed requester message frame) k) false refl) refl
   uncleared (sending now number buffer) a u = rw (and-no (eqb (number .0) k) false refl) refl
+  uncleared (terminal number holder reply) a u = rw (and-no (eqb (number .0) k) false refl) refl
   uncleared (result now number kind) a u = go (eqb (number .0) k) refl
     where
       no-return : (n : ℕ) → eqb againNumber n ≡ false → isClearing (a .answer) ≡ false → (isOf resultClass (a .answer) && eqb (numbersOf (a .answer) .number) n) ≡ false

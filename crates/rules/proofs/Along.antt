@@ -10,6 +10,7 @@ use borrow.Author.Tests.{eqb-true, eq-eqb, ne-eqb, not-true, not-false}
 use Rattle.answers.specs.Checks.{_>>=_}
 use Rattle.answers.proofs.Decide.{answering, decide-each, decide-by, decide-first}
 use Rattle.answers.proofs.Tests.{no-path, and-left, and-right}
+use Rattle.numbers.specs.Numbers.{nobody, isNobody}
 use Rattle.numbers.specs.declared.FunctionalNumber.{FunctionalNumber}
 use Rattle.numbers.specs.declared.Msisdn.{Msisdn}
 use Rattle.strings.specs.declared.Operation.{Operation}
@@ -27,23 +28,32 @@ use Rattle.records.specs.declared.Resulted.the-variants.{Refused, Delivered, Dr
 use Rattle.records.specs.declared.Notice.{Notice}
 use Rattle.records.specs.declared.Notice.the-variants.{Waiting}
 use Rattle.records.specs.Steps as steps
-use Rattle.records.specs.Steps.{nobody, isNobody, same, heldBy, forcedOff, isAbsent, isWaiting, isInFlight, sendingsDone, launched, withNotice, cleared, mostSendings, lastKind}
+use Rattle.records.specs.Steps.{same, heldBy, forcedOff, isAbsent, isWaiting, isInFlight, sendingsDone, launched, withNotice, cleared, mostSendings, lastKind}
 use Rattle.tables.specs.Tables.{flagsOf}
 use Rattle.states.specs.States.{State, stateSound, recordFor}
 use Rattle.rules.specs.Answers.{Answer, refusal, delivered, dropped, again, bufferRoom, isOutcome}
 use Rattle.rules.specs.Requests.{hasFollowMe, isSupervisor, isForced, afterErasure, rightChecks}
 use Rattle.rules.specs.Frames.{Inside, insideOf, ownReply}
+use Rattle.rules.specs.Terminal.{terminalRequest, bothNumbers}
 use Rattle.rules.specs.Run.{end, log}
-use Rattle.rules.specs.Calls.{Call, request, framed, sending, result, Reply, readOf, clockReading, nameOf, namesOne}
+use Rattle.rules.specs.Calls.{Call, request, framed, sending, result, terminal, Reply, readOf, clockReading, nameOf, namesOne}
 use Rattle.rules.specs.Visits.{Visited, visited, visitSaying, stepped, holderAnswered, decides, decided, sentStep, resultStep, visitRequest, visitInside, visit, replySaying, missedRequest, missedInside, missed}
 use Rattle.rules.specs.Pending.{never}
-use Rattle.rules.specs.Users.{askerOf, isRequest}
+use Rattle.rules.specs.Users.{askerOf}
 use Rattle.rules.proofs.Once.{single}
 use Rattle.rules.proofs.Inside.{outcome-kept}
 use Rattle.rules.proofs.Unsound.{unsound-single}
 use Rattle.rules.proofs.Visits.{recordChecks, sentChecks}
 use Rattle.rules.proofs.Sound.{single-own, single-absent, single-other}
 use Rattle.rules.proofs.Local.{named-some}
+
+-- a request, framed or not
+abbrev pub isRequest : Call → Bool
+isRequest (request requester scheme string reply) = true
+isRequest (framed requester message frame) = true
+isRequest (sending now number buffer) = false
+isRequest (result now number kind) = false
+isRequest (terminal number holder reply) = false
 
 -- ---- what a visit may do to the record r
 
@@ -86,6 +96,11 @@ pub data Does (list : List ℕ) (r : Record) : Call → Visited → Type 0 where
       → Does list r (result now number kind) (visited a [] (cleared r))
   goes-on : {now kind : ℕ} {number : FunctionalNumber} → isInFlight (r .notice) ≡ true → leb mostSendings (sendingsDone (r .notice)) ≡ false
       → Does list r (result now number kind) (visited again [] (withNotice (Waiting (sendingsDone (r .notice)) (clockReading now)) r))
+  -- at the terminal: answered with anything but 01 and 02, or the holder is forced off
+  unmoved : {number : FunctionalNumber} {holder : Msisdn} {reply buffer : List ℕ} {a : Answer} → isOutcome 1 a ≡ false → isOutcome 2 a ≡ false
+      → Does list r (terminal number holder reply) (visited a buffer r)
+  removes : {number : FunctionalNumber} {holder : Msisdn} {reply : List ℕ} → same (r .holder) holder ≡ true → isAbsent (r .notice) ≡ true → isNobody (r .holder) ≡ false
+      → Does list r (terminal number holder reply) (visitSaying 2 reply (forcedOff nobody r))
 
 module _ (list : List ℕ) (r : Record) (requester : Msisdn) (reply : List ℕ) where
   abbrev flags : ℕ
@@ -139,7 +154,7 @@ by-inside list r requester frame (some i) =
 
 -- a visit does one of these
 pub does : (list : List ℕ) (delay : ℕ) (c : Call) (r : Record) → Does list r c (visit list delay c r)
-unfolding steps.sent steps.resulted
+unfolding steps.sent steps.resulted steps.forced decided
 does list delay (request requester scheme string reply) r = asks refl (by-reading list r requester reply (requestOf string))
 does list delay (framed requester message frame) r = asks refl (by-inside list r requester frame (insideOf message))
 does list delay (sending now number buffer) r =
@@ -168,6 +183,13 @@ does list delay (result now number kind) r =
         ),
       ),
     )
+does list delay (terminal number holder reply) r =
+    decide-by (Does list r (terminal number holder reply))
+    ((ltb (length reply) bufferRoom, visited (refusal 1) reply r) ∷ (not (bothNumbers number holder), visited (refusal 7) reply r) ∷ [])
+    (decided (terminalRequest number holder) nobody reply r) (unmoved refl refl, (unmoved refl refl, tt))
+    (λ p. decide-by (λ s. Does list r (terminal number holder reply) (stepped 2 reply r s)) (map (answering step.Stays) (recordChecks Erase (Forced holder) number nobody r))
+    (step.Becomes (afterErasure nobody (Forced holder) r)) (unmoved refl refl, (unmoved refl refl, (unmoved refl refl, tt)))
+    (λ a. rw (a .0) (removes (not-false _ (a .1 .0)) (not-false _ (rw (a .0) at a .1 .1 .0)) (a .0))))
 
 -- ---- a list of calls, seen from the number k
 
@@ -235,6 +257,10 @@ missed-negative list (sending now number buffer) =
     decide-each Negative ((ltb (length buffer) bufferRoom, record { answer = refusal 1; buffer = buffer }) ∷ []) (record { answer = refusal 7; buffer = buffer })
     (refl, tt) refl
 missed-negative list (result now number kind) = refl
+missed-negative list (terminal number holder reply) =
+    decide-each Negative
+    ((ltb (length reply) bufferRoom, record { answer = refusal 1; buffer = reply }) ∷ (not (bothNumbers number holder), record { answer = refusal 7; buffer = reply }) ∷ [])
+    (replySaying 41 reply) (refl, (refl, tt)) refl
 
 pub answered-02 : {list : List ℕ} {k : ℕ} {o p : Option Record} {c : Call} {a : Reply} → Along list k o ((c, a) ∷ []) p → namesOne list c k ≡ true
     → isOutcome 2 (a .answer) ≡ true → (r : Record) × (v : Visited) × Does list r c v × (p ≡ some (v .next)) × (isOutcome 2 (v .reply .answer) ≡ true)

@@ -9,6 +9,7 @@ use lib.ListN.{length}
 use Rattle.answers.specs.Checks.{decide}
 use Rattle.answers.proofs.Tests.{no-path}
 use Rattle.answers.proofs.Decide.{chosen}
+use Rattle.numbers.specs.Numbers.{nobody, isNobody}
 use Rattle.numbers.specs.declared.FunctionalNumber.{FunctionalNumber}
 use Rattle.numbers.specs.declared.Msisdn.{Msisdn}
 use Rattle.strings.specs.declared.Operation.{Operation}
@@ -33,7 +34,8 @@ use Rattle.states.specs.States.{State, stateSound, recordFor}
 use Rattle.rules.specs.Answers.{bufferRoom}
 use Rattle.rules.specs.Requests.{hasFollowMe, isSupervisor, isForced}
 use Rattle.rules.specs.Frames.{Inside, insideOf, ownReply}
-use Rattle.rules.specs.Calls.{Call, request, framed, sending, result, call, nameOf, codesOf, clockReading}
+use Rattle.rules.specs.Terminal.{terminalRequest, bothNumbers}
+use Rattle.rules.specs.Calls.{Call, request, framed, sending, result, terminal, call, nameOf, codesOf, clockReading}
 use Rattle.rules.specs.Demand.{registersAs, registers}
 use Rattle.rules.specs.Visits.{Visited, stepped, holderAnswered, decides, decided, sentStep, resultStep, visitRequest, enveloped, visitInside, visit}
 use Rattle.rules.proofs.Single.{call-single}
@@ -47,10 +49,10 @@ module _ (r : Record) where
   erased-as-open : (number : FunctionalNumber) (requester : Msisdn) (reply : List ℕ)
       → stepped 2 reply (closing r) (steps.erased number requester (closing r)) ≡ closedAfter (stepped 2 reply r (steps.erased number requester r))
   unfolding steps.erased
-  erased-as-open number requester reply = go (steps.isNobody (r .holder)) (not (steps.mayErase number requester (r .holder)))
+  erased-as-open number requester reply = go (isNobody (r .holder)) (not (steps.mayErase number requester (r .holder)))
     where
-      go : (a b : Bool) → stepped 2 reply (closing r) (decide ((a, step.Stays 62) ∷ (b, step.Stays 63) ∷ []) (step.Becomes (steps.heldBy steps.nobody (closing r))))
-          ≡ closedAfter (stepped 2 reply r (decide ((a, step.Stays 62) ∷ (b, step.Stays 63) ∷ []) (step.Becomes (steps.heldBy steps.nobody r))))
+      go : (a b : Bool) → stepped 2 reply (closing r) (decide ((a, step.Stays 62) ∷ (b, step.Stays 63) ∷ []) (step.Becomes (steps.heldBy nobody (closing r))))
+          ≡ closedAfter (stepped 2 reply r (decide ((a, step.Stays 62) ∷ (b, step.Stays 63) ∷ []) (step.Becomes (steps.heldBy nobody r))))
       go true b = refl
       go false true = refl
       go false false = refl
@@ -59,10 +61,10 @@ module _ (r : Record) where
       → stepped 2 reply (closing r) (steps.forced supervisor named (closing r)) ≡ closedAfter (stepped 2 reply r (steps.forced supervisor named r))
   unfolding steps.forced
   forced-as-open supervisor named reply =
-      go (steps.isNobody (r .holder)) (not (steps.same (r .holder) named)) (not (steps.same (r .holder) supervisor) && not (steps.isAbsent (r .notice))) (steps.same (r .holder) supervisor)
+      go (isNobody (r .holder)) (not (steps.same (r .holder) named)) (not (steps.same (r .holder) supervisor) && not (steps.isAbsent (r .notice))) (steps.same (r .holder) supervisor)
     where
       next : Bool → Record → Step
-      next d x = step.Becomes (cond d (steps.heldBy steps.nobody x) (steps.forcedOff supervisor x))
+      next d x = step.Becomes (cond d (steps.heldBy nobody x) (steps.forcedOff supervisor x))
 
       go : (a b c d : Bool) → stepped 2 reply (closing r) (decide ((a, step.Stays 62) ∷ (b, step.Stays 63) ∷ (c, step.Stays 68) ∷ []) (next d (closing r)))
           ≡ closedAfter (stepped 2 reply r (decide ((a, step.Stays 62) ∷ (b, step.Stays 63) ∷ (c, step.Stays 68) ∷ []) (next d r)))
@@ -74,7 +76,7 @@ module _ (r : Record) where
 
   asked-as-open : (reply : List ℕ) → holderAnswered reply (closing r) (steps.interrogated (closing r)) ≡ closedAfter (holderAnswered reply r (steps.interrogated r))
   unfolding steps.interrogated
-  asked-as-open reply = go (steps.isNobody (r .holder))
+  asked-as-open reply = go (isNobody (r .holder))
     where
       go : (a : Bool) → holderAnswered reply (closing r) (decide ((a, holds.Stays 62) ∷ []) (holds.Held (r .holder))) ≡ closedAfter (holderAnswered reply r (decide ((a, holds.Stays 62) ∷ []) (holds.Held (r .holder))))
       go true = refl
@@ -146,6 +148,9 @@ module _ (r : Record) where
   visit-as-open list delay (sending now number buffer) other =
       chosen closedAfter (ltb (length buffer) bufferRoom) refl (sent-as-open delay (clockReading now) number buffer)
   visit-as-open list delay (result now number kind) other = result-as-open kind (clockReading now)
+  visit-as-open list delay (terminal number holder reply) other =
+      chosen closedAfter (ltb (length reply) bufferRoom) refl
+      (chosen closedAfter (not (bothNumbers number holder)) refl (decides-as-open (terminalRequest number holder) refl nobody reply))
 
 -- of the calls: a closed number is answered as if it were open, and what is left is what would be left, closed
 pub as-open : (list : List ℕ) (delay : ℕ) (c : Call) (s u : State) (k : ℕ) (r : Record) → stateSound s ≡ true → stateSound u ≡ true

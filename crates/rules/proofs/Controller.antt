@@ -12,7 +12,7 @@ use Rattle.answers.proofs.Checks.{not-some}
 use Rattle.answers.proofs.Tests.{no-path, and-no}
 use Rattle.answers.proofs.Decide.{decide-each}
 use Rattle.packing.specs.Packing.{packed}
-use Rattle.numbers.specs.Numbers.{twoDigits}
+use Rattle.numbers.specs.Numbers.{twoDigits, nobody, isNobody}
 use Rattle.numbers.specs.declared.Msisdn.{Msisdn}
 use Rattle.strings.specs.declared.Operation.{Operation}
 use Rattle.strings.specs.declared.Operation.the-variants.{Register, Erase, Interrogate}
@@ -25,7 +25,7 @@ use Rattle.frames.specs.Messages.{frameRoom, registerOf}
 use Rattle.frames.specs.Messages as messages
 use Rattle.records.specs.declared.Record.{Record}
 use Rattle.records.specs.Steps as steps
-use Rattle.records.specs.Steps.{nobody, isNobody, same, isAbsent, heldBy, forcedOff}
+use Rattle.records.specs.Steps.{same, isAbsent, heldBy, forcedOff}
 use Rattle.tables.specs.declared.Found.{Found}
 use Rattle.tables.specs.declared.Found.the-variants.{At, Nothing}
 use Rattle.tables.specs.Tables.{tableSound, flagsOf}
@@ -36,7 +36,7 @@ use Rattle.rules.specs.Requests.{isClosed, hasFollowMe, holderIn, mostSt
 use Rattle.rules.specs.Requests as requests
 use Rattle.rules.specs.Crews.{crewCodes, crewNumber, Walk, walked, setOut, crewOutcome, requesting}
 use Rattle.rules.specs.Frames.{ownReply}
-use Rattle.rules.specs.Calls.{Call, request, framed, Reply, replied, nameOf, namesOne, call, codesOf, sending, result, codesRead}
+use Rattle.rules.specs.Calls.{Call, request, framed, Reply, replied, nameOf, namesOne, call, codesOf, sending, result, terminal, codesRead}
 use Rattle.rules.specs.Visits.{Visited, storing, visitSaying, replySaying, decided, visit}
 use Rattle.rules.specs.Demand.{holderOf}
 use Rattle.rules.specs.Framed.{givenBack, AsBare}
@@ -50,7 +50,7 @@ use Rattle.rules.proofs.Withdrawn.{withdrawn}
 use Rattle.rules.proofs.Framed.{as-bare, framed-says}
 use Rattle.rules.proofs.Visits.{found-back, single-visits}
 use Rattle.rules.proofs.Sound.{single-keeps, single-own}
-use Rattle.rules.proofs.Along.{Asked, negative, registration, erasure, herself, forced, Does, asks, unsent, sends, untaken, clears, goes-on, delivers, drops, gives-up, along, answered-02, one-same, not-same}
+use Rattle.rules.proofs.Along.{Asked, negative, registration, erasure, herself, forced, Does, asks, unsent, sends, untaken, clears, goes-on, unmoved, removes, delivers, drops, gives-up, along, answered-02, one-same, not-same}
 
 -- a well-formed request names the number in its string
 pub form-names : (list : List ℕ) (requester : Msisdn) (scheme : ℕ) (string reply : List ℕ) (f : Request) → WellFormed list requester scheme string reply f
@@ -180,6 +180,8 @@ erasure-frees (clears w (delivers e)) u = no-path u
 erasure-frees (clears w (drops e l)) u = no-path u
 erasure-frees (clears w (gives-up e l m)) u = no-path u
 erasure-frees (goes-on w p) u = no-path u
+erasure-frees (unmoved p q) u = no-path (sym q ∙ u)
+erasure-frees (removes m x z) u = refl
 
 -- a crew's request is not answered 02
 bare-not-02 : (list : List ℕ) (requester : Msisdn) (scheme : ℕ) (string reply : List ℕ) (state : State)
@@ -223,6 +225,7 @@ crew-not-02 list delay (framed requester message frame) state sound answered = g
         (sym (w .outcomes (call list delay (request requester (i .scheme) (i .string) ownReply) state .0) 2) ∙ sym (ap (λ x. isOutcome 2 (x .0 .answer)) (w .calls state sound)) ∙ answered)
 crew-not-02 list delay (sending now functional buffer) state sound answered = refl
 crew-not-02 list delay (result now functional kind) state sound answered = refl
+crew-not-02 list delay (terminal functional holder reply) state sound answered = refl
 
 -- m with flag 1 asks for a registration of a number whose digits are not hers
 module _ (list : List ℕ) (delay : ℕ) (m : Msisdn) (scheme : ℕ) (string reply : List ℕ) (f : Request) (form : WellFormed list m scheme string reply f)

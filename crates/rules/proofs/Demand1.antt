@@ -26,13 +26,13 @@ use Rattle.rules.specs.Frames.{ownReply}
 use Rattle.rules.specs.Requests.{Verdict, says, tells, Stepping}
 use Rattle.rules.specs.Notices as notices
 use Rattle.rules.specs.Run.{end}
-use Rattle.rules.specs.Calls.{Call, request, framed, sending, result, clockReading, call, nameOf, codesRead, codesOf, stepsOf}
+use Rattle.rules.specs.Calls.{Call, request, framed, sending, result, terminal, clockReading, call, nameOf, codesRead, codesOf, stepsOf}
 use Rattle.rules.specs.Demand.{isCrewOutcome, Demand1, registersAs, registers, requesterOf, holderOf}
 use Rattle.rules.proofs.Once.{requestingOnce, single}
 use Rattle.rules.proofs.Inside.{Opened, shut, carries, opened}
 use Rattle.rules.proofs.Visits.{found-back, naming}
 use Rattle.rules.proofs.Leaves.{leaves}
-use Rattle.rules.proofs.Each.{returned-each, once-each}
+use Rattle.rules.proofs.Each.{returned-each, terminal-each, once-each}
 use Rattle.rules.proofs.Single.{call-single}
 use Rattle.rules.proofs.Steps.{goes-said, View, own, stops, goes, view}
 use Rattle.rules.proofs.Calls.{step-end}
@@ -116,20 +116,21 @@ again list delay (framed requester message frame) state k named alone registrati
     by-state false unsound = let (n, buffer, e, early) = unsound-call state unsound list delay (framed requester message frame) in ap (λ x. x .1) e
 again list delay (sending now number buffer) state k named alone registration holds = no-path registration
 again list delay (result now number kind) state k named alone registration holds = no-path registration
+again list delay (terminal number holder reply) state k named alone registration holds = no-path registration
 
 -- ---- a crew's request
 
--- a single request, a sending and a result are not answered 11 or 12
+-- a single request, a sending, a result and an erasure at the terminal are not answered 11 or 12
+uncrewed : (state : State) (reply : List ℕ) (n : ℕ) → isNegativeNumber n ≡ true → isCrewOutcome (requests.saying n state reply .answer) ≡ false
+uncrewed state reply n e =
+    let other = or-neither (eqb n 1 || eqb n 2 || eqb n interrogationNumber || eqb n crewRegistered) (eqb n crewErased) (not-true _ e) in
+    rw (or-neither (eqb n 1 || eqb n 2 || eqb n interrogationNumber) (eqb n crewRegistered) (other .0) .1, other .1) refl
+
 once-answered : (list : List ℕ) (requester : Msisdn) (scheme : ℕ) (string reply : List ℕ) (state : State)
     → isCrewOutcome (requestingOnce state list reply requester scheme string .answer) ≡ false
 once-answered list requester scheme string reply state =
-    once-each state reply (λ (o : Outcome). isCrewOutcome (o .answer) ≡ false) (λ n. refl) (λ n. refl) (λ n l e. denied n e) (λ new. refl) (λ new. refl) (λ m. refl)
-    list requester scheme string
-  where
-    denied : (n : ℕ) → isNegativeNumber n ≡ true → isCrewOutcome (requests.saying n state reply .answer) ≡ false
-    denied n e =
-        let other = or-neither (eqb n 1 || eqb n 2 || eqb n interrogationNumber || eqb n crewRegistered) (eqb n crewErased) (not-true _ e) in
-        rw (or-neither (eqb n 1 || eqb n 2 || eqb n interrogationNumber) (eqb n crewRegistered) (other .0) .1, other .1) refl
+    once-each state reply (λ (o : Outcome). isCrewOutcome (o .answer) ≡ false) (λ n. refl) (λ n. refl) (λ n l e. uncrewed state reply n e) (λ new. refl) (λ new. refl)
+    (λ m. refl) list requester scheme string
 
 single-answered : (list : List ℕ) (delay : ℕ) (c : Call) (state : State) → isCrewOutcome (single list delay c state .0 .answer) ≡ false
 unfolding notices.sendingNotice notices.takingResult
@@ -155,6 +156,9 @@ single-answered list delay (sending now number buffer) state =
     at-place : (place : Found) → isCrewOutcome (notices.sentAt number place state buffer .answer) ≡ false
     at-place Nothing = refl
     at-place (At i) = refl
+single-answered list delay (terminal number holder reply) state =
+    terminal-each state reply (λ (o : Outcome). isCrewOutcome (o .answer) ≡ false) (λ n. refl) (λ n. refl) (λ n l e. uncrewed state reply n e) (λ new. refl) (λ new. refl)
+    (λ m. refl) number holder
 single-answered list delay (result now number kind) state =
     decide-each (λ (o : Outcome). isCrewOutcome (o .answer) ≡ false)
     (refusing state [] (notices.resultChecks (tableSound (state .table)) (figuresRight state) (number .0) (recordFor state (number .0)) kind)) _

@@ -1,4 +1,4 @@
--- The driver: who holds a number ceases to hold it only by an erasure of her own, by that of the number's own subscriber or by a supervisor who names her, and nobody comes to hold it but by her own registration. Assumes nothing.
+-- The driver: who holds a number ceases to hold it only by an erasure of her own, by that of the number's own subscriber, by a supervisor who names her or at the node's terminal, where she is named, and nobody comes to hold it but by her own registration. Assumes nothing.
 use mathlib.Core.Path.{_≡_, refl, sym, ap, _∙_, subst}
 use mathlib.Core.Logic.{_⊎_, inl, inr, ⊎-elim}
 use mathlib.Core.Bool.{Bool, true, false, _||_}
@@ -9,19 +9,21 @@ use native.Mathlib.Omega.{arith}
 use borrow.Author.Tests.{eqb-true, eq-eqb, not-false}
 use Rattle.answers.proofs.Decide.{all-pass}
 use Rattle.answers.proofs.Tests.{no-path, and-both, or-cases, or-left, or-right, or-neither, same-or-not}
+use Rattle.numbers.specs.Numbers.{nobody, isNobody}
+use Rattle.numbers.specs.declared.FunctionalNumber.{FunctionalNumber}
 use Rattle.numbers.specs.declared.Msisdn.{Msisdn}
 use Rattle.strings.specs.Text.{Request}
 use Rattle.records.specs.declared.Record.{Record}
-use Rattle.records.specs.Steps.{nobody, isNobody, same, isOwn, isAbsent}
+use Rattle.records.specs.Steps.{same, isOwn, isAbsent, forcedOff}
 use Rattle.tables.specs.Tables.{listSound, flagsOf}
 use Rattle.rules.specs.Answers.{isOutcome}
 use Rattle.rules.specs.Frames.{ownReply}
 use Rattle.rules.specs.Run.{end, log}
 use Rattle.rules.specs.Requests.{refusalChecks, hasFollowMe, isSupervisor, holderIn, noNotice}
-use Rattle.rules.specs.Calls.{Call, Reply, request, framed, sending, result, call, readOf, nameOf, namesOne, codesOf, steps}
-use Rattle.rules.specs.Visits.{Visited}
+use Rattle.rules.specs.Calls.{Call, Reply, request, framed, sending, result, terminal, call, readOf, nameOf, namesOne, codesOf, steps}
+use Rattle.rules.specs.Visits.{Visited, visitSaying}
 use Rattle.rules.specs.Pending.{never}
-use Rattle.rules.specs.Users.{isRequest, bothFlags, askerOf, erasesHoldIn, mayEndHold, endsHold, beginsHold, Stood, HoldEnded, HoldBegun}
+use Rattle.rules.specs.Users.{isOfNotice, bothFlags, askerOf, erasesHoldIn, clearsHold, mayEndHold, endsHold, beginsHold, Stood, HoldEnded, HoldBegun}
 use Rattle.rules.specs.Demand.{isCrewOutcome, mayChange, registersAs, registers, requesterOf, holderOf}
 use Rattle.tables.proofs.Stored.{flags-small}
 use Rattle.states.specs.States.{State, stateSound, recordFor}
@@ -32,7 +34,7 @@ use Rattle.rules.proofs.Steps.{goes-said, View, own as alone-step, stop
 use Rattle.rules.proofs.Calls.{all-steps-single, singly-end}
 use Rattle.rules.proofs.Visits.{naming}
 use Rattle.rules.proofs.Local.{named-some}
-use Rattle.rules.proofs.Along.{Asked, AskedIn, negative, registration, erasure, herself, forced, Does, asks, unsent, sends, untaken, clears, goes-on, Along, ends, passes, visits, along, word, one-msisdn, same-one, one-same, never-first}
+use Rattle.rules.proofs.Along.{isRequest, Asked, AskedIn, negative, registration, erasure, herself, forced, Does, asks, unsent, sends, untaken, clears, goes-on, unmoved, removes, Along, ends, passes, visits, along, word, one-msisdn, same-one, one-same, never-first}
 
 -- ---- what the tests say
 
@@ -50,6 +52,7 @@ named-listed list k (framed requester message frame) e n =
     bare-listed list k requester (i .scheme) (i .string) ownReply m
 named-listed list k (sending now number buffer) e n = no-path e
 named-listed list k (result now number kind) e n = no-path e
+named-listed list k (terminal number holder reply) e n = no-path e
 
 -- "flags 0 to 3: 1 has Follow Me, 2 supervisor"
 both-flags : (list : List ℕ) (msisdn : ℕ) → listSound list ≡ true → hasFollowMe (flagsOf list msisdn) ≡ true → isSupervisor (flagsOf list msisdn) ≡ true
@@ -95,10 +98,12 @@ asked-ends {list} {r = r} {q = requester} (forced {named = named} p q w m d x y 
     let flags = both-flags list (requester .0) sound y z in
     inr (refl, refl, λ b i. rw (p, q, w, of, flags, i x) (or-right (same requester h) true refl))
 
--- a call asks for something, or leaves the holder
+-- a call asks for something, leaves the holder, or forces her off at the terminal
 data Holding (list : List ℕ) (r : Record) : Call → Visited → Type 0 where
   asking : {c : Call} {v : Visited} → isRequest c ≡ true → AskedIn list r (askerOf c) (readOf c) v → Holding list r c v
   keeping : {c : Call} {v : Visited} → v .next .holder ≡ r .holder → Holding list r c v
+  removing : {number : FunctionalNumber} {holder : Msisdn} {reply : List ℕ} → same (r .holder) holder ≡ true → isAbsent (r .notice) ≡ true
+      → Holding list r (terminal number holder reply) (visitSaying 2 reply (forcedOff nobody r))
 
 holding : {list : List ℕ} {r : Record} {c : Call} {v : Visited} → Does list r c v → Holding list r c v
 holding (asks i d) = asking i d
@@ -107,22 +112,34 @@ holding (sends w) = keeping refl
 holding untaken = keeping refl
 holding (clears f e) = keeping refl
 holding (goes-on f p) = keeping refl
+holding (unmoved p q) = keeping refl
+holding (removes m x z) = removing m x
+
+asks-no-notice : (c : Call) → isRequest c ≡ true → isOfNotice c ≡ false
+asks-no-notice (request requester scheme string reply) i = refl
+asks-no-notice (framed requester message frame) i = refl
+asks-no-notice (sending now number buffer) i = no-path i
+asks-no-notice (result now number kind) i = no-path i
+asks-no-notice (terminal number holder reply) i = refl
 
 -- no sending and no result changes the holder, and no answer but 01 and 02
-unasked-keeps : {list : List ℕ} {r : Record} {c : Call} {v : Visited} → Holding list r c v → isRequest c ≡ false → v .next .holder ≡ r .holder
-unasked-keeps (asking i d) e = no-path (sym e ∙ i)
-unasked-keeps (keeping s) e = s
+notice-keeps : {list : List ℕ} {r : Record} {c : Call} {v : Visited} → Holding list r c v → isOfNotice c ≡ true → v .next .holder ≡ r .holder
+notice-keeps {c = c} (asking i d) e = no-path (sym (asks-no-notice c i) ∙ e)
+notice-keeps (keeping s) e = s
+notice-keeps (removing m x) e = no-path e
 
 negative-keeps : {list : List ℕ} {r : Record} {c : Call} {v : Visited} → Holding list r c v
     → isOutcome 1 (v .reply .answer) ≡ false → isOutcome 2 (v .reply .answer) ≡ false → v .next .holder ≡ r .holder
 negative-keeps (keeping s) a b = s
 negative-keeps (asking i d) a b = asked-keeps d a b
+negative-keeps (removing m x) a b = no-path (sym b)
 
 -- a visit leaves the holder, or nobody, or gives the number to who registers it
 visit-gives : {list : List ℕ} {r : Record} {c : Call} {v : Visited} → Holding list r c v
     → (v .next .holder ≡ r .holder) ⊎ ((v .next .holder ≡ nobody) ⊎ ((registers c ≡ true) × (isOutcome 1 (v .reply .answer) ≡ true) × (v .next .holder .0 ≡ requesterOf c)))
 visit-gives (keeping s) = inl s
 visit-gives (asking i d) = asked-gives d
+visit-gives (removing m x) = inr (inl refl)
 
 -- nobody holds a free number still, or who holds it has registered it
 visit-begins : {list : List ℕ} {r : Record} {c : Call} {v : Visited} → Holding list r c v → r .holder ≡ nobody
@@ -135,7 +152,10 @@ module _ (list : List ℕ) (k : ℕ) (h : Msisdn) (held : isNobody h ≡ false) 
       → (v .next .holder ≡ h) ⊎ ((v .next .holder ≡ nobody) × (isOutcome 2 (v .reply .answer) ≡ true)
       × ((b : Bool) → (isAbsent (r .notice) ≡ true → b ≡ true) → mayEndHold list h b c ≡ true))
   visit-ends (keeping s) n e = inl (s ∙ e)
-  visit-ends {c = c} (asking i d) n e = asked-ends d h held (named-listed list k c i n) e
+  visit-ends {c = c} (asking i d) n e =
+      ⊎-elim inl (λ (f, a, m). inr (f, a, λ b i. or-left _ (clearsHold h b c) (m b i))) (asked-ends d h held (named-listed list k c i n) e)
+  visit-ends {r} (removing {holder = holder} m x) n e =
+      inr (refl, refl, λ b i. rw (one-same holder h (sym (same-one (r .holder) holder m) ∙ e), i x) refl)
 
   -- ---- the walk along the calls
 
@@ -158,9 +178,9 @@ begun-once (passes n ends) e = inl e
 begun-once (visits n d ends) e = ⊎-elim inl (λ (m, a, q). inr (n, m, a, q)) (visit-begins (holding d) e)
 
 kept-once : {list : List ℕ} {k : ℕ} {o p : Option Record} {x : Call × Reply} → Along list k o (x ∷ []) p
-    → (isRequest (x .0) ≡ false) ⊎ ((isOutcome 1 (x .1 .answer) ≡ false) × (isOutcome 2 (x .1 .answer) ≡ false)) → holderIn p ≡ holderIn o
+    → (isOfNotice (x .0) ≡ true) ⊎ ((isOutcome 1 (x .1 .answer) ≡ false) × (isOutcome 2 (x .1 .answer) ≡ false)) → holderIn p ≡ holderIn o
 kept-once (passes n ends) s = refl
-kept-once (visits n d ends) s = ⊎-elim (unasked-keeps (holding d)) (λ (a, b). negative-keeps (holding d) a b) s
+kept-once (visits n d ends) s = ⊎-elim (notice-keeps (holding d)) (λ (a, b). negative-keeps (holding d) a b) s
 
 -- an entry one place further on
 further : {test : Call × Reply → Bool} {l : List (Call × Reply)} (x : Call × Reply) → Stood test l → Stood test (x ∷ l)
@@ -218,15 +238,16 @@ module _ (list : List ℕ) (delay k : ℕ) (c : Call) (state : State) where
         ⊎-elim (λ s. absurd (gone (ap word s))) (λ (n, m, a, q). record { named = n; registration = m; answered = a; requester = q })
         (begun-once once (one-msisdn (holderIn (recordFor state k)) nobody e))
 
-  request-alone : (e : Call) → isRequest e ≡ false → codesOf e ≡ none
-  request-alone (request requester scheme string reply) n = no-path (sym n)
-  request-alone (framed requester message frame) n = no-path (sym n)
-  request-alone (sending now number buffer) n = refl
-  request-alone (result now number kind) n = refl
+  notice-alone : (e : Call) → isOfNotice e ≡ true → codesOf e ≡ none
+  notice-alone (request requester scheme string reply) n = no-path n
+  notice-alone (framed requester message frame) n = no-path n
+  notice-alone (sending now number buffer) n = refl
+  notice-alone (result now number kind) n = refl
+  notice-alone (terminal number holder reply) n = refl
 
   -- a sending or a result changes no holder
-  pub notices-change-no-holder : isRequest c ≡ false → holderOf after k ≡ holderOf state k
-  notices-change-no-holder e = ap word (kept-once (once (request-alone c e)) (inl e))
+  pub notices-change-no-holder : isOfNotice c ≡ true → holderOf after k ≡ holderOf state k
+  notices-change-no-holder e = ap word (kept-once (once (notice-alone c e)) (inl e))
 
   -- nor does what is refused, in error or negative: any answer but 01 and 02, and a crew's, whose steps are calls of their own
   pub negatives-change-no-holder : mayChange (got .answer) ≡ false → holderOf after k ≡ holderOf state k

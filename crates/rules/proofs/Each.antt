@@ -7,6 +7,8 @@ use Prim.Native.Nat.{ℕ, _<_}
 use native.Mathlib.Omega.{arith}
 use lib.Dec.{eqb}
 use Rattle.answers.proofs.Decide.{decide-each}
+use Rattle.numbers.specs.Numbers.{nobody}
+use Rattle.numbers.specs.declared.FunctionalNumber.{FunctionalNumber}
 use Rattle.numbers.specs.declared.Msisdn.{Msisdn}
 use Rattle.crews.specs.Crews.{crewOf}
 use Rattle.strings.specs.declared.Operation.{Operation}
@@ -23,6 +25,7 @@ use Rattle.rules.specs.Answers.{Answer, refusal, error, delivered, dropp
 use Rattle.rules.specs.Requests.{saying, refusalChecks, rightChecks, stepChecks, Stepping, tells, staying, carriedOut, carriedOutAt, step, negative, answered, replying, once, askingBy, requestingBy}
 use Rattle.rules.specs.Crews.{crewCodes, crewNumber, Walk, walked, setOut, crewOutcome, carriedOutFor, requesting}
 use Rattle.rules.specs.Notices.{clears, returned}
+use Rattle.rules.specs.Terminal.{terminalRequest, terminalChecks, terminalErasure}
 use Rattle.rules.proofs.Once.{requestingOnce}
 use Rattle.rules.proofs.Tallied.{Tallied, crew-tallied}
 
@@ -35,8 +38,8 @@ returned-each P d o a kind n = go (eqb kind 0) (clears kind n)
     go false true = o
     go false false = a
 
-module _ (t : State) (reply : List ℕ) (P : Outcome → Type 0) (refused : (n : ℕ) → P (made (refusal n) t reply)) (erred : (n : ℕ) → P (made (error n) t reply))
-    (denied : (n : ℕ) → n < 100 → isNegativeNumber n ≡ true → P (saying n t reply))
+-- what every answer of a single step has
+module _ (t : State) (reply : List ℕ) (P : Outcome → Type 0) (denied : (n : ℕ) → n < 100 → isNegativeNumber n ≡ true → P (saying n t reply))
     (registered : (new : State) → P (saying 1 new reply)) (erased : (new : State) → P (saying 2 new reply))
     (told : (msisdn : ℕ) → P (answered reply (tells msisdn) t)) where
   abbrev Replied : Stepping → Type 0
@@ -51,7 +54,7 @@ module _ (t : State) (reply : List ℕ) (P : Outcome → Type 0) (refused : (n :
   done-at-each f Nothing requester = denied 41 (omega arith) refl
   done-at-each f (At i) requester = done-each (f .operation) (f .erasing) requester i
 
-  step-each : (requester : Msisdn) (f : Request) → Replied (step t requester f)
+  pub step-each : (requester : Msisdn) (f : Request) → Replied (step t requester f)
   unfolding step
   step-each requester f =
       decide-each Replied (map (staying t) (stepChecks requester f (recordFor t (f .number .0)))) _ (
@@ -65,6 +68,21 @@ module _ (t : State) (reply : List ℕ) (P : Outcome → Type 0) (refused : (n :
         ),
       )
       (done-at-each f (rowFor t (f .number .0)) requester)
+
+-- what every refusal and every error has too
+module _ (t : State) (reply : List ℕ) (P : Outcome → Type 0) (refused : (n : ℕ) → P (made (refusal n) t reply)) (erred : (n : ℕ) → P (made (error n) t reply))
+    (denied : (n : ℕ) → n < 100 → isNegativeNumber n ≡ true → P (saying n t reply))
+    (registered : (new : State) → P (saying 1 new reply)) (erased : (new : State) → P (saying 2 new reply))
+    (told : (msisdn : ℕ) → P (answered reply (tells msisdn) t)) where
+  stepping : (requester : Msisdn) (f : Request) → P (once t reply requester f)
+  stepping = step-each t reply P denied registered erased told
+
+  -- of an erasure at the terminal
+  pub terminal-each : (number : FunctionalNumber) (holder : Msisdn) → P (terminalErasure t reply number holder)
+  unfolding terminalErasure
+  terminal-each number holder =
+      decide-each P (refusing t reply (terminalChecks (tableSound (t .table)) (figuresRight t) reply number holder)) _ (refused 1, (refused 2, (refused 10, (refused 7, tt))))
+      (stepping nobody (terminalRequest number holder))
 
   asking-each : (done : Request → Outcome) → ((f : Request) → P (done f)) → (flags : ℕ) (read : Option Request) → P (askingBy done t flags reply read)
   asking-each done all flags none = erred 36
@@ -80,12 +98,12 @@ module _ (t : State) (reply : List ℕ) (P : Outcome → Type 0) (refused : (n :
   -- of a single request
   pub once-each : (list : List ℕ) (requester : Msisdn) (scheme : ℕ) (string : List ℕ) → P (requestingOnce t list reply requester scheme string)
   unfolding requestingOnce
-  once-each list requester scheme string = by-each (once t reply requester) (step-each requester) list requester scheme string
+  once-each list requester scheme string = by-each (once t reply requester) (stepping requester) list requester scheme string
 
   -- of any request, a crew's too
   module _ (crew : (o : Operation) (w : Walk) → Tallied w → P (crewOutcome (crewNumber o) reply w)) where
     carried-each : (requester : Msisdn) (f : Request) (codes : Option (List ℕ)) → crewOf (f .additional) ≡ codes → P (carriedOutFor t reply requester f codes)
-    carried-each requester f none e = step-each requester f
+    carried-each requester f none e = stepping requester f
     carried-each requester f (some codes) e = crew (f .operation) (walked requester f (crewCodes codes) (setOut t)) (crew-tallied requester f codes t e)
 
     pub request-each : (list : List ℕ) (requester : Msisdn) (scheme : ℕ) (string : List ℕ) → P (requesting t list reply requester scheme string)

@@ -1,4 +1,4 @@
--- Document 01, "Examples": P1 to P15, and document 02's M-100, M-101, M-103, M-105 and M-107 (M-102 is P14), of the rules, computed from octets and words, as one list under one statement. Assumes nothing.
+-- Document 01, "Examples": P1 to P15, and document 02's M-100, M-101, M-103, M-105, M-107 and M-111 (M-102 is P14), of the rules, computed from octets and words, as one list under one statement. Assumes nothing.
 use mathlib.Core.Path.{_≡_, refl}
 use mathlib.Core.Bool.{Bool, true}
 use mathlib.Core.List.{List, [], _∷_, _++_, map}
@@ -11,7 +11,8 @@ use Rattle.answers.specs.Writing.{over}
 use Rattle.packing.specs.Packing.{valueOf, digits, octetsFor, charsIn, padded, packed, characters, readable, filled, kept, unpacked}
 use Rattle.numbers.specs.Numbers.{isDigit, pushed, storedForm, isNumber, digitsUpTo, digitsOf, leadingNumber}
 use Rattle.crews.specs.Crews.{isCode, isIn, distinct, codesSound, codesIn, codesAt, soundCodesAt, spacedCodesAt, countedCodesAt, crewOf, countOf}
-use Rattle.strings.specs.Text.{isAdditional, textOf, noticeFields}
+use Rattle.strings.specs.Text.{isAdditional, textOf}
+use Rattle.strings.specs.Notices.{noticeText, noticeFields}
 use Rattle.strings.specs.Reader.{operationAt, serviceAt, numberFieldAt, forcedAt, erasingAt, additionalAt, fieldsOf}
 use Rattle.strings.specs.Outcomes.{requestOf}
 use Rattle.frames.specs.Parts.{part, contentsOf, octetAt}
@@ -29,8 +30,9 @@ use Rattle.rules.specs.Requests as requests
 use Rattle.rules.specs.Crews as crews
 use Rattle.rules.specs.Frames as frame
 use Rattle.rules.specs.Notices as notices
+use Rattle.rules.specs.Terminal.{terminalErasure}
 use Rattle.rules.specs.Run.{end, log}
-use Rattle.rules.specs.Calls.{Call, request, framed, sending, result, bufferOf, Reply, call}
+use Rattle.rules.specs.Calls.{Call, request, framed, sending, result, terminal, bufferOf, Reply, call}
 
 -- A = 4915100001 (flags 1), B = 4915100002 (flags 3), C = 4915100003 (flags 0), F = 0492123401, as stored
 abbrev pub A : ℕ
@@ -154,6 +156,9 @@ octets02 = 0x30 ∷ 0x19 ∷ []
 abbrev pub octets63 : List ℕ
 octets63 = 0xB6 ∷ 0x19 ∷ []
 
+abbrev pub octets68 : List ℕ
+octets68 = 0x36 ∷ 0x1C ∷ []
+
 -- the octets of `##214*0492123401*88*4915100002*#`
 abbrev pub noticeOctets : List ℕ
 noticeOctets =
@@ -183,13 +188,13 @@ examples =
     (says (asks A registersF) 1 octets01
     ∷ says (asks B forcesA) 2 octets02
     ∷ says (asks A registersF) 1 octets01
-    ∷ says (asks B forcesA) 68 (0x36 ∷ 0x1C ∷ [])
+    ∷ says (asks B forcesA) 68 octets68
     ∷ [])
     (noticed A 1 0)
     ∷ []
 
 pub p1-to-p15 : All examples
-unfolding countOf crewOf valueOf digits octetsFor charsIn padded packed characters readable filled kept unpacked isDigit pushed storedForm isNumber digitsUpTo digitsOf leading leadingNumber isAdditional textOf noticeFields begins operationAt serviceAt numberFieldAt forcedAt erasingAt additionalAt fieldsOf requestOf elapsed delayOf delayAllowed rows.noticeUpTo rows.rowUpTo rows.noticeOf rows.recordAt rows.stored placeOf tableUpTo rowOf recordOf figures.recount states.figuresRight states.moved listSound flagsOf requests.step crews.requesting notices.sendingNotice notices.takingResult
+unfolding countOf crewOf valueOf digits octetsFor charsIn padded packed characters readable filled kept unpacked isDigit pushed storedForm isNumber digitsUpTo digitsOf leading leadingNumber isAdditional textOf noticeText noticeFields begins operationAt serviceAt numberFieldAt forcedAt erasingAt additionalAt fieldsOf requestOf elapsed delayOf delayAllowed rows.noticeUpTo rows.rowUpTo rows.noticeOf rows.recordAt rows.stored placeOf tableUpTo rowOf recordOf figures.recount states.figuresRight states.moved listSound flagsOf requests.step crews.requesting notices.sendingNotice notices.takingResult
 p1-to-p15 =
     refl and refl and refl and refl and refl and refl and refl and refl and refl and refl and refl and refl and refl and refl and refl and refl and refl and refl and done
 
@@ -239,7 +244,7 @@ crewExamples =
     ∷ []
 
 pub m-100 : All crewExamples
-unfolding countOf crewOf countedCodesAt spacedCodesAt soundCodesAt codesAt codesIn codesSound isCode isIn distinct each crews.withCode crews.walked valueOf digits octetsFor charsIn padded packed characters readable filled kept unpacked isDigit pushed storedForm isNumber digitsUpTo digitsOf leading leadingNumber isAdditional textOf noticeFields begins operationAt serviceAt numberFieldAt forcedAt erasingAt additionalAt fieldsOf requestOf elapsed delayOf delayAllowed rows.noticeUpTo rows.rowUpTo rows.noticeOf rows.recordAt rows.stored placeOf tableUpTo rowOf recordOf figures.recount states.figuresRight states.moved listSound flagsOf requests.step crews.requesting notices.sendingNotice notices.takingResult
+unfolding countOf crewOf countedCodesAt spacedCodesAt soundCodesAt codesAt codesIn codesSound isCode isIn distinct each crews.withCode crews.walked valueOf digits octetsFor charsIn padded packed characters readable filled kept unpacked isDigit pushed storedForm isNumber digitsUpTo digitsOf leading leadingNumber isAdditional textOf noticeText noticeFields begins operationAt serviceAt numberFieldAt forcedAt erasingAt additionalAt fieldsOf requestOf elapsed delayOf delayAllowed rows.noticeUpTo rows.rowUpTo rows.noticeOf rows.recordAt rows.stored placeOf tableUpTo rowOf recordOf figures.recount states.figuresRight states.moved listSound flagsOf requests.step crews.requesting notices.sendingNotice notices.takingResult
 m-100 = refl and refl and refl and refl and refl and refl and done
 
 -- ---- document 02, M-103
@@ -286,7 +291,7 @@ figuresExamples =
     ∷ []
 
 pub m-103 : All figuresExamples
-unfolding countOf crewOf valueOf digits octetsFor charsIn padded packed characters readable filled kept unpacked isDigit pushed storedForm isNumber digitsUpTo digitsOf leading leadingNumber isAdditional textOf noticeFields begins operationAt serviceAt numberFieldAt forcedAt erasingAt additionalAt fieldsOf requestOf elapsed delayOf delayAllowed rows.noticeUpTo rows.rowUpTo rows.noticeOf rows.recordAt rows.stored placeOf tableUpTo rowOf recordOf figures.recount states.figuresRight states.moved listSound flagsOf requests.step crews.requesting notices.sendingNotice notices.takingResult
+unfolding countOf crewOf valueOf digits octetsFor charsIn padded packed characters readable filled kept unpacked isDigit pushed storedForm isNumber digitsUpTo digitsOf leading leadingNumber isAdditional textOf noticeText noticeFields begins operationAt serviceAt numberFieldAt forcedAt erasingAt additionalAt fieldsOf requestOf elapsed delayOf delayAllowed rows.noticeUpTo rows.rowUpTo rows.noticeOf rows.recordAt rows.stored placeOf tableUpTo rowOf recordOf figures.recount states.figuresRight states.moved listSound flagsOf requests.step crews.requesting notices.sendingNotice notices.takingResult
 m-103 =
     refl and refl and refl and refl and refl and refl and refl and refl and refl and refl and refl and refl and refl and refl and refl and refl and refl and refl and refl and refl and refl and refl and refl and refl and done
 
@@ -338,13 +343,13 @@ ownExamples =
     ∷ answers 105 (rowOfNumber A B) (says (asks A (ascii "##214*4915100001*88*4915100002*#")) 22 (0x32 ∷ 0x19 ∷ []) ∷ []) (rowOfNumber A B)
     ∷ answers 105 (rowOfNumber B C) (says (asks B (ascii "##214*4915100002*88*4915100001*#")) 63 octets63 ∷ []) (rowOfNumber B C)
     ∷ answers 105 (rowOfNumber B C) (says (asks B (ascii "##214*4915100002*88*4915100003*#")) 2 octets02 ∷ []) (B ∷ 0 ∷ 1 ∷ C ∷ B ∷ 0 ∷ 0 ∷ [])
-    ∷ answers 105 (B ∷ C ∷ 1 ∷ A ∷ C ∷ 0 ∷ 0 ∷ []) (says (asks B (ascii "##214*4915100002*88*4915100003*#")) 68 (0x36 ∷ 0x1C ∷ []) ∷ []) (B ∷ C ∷ 1 ∷ A ∷ C ∷ 0 ∷ 0 ∷ [])
+    ∷ answers 105 (B ∷ C ∷ 1 ∷ A ∷ C ∷ 0 ∷ 0 ∷ []) (says (asks B (ascii "##214*4915100002*88*4915100003*#")) 68 octets68 ∷ []) (B ∷ C ∷ 1 ∷ A ∷ C ∷ 0 ∷ 0 ∷ [])
     -- and she still cannot register it
     ∷ answers 105 (rowOfNumber A 0) (says (asks A (ascii "**214*4915100001***#")) 67 (0xB6 ∷ 0x1B ∷ []) ∷ []) (rowOfNumber A 0)
     ∷ []
 
 pub m-105 : All ownExamples
-unfolding countOf crewOf countedCodesAt spacedCodesAt soundCodesAt codesAt codesIn codesSound isCode isIn distinct each crews.withCode crews.walked valueOf digits octetsFor charsIn padded packed characters readable filled kept unpacked isDigit pushed storedForm isNumber digitsUpTo digitsOf leading leadingNumber isAdditional textOf noticeFields begins operationAt serviceAt numberFieldAt forcedAt erasingAt additionalAt fieldsOf requestOf elapsed delayOf delayAllowed rows.noticeUpTo rows.rowUpTo rows.noticeOf rows.recordAt rows.stored placeOf tableUpTo rowOf recordOf figures.recount states.figuresRight states.moved listSound flagsOf requests.step crews.requesting notices.sendingNotice notices.takingResult
+unfolding countOf crewOf countedCodesAt spacedCodesAt soundCodesAt codesAt codesIn codesSound isCode isIn distinct each crews.withCode crews.walked valueOf digits octetsFor charsIn padded packed characters readable filled kept unpacked isDigit pushed storedForm isNumber digitsUpTo digitsOf leading leadingNumber isAdditional textOf noticeText noticeFields begins operationAt serviceAt numberFieldAt forcedAt erasingAt additionalAt fieldsOf requestOf elapsed delayOf delayAllowed rows.noticeUpTo rows.rowUpTo rows.noticeOf rows.recordAt rows.stored placeOf tableUpTo rowOf recordOf figures.recount states.figuresRight states.moved listSound flagsOf requests.step crews.requesting notices.sendingNotice notices.takingResult
 m-105 =
     refl and refl and refl and refl and refl and refl and refl and refl and refl and refl and refl and refl and refl and refl and refl and refl and refl and done
 
@@ -356,7 +361,7 @@ pub m-107 :
     × (call subscribers 0 (sends 400) (counted (noticed 0 3 100)) .0 .answer ≡ sentTo A 28)
     × (notices.finding (noticed 0 3 100) 0 399 ≡ noneDue)
     × (notices.finding (noticed 0 3 100) 0 400 ≡ found F)
-unfolding countOf crewOf valueOf digits octetsFor charsIn padded packed characters readable filled kept unpacked isDigit pushed storedForm isNumber digitsUpTo digitsOf leading leadingNumber isAdditional textOf noticeFields begins operationAt serviceAt numberFieldAt forcedAt erasingAt additionalAt fieldsOf requestOf elapsed delayOf delayAllowed rows.noticeUpTo rows.rowUpTo rows.noticeOf rows.recordAt rows.stored placeOf tableUpTo rowOf recordOf figures.recount states.figuresRight states.moved listSound flagsOf requests.step crews.requesting notices.sendingNotice notices.takingResult notices.finding notices.firstDue
+unfolding countOf crewOf valueOf digits octetsFor charsIn padded packed characters readable filled kept unpacked isDigit pushed storedForm isNumber digitsUpTo digitsOf leading leadingNumber isAdditional textOf noticeText noticeFields begins operationAt serviceAt numberFieldAt forcedAt erasingAt additionalAt fieldsOf requestOf elapsed delayOf delayAllowed rows.noticeUpTo rows.rowUpTo rows.noticeOf rows.recordAt rows.stored placeOf tableUpTo rowOf recordOf figures.recount states.figuresRight states.moved listSound flagsOf requests.step crews.requesting notices.sendingNotice notices.takingResult notices.finding notices.firstDue
 m-107 = (refl, refl, refl, refl)
 
 -- ---- document 02, M-101
@@ -395,5 +400,61 @@ framedExamples =
     ∷ []
 
 pub m-101 : All framedExamples
-unfolding countOf crewOf valueOf digits octetsFor charsIn padded packed characters readable filled kept unpacked isDigit pushed storedForm isNumber digitsUpTo digitsOf leading leadingNumber isAdditional textOf noticeFields begins operationAt serviceAt numberFieldAt forcedAt erasingAt additionalAt fieldsOf requestOf elapsed delayOf delayAllowed rows.noticeUpTo rows.rowUpTo rows.noticeOf rows.recordAt rows.stored placeOf tableUpTo rowOf recordOf figures.recount states.figuresRight states.moved listSound flagsOf requests.step crews.requesting notices.sendingNotice notices.takingResult part contentsOf octetAt component bodyOf invokeOf messages.messageOf messages.registerOf messages.release messages.inverted frame.framedRequest
+unfolding countOf crewOf valueOf digits octetsFor charsIn padded packed characters readable filled kept unpacked isDigit pushed storedForm isNumber digitsUpTo digitsOf leading leadingNumber isAdditional textOf noticeText noticeFields begins operationAt serviceAt numberFieldAt forcedAt erasingAt additionalAt fieldsOf requestOf elapsed delayOf delayAllowed rows.noticeUpTo rows.rowUpTo rows.noticeOf rows.recordAt rows.stored placeOf tableUpTo rowOf recordOf figures.recount states.figuresRight states.moved listSound flagsOf requests.step crews.requesting notices.sendingNotice notices.takingResult part contentsOf octetAt component bodyOf invokeOf messages.messageOf messages.registerOf messages.release messages.inverted frame.framedRequest
 m-101 = refl and refl and refl and refl and refl and done
+
+-- ---- document 02, M-111
+
+-- at the terminal, a number and its holder
+abbrev pub erasesAt : ℕ → ℕ → Call
+erasesAt number holder = terminal (record { 0 = number }) (record { 0 = holder }) room
+
+-- F's row with a notice to A from the terminal
+abbrev pub noticedBlank : ℕ → ℕ → ℕ → List ℕ
+noticedBlank msisdn phase second = F ∷ msisdn ∷ phase ∷ A ∷ 0 ∷ second ∷ 0 ∷ []
+
+-- the octets of `##214*0492123401*88**#`
+abbrev pub blankOctets : List ℕ
+blankOctets =
+    0xA3 ∷ 0x91 ∷ 0x2C ∷ 0x46 ∷ 0x53 ∷ 0xC1 ∷ 0x68 ∷ 0x39 ∷ 0x59 ∷ 0x4C ∷ 0x36 ∷ 0xA3 ∷ 0xC1 ∷ 0x62
+    ∷ 0x2A ∷ 0x1C ∷ 0x4E ∷ 0xA5 ∷ 0x1A ∷ 0x01 ∷ []
+
+abbrev pub terminalExamples : List Example
+terminalExamples =
+    answers 111 (held A) (says (erasesAt F A) 2 octets02 ∷ []) (noticedBlank 0 1 0)
+    -- the notice is repeated as any other, and names nobody
+    ∷ answers 111 (held A)
+    (says (erasesAt F A) 2 octets02
+    ∷ gets (sends 100) (sentTo A 20) blankOctets
+    ∷ gets (fails 101) again []
+    ∷ gets (sends 160) (refusal 5) []
+    ∷ gets (sends 161) (sentTo A 20) blankOctets
+    ∷ gets (takes 0 162) delivered []
+    ∷ [])
+    free
+    -- 41, 62, 63, and 68 for a notice from anybody
+    ∷ answers 111 (held A) (says (erasesAt 1492123401 A) 41 (0xB4 ∷ 0x18 ∷ []) ∷ says (erasesAt F B) 63 octets63 ∷ []) (held A)
+    ∷ answers 111 free (says (erasesAt F A) 62 (0x36 ∷ 0x19 ∷ []) ∷ []) free
+    ∷ answers 111 (noticed A 1 0) (says (erasesAt F A) 68 octets68 ∷ says (erasesAt F B) 63 octets63 ∷ []) (noticed A 1 0)
+    ∷ answers 111 (noticedBlank A 12 0) (says (erasesAt F A) 68 octets68 ∷ says (asks B forcesA) 68 octets68 ∷ []) (noticedBlank A 12 0)
+    -- 7 for each of the two, before 41, and 1 before 7
+    ∷ answers 111 (held A)
+    (gets (erasesAt F 0) (refusal 7) []
+    ∷ gets (erasesAt 4921 A) (refusal 7) []
+    ∷ gets (erasesAt 1492123401 4921) (refusal 7) []
+    ∷ gets (terminal (record { 0 = 0 }) (record { 0 = 0 }) (replicate 79 0)) (refusal 1) []
+    ∷ [])
+    (held A)
+    -- a closed number stays closed
+    ∷ answers 111 (F ∷ A ∷ 0 ∷ 0 ∷ 0 ∷ 0 ∷ 1 ∷ []) (says (erasesAt F A) 2 octets02 ∷ []) (F ∷ 0 ∷ 1 ∷ A ∷ 0 ∷ 0 ∷ 1 ∷ [])
+    -- a request that leaves the MSISDN blank names nobody
+    ∷ answers 111 (held A) (gets (asks B (ascii "##214*0492123401*88**#")) (error 36) [] ∷ []) (held A)
+    -- a notice has an addressee, who is not its supervisor; 10 directly after 2
+    ∷ answers 111 (F ∷ A ∷ 1 ∷ 0 ∷ 0 ∷ 0 ∷ 0 ∷ []) (gets (erasesAt F A) (refusal 2) [] ∷ []) (F ∷ A ∷ 1 ∷ 0 ∷ 0 ∷ 0 ∷ 0 ∷ [])
+    ∷ answers 111 (F ∷ B ∷ 1 ∷ A ∷ A ∷ 0 ∷ 0 ∷ []) (gets (erasesAt F B) (refusal 2) [] ∷ []) (F ∷ B ∷ 1 ∷ A ∷ A ∷ 0 ∷ 0 ∷ [])
+    ∷ keeps 111 (beside (held A) (0 ∷ 0 ∷ 0 ∷ [])) (gets (erasesAt F 0) (refusal 10) [] ∷ []) (beside (held A) (0 ∷ 0 ∷ 0 ∷ []))
+    ∷ []
+
+pub m-111 : All terminalExamples
+unfolding countOf crewOf valueOf digits octetsFor charsIn padded packed characters readable filled kept unpacked isDigit pushed storedForm isNumber digitsUpTo digitsOf leading leadingNumber isAdditional textOf noticeText noticeFields begins operationAt serviceAt numberFieldAt forcedAt erasingAt additionalAt fieldsOf requestOf elapsed delayOf delayAllowed rows.noticeUpTo rows.rowUpTo rows.noticeOf rows.recordAt rows.stored placeOf tableUpTo rowOf recordOf figures.recount states.figuresRight states.moved listSound flagsOf requests.step crews.requesting notices.sendingNotice notices.takingResult notices.finding notices.firstDue terminalErasure
+m-111 = refl and refl and refl and refl and refl and refl and refl and refl and refl and refl and refl and refl and done

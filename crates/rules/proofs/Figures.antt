@@ -9,7 +9,7 @@ use lib.Dec.{eqb, ltb}
 use Rattle.answers.specs.Checks.{isNone}
 use Rattle.answers.proofs.Tests.{no-path}
 use Rattle.answers.proofs.Decide.{decide-each}
-use Rattle.numbers.specs.Numbers.{isNumber}
+use Rattle.numbers.specs.Numbers.{isNumber, nobody}
 use Rattle.numbers.specs.declared.FunctionalNumber.{FunctionalNumber}
 use Rattle.numbers.specs.declared.Msisdn.{Msisdn}
 use Rattle.crews.specs.Crews.{crewOf}
@@ -28,11 +28,12 @@ use Rattle.rules.specs.Requests.{mostStringOctets, askingBy}
 use Rattle.rules.specs.Crews.{carriedOutFor, requesting}
 use Rattle.rules.specs.Frames.{answeredIn, inFrame, ownReply, bodied, registered, framedRequest}
 use Rattle.rules.specs.Notices as notices
+use Rattle.rules.specs.Terminal.{terminalRequest, bothNumbers, terminalErasure}
 use Rattle.rules.specs.Run.{end, log}
-use Rattle.rules.specs.Calls.{Call, request, framed, sending, result, Reply, call, clockReading}
+use Rattle.rules.specs.Calls.{Call, request, framed, sending, result, terminal, Reply, call, clockReading}
 use Rattle.rules.specs.Figures.{isEarly, Right, KeepsCount}
 use Rattle.rules.specs.Pending.{never}
-use Rattle.rules.proofs.Each.{returned-each}
+use Rattle.rules.proofs.Each.{returned-each, step-each}
 use Rattle.rules.proofs.Framed.{heard-read, no-refusal}
 use Rattle.rules.proofs.Unsound.{unsound-call}
 use Rattle.rules.proofs.Calls.{calls-local}
@@ -127,11 +128,19 @@ module _ (t : State) (right : figuresRight t ≡ true) where
       at-place Nothing = refl
       at-place (At i) = returned-each (λ a. isRefusedWith 10 a ≡ false) refl refl refl kind (recordIn t i .notice)
 
+  terminal-not-10 : (number : FunctionalNumber) (holder : Msisdn) (reply : List ℕ) → Not10 (terminalErasure t reply number holder)
+  unfolding terminalErasure
+  terminal-not-10 number holder reply = rw right
+      (decide-each Not10 (refusing t reply
+      ((ltb (length reply) bufferRoom, refusal 1) ∷ (not (tableSound (t .table)), refusal 2) ∷ (not (bothNumbers number holder), refusal 7) ∷ [])) _
+      (refl, (refl, (refl, tt))) (step-each t reply Not10 (λ n l e. refl) (λ new. refl) (λ new. refl) (λ m. refl) nobody (terminalRequest number holder)))
+
   call-not-10 : (list : List ℕ) (delay : ℕ) (c : Call) → isRefusedWith 10 (call list delay c t .0 .answer) ≡ false
   call-not-10 list delay (request requester scheme string reply) = request-not-10 list reply requester scheme string
   call-not-10 list delay (framed requester message frame) = framed-not-10 list frame requester message
   call-not-10 list delay (sending now number buffer) = sending-not-10 buffer number delay (clockReading now)
   call-not-10 list delay (result now number kind) = result-not-10 number kind (clockReading now)
+  call-not-10 list delay (terminal number holder reply) = terminal-not-10 number holder reply
 
 -- ---- the figures
 

@@ -7,6 +7,7 @@ use Prim.Native.Nat.{ℕ}
 use lib.ListN.{length}
 use lib.Dec.{eqb, ltb, leb}
 use Rattle.answers.proofs.Decide.{answering, decide-each}
+use Rattle.numbers.specs.Numbers.{nobody}
 use Rattle.numbers.specs.declared.FunctionalNumber.{FunctionalNumber}
 use Rattle.numbers.specs.declared.Msisdn.{Msisdn}
 use Rattle.strings.specs.declared.Operation.{Operation}
@@ -29,7 +30,8 @@ use Rattle.rules.specs.Answers.{Answer, refusal, bufferRoom, isOutcome}
 use Rattle.rules.specs.Requests.{holderIn, afterErasure, rightChecks}
 use Rattle.rules.specs.Frames.{Inside, insideOf, ownReply}
 use Rattle.rules.specs.Run.{only, last, end, log}
-use Rattle.rules.specs.Calls.{Call, request, framed, sending, result, Reply, clockReading, nameOf, namesOne}
+use Rattle.rules.specs.Terminal.{terminalRequest, bothNumbers}
+use Rattle.rules.specs.Calls.{Call, request, framed, sending, result, terminal, Reply, clockReading, nameOf, namesOne}
 use Rattle.rules.specs.Visits.{Visited, visited, visitSaying, stepped, holderAnswered, decides, decided, sentStep, resultStep, visitRequest, enveloped, visitInside, visit, replySaying, missedRequest, missedInside, missed}
 use Rattle.rules.specs.Demand.{requesterOf, decidesHolder, holderAfter, holderOf}
 use Rattle.rules.proofs.Runs.{last-more}
@@ -57,7 +59,7 @@ module _ (r : Record) (reply : List ℕ) (requester : Msisdn) where
   abbrev Stepped : ℕ → Step → Type 0
   Stepped n s = Says (requester .0) r (stepped n reply r s)
 
-  freed : (b : Bool) → cond b (steps.heldBy steps.nobody r) (steps.forcedOff requester r) .holder .0 ≡ 0
+  freed : (b : Bool) → cond b (steps.heldBy nobody r) (steps.forcedOff requester r) .holder .0 ≡ 0
   freed true = refl
   freed false = refl
 
@@ -67,7 +69,7 @@ module _ (r : Record) (reply : List ℕ) (requester : Msisdn) where
       decide-each (Stepped 1) (map (answering step.Stays) (recordChecks Register e number requester r)) (step.Becomes (steps.heldBy requester r))
       (refl, (refl, (refl, tt))) refl
   decides-says Erase Empty number =
-      decide-each (Stepped 2) (map (answering step.Stays) (recordChecks Erase Empty number requester r)) (step.Becomes (steps.heldBy steps.nobody r))
+      decide-each (Stepped 2) (map (answering step.Stays) (recordChecks Erase Empty number requester r)) (step.Becomes (steps.heldBy nobody r))
       (refl, (refl, tt)) refl
   decides-says Erase (Forced m) number =
       decide-each (Stepped 2) (map (answering step.Stays) (recordChecks Erase (Forced m) number requester r))
@@ -103,6 +105,7 @@ module _ (r : Record) where
       (Again (steps.withNotice (Waiting (steps.sendingsDone (r .notice)) clock) r)) (refl, (refl, (refl, (refl, (refl, tt))))) refl
 
 visit-says : (list : List ℕ) (delay : ℕ) (c : Call) (r : Record) → Says (requesterOf c) r (visit list delay c r)
+unfolding decided
 visit-says list delay (request requester scheme string reply) r = request-says r reply requester (flagsOf list (requester .0)) (requestOf string)
 visit-says list delay (framed requester message frame) r = go (insideOf message)
   where
@@ -119,6 +122,9 @@ visit-says list delay (sending now number buffer) r =
     decide-each (Says 0 r) ((ltb (length buffer) bufferRoom, visited (refusal 1) buffer r) ∷ []) (sentStep number buffer r (steps.sent delay (clockReading now) r))
     (refl, tt) (sent-says r number buffer delay (clockReading now))
 visit-says list delay (result now number kind) r = result-says r kind (clockReading now)
+visit-says list delay (terminal number holder reply) r =
+    decide-each (Says 0 r) ((ltb (length reply) bufferRoom, visited (refusal 1) reply r) ∷ (not (bothNumbers number holder), visited (refusal 7) reply r) ∷ [])
+    (decided (terminalRequest number holder) nobody reply r) (refl, (refl, tt)) (decides-says r reply nobody Erase (Forced holder) number)
 
 -- ---- a call
 
@@ -143,6 +149,10 @@ missed-says list (sending now number buffer) q =
     decide-each (λ (r : Reply). said (r .answer) q 0 ≡ 0) ((ltb (length buffer) bufferRoom, record { answer = refusal 1; buffer = buffer }) ∷ [])
     (record { answer = refusal 7; buffer = buffer }) (refl, tt) refl
 missed-says list (result now number kind) q = refl
+missed-says list (terminal number holder reply) q =
+    decide-each (λ (r : Reply). said (r .answer) q 0 ≡ 0)
+    ((ltb (length reply) bufferRoom, record { answer = refusal 1; buffer = reply }) ∷ (not (bothNumbers number holder), record { answer = refusal 7; buffer = reply }) ∷ [])
+    (replySaying 41 reply) (refl, (refl, tt)) refl
 
 module _ (list : List ℕ) (delay k : ℕ) where
   -- after a call that names k, its answer says who holds k

@@ -26,10 +26,11 @@ use Rattle.rules.specs.Answers.{Answer, refusal, error, outcome, holderI
 use Rattle.rules.specs.Crews.{crewNumber, requesting}
 use Rattle.rules.specs.Frames.{framedChecks, inFrame, ownReply, bodied, registered, framedRequest}
 use Rattle.rules.specs.Notices as notices
-use Rattle.rules.specs.Calls.{Call, request, framed, sending, result, bufferOf, clockReading, call}
+use Rattle.rules.specs.Terminal.{terminalErasure}
+use Rattle.rules.specs.Calls.{Call, request, framed, sending, result, terminal, bufferOf, clockReading, call}
 use Rattle.rules.specs.Demand.{mayChange, releaseOver, replyOver}
 use Rattle.rules.proofs.Inside.{string-written}
-use Rattle.rules.proofs.Each.{returned-each, request-each}
+use Rattle.rules.proofs.Each.{returned-each, terminal-each, request-each}
 
 module _ (c : Call) (state : State) where
   pub record Leaves (o : Outcome) : Type 0 where
@@ -193,6 +194,15 @@ module _ (now : ℕ) (number : FunctionalNumber) (kind : ℕ) (state : State) wh
           returned-each (λ a. Leaves taken-call state (made a new [])) (apart taken-call state _ _ _ refl refl refl) (apart taken-call state _ _ _ refl refl refl)
           (apart taken-call state _ _ _ refl refl refl) kind (recordIn state i .notice)
 
+terminal-leaves : (number : FunctionalNumber) (holder : Msisdn) (reply : List ℕ) (state : State)
+    → Leaves (terminal number holder reply) state (terminalErasure state reply number holder)
+terminal-leaves number holder reply state =
+    terminal-each state reply (Leaves c state) (refuses c state) (errs c state) (λ n l e. denies c state n _ _ refl) (λ new. changes c state 1 _ new _ refl refl)
+    (λ new. changes c state 2 _ new _ refl refl) (λ m. tells-holder c state m _ _) number holder
+  where
+    c : Call
+    c = terminal number holder reply
+
 -- ---- every call
 
 pub leaves : (list : List ℕ) (delay : ℕ) (c : Call) (state : State)
@@ -201,3 +211,4 @@ leaves list delay (request requester scheme string reply) state = request-leaves
 leaves list delay (framed requester message frame) state = framed-leaves list frame requester message state
 leaves list delay (sending now number buffer) state = sending-leaves now number buffer state delay (clockReading now)
 leaves list delay (result now number kind) state = result-leaves now number kind state (clockReading now)
+leaves list delay (terminal number holder reply) state = terminal-leaves number holder reply state

@@ -17,6 +17,7 @@ use Rattle.rules.specs.Answers.{refusal, made, bufferRoom}
 use Rattle.rules.specs.Crews.{requesting}
 use Rattle.rules.specs.Frames.{framedRequest}
 use Rattle.rules.specs.Notices.{sendingNotice, takingResult, finding}
+use Rattle.rules.specs.Terminal.{terminalErasure}
 
 module _ (n : ℕ) (words figures : List ℕ) (numbers : 0 < n) (old : OldTable n words) (whole : length words ≡ oldRowWords * n) where
   abbrev oldState : State
@@ -40,6 +41,11 @@ module _ (n : ℕ) (words figures : List ℕ) (numbers : 0 < n) (old : OldTable 
   pub old-result : (number : FunctionalNumber) (kind clock : ℕ) → takingResult oldState number kind clock ≡ made (refusal 2) oldState []
   unfolding takingResult
   old-result number kind clock = rw (old-unsound n words numbers old whole) refl
+
+  pub old-terminal : (reply : List ℕ) (number : FunctionalNumber) (holder : Msisdn) → bufferRoom ≤ length reply
+      → terminalErasure oldState reply number holder ≡ made (refusal 2) oldState reply
+  unfolding terminalErasure
+  old-terminal reply number holder room = rw (le-ltb (length reply) bufferRoom room, old-unsound n words numbers old whole) refl
 
   pub old-finding : (delay clock : ℕ) → finding words delay clock ≡ refusal 2
   unfolding finding

@@ -7,7 +7,8 @@ use Rattle.rules.specs.Answers.{Outcome}
 use Rattle.rules.specs.Requests.{once, requestingBy}
 use Rattle.rules.specs.Frames.{ownReply, framedBy}
 use Rattle.rules.specs.Notices.{sendingNotice, takingResult}
-use Rattle.rules.specs.Calls.{Call, request, framed, sending, result, Reply, replied, clockReading}
+use Rattle.rules.specs.Terminal.{terminalErasure}
+use Rattle.rules.specs.Calls.{Call, request, framed, sending, result, terminal, Reply, replied, clockReading}
 
 unfoldable pub requestingOnce : State → List ℕ → List ℕ → Msisdn → ℕ → List ℕ → Outcome
 requestingOnce state list reply requester scheme string = requestingBy (once state reply requester) state list reply requester scheme string
@@ -20,3 +21,4 @@ single list delay (request requester scheme string reply) state = replied (reque
 single list delay (framed requester message frame) state = replied (framedOnce state list frame requester message)
 single list delay (sending now number buffer) state = replied (sendingNotice state buffer number delay (clockReading now))
 single list delay (result now number kind) state = replied (takingResult state number kind (clockReading now))
+single list delay (terminal number holder reply) state = replied (terminalErasure state reply number holder)

@@ -5,13 +5,14 @@ use mathlib.Core.Option.{none, some}
 use mathlib.Core.List.{List}
 use Prim.Native.Nat.{ℕ}
 use Rattle.answers.proofs.Tests.{or-right}
+use Rattle.numbers.specs.Numbers.{nobody, isNobody}
 use Rattle.numbers.specs.declared.Msisdn.{Msisdn}
 use Rattle.strings.specs.declared.Operation.the-variants.{Erase}
 use Rattle.strings.specs.declared.Erasing.the-variants.{Empty}
 use Rattle.strings.specs.Text.{Request}
 use Rattle.records.specs.declared.Record.{Record}
 use Rattle.records.specs.Steps as steps
-use Rattle.records.specs.Steps.{nobody, isNobody, same, isOwn, heldBy}
+use Rattle.records.specs.Steps.{same, isOwn, heldBy}
 use Rattle.tables.specs.Tables.{flagsOf}
 use Rattle.states.specs.States.{State, stateSound, recordFor}
 use Rattle.rules.specs.Requests.{hasFollowMe}

@@ -1,16 +1,17 @@
 -- A call over a sound state leaves a sound state, with the same numbers in the same rows; and what it does to the records. Assumes nothing.
 use mathlib.Core.Path.{_≡_, refl, sym, ap, _∙_}
-use mathlib.Core.Bool.{true, false}
+use mathlib.Core.Bool.{true, false, not}
 use mathlib.Core.Option.{Option, none, some}
 use mathlib.Core.List.{List, [], _∷_, map}
 use Prim.Native.Nat.{ℕ, _<_}
 use native.Mathlib.Omega.{arith}
 use lib.ListN.{length}
-use lib.Dec.{ltb}
+use lib.Dec.{eqb, ltb}
 use borrow.Author.Tests.{eqb-false}
+use Rattle.answers.proofs.Tests.{or-right}
 use Rattle.answers.proofs.Checks.{not-some}
 use Rattle.answers.proofs.Decide.{answering, decide-each}
-use Rattle.numbers.specs.Numbers.{isNumber}
+use Rattle.numbers.specs.Numbers.{isNumber, nobody}
 use Rattle.numbers.specs.declared.FunctionalNumber.{FunctionalNumber}
 use Rattle.numbers.specs.declared.Msisdn.{Msisdn}
 use Rattle.strings.specs.declared.Operation.{Operation}
@@ -43,7 +44,8 @@ use Rattle.rules.specs.Requests as requests
 use Rattle.rules.specs.Requests.{rightChecks}
 use Rattle.rules.specs.Frames.{ownReply}
 use Rattle.rules.specs.Run.{end}
-use Rattle.rules.specs.Calls.{Call, request, framed, sending, result, Reply, clockReading, nameOf, isNamed, namesOne}
+use Rattle.rules.specs.Terminal.{bothNumbers}
+use Rattle.rules.specs.Calls.{Call, request, framed, sending, result, terminal, Reply, clockReading, nameOf, isNamed, namesOne}
 use Rattle.rules.specs.Visits.{Visited, visited, visitSaying, stepped, holderAnswered, stepAt, tellAt, decidesAt, decides, decided, sentStep, resultStep, visitRequest, visit, missed}
 use Rattle.rules.proofs.Once.{single}
 use Rattle.rules.proofs.Inside.{named-inside}
@@ -77,7 +79,7 @@ module _ (r : Record) (sound : recordSound r ≡ true) where
       → SoundVisit (decides o e number requester reply r)
   decides-sound Register e number requester reply n = stepped-sound 1 reply (steps.registered number requester r) (registered-sound r sound number requester n)
   decides-sound Erase Empty number requester reply n = stepped-sound 2 reply (steps.erased number requester r) (erased-sound r sound number requester)
-  decides-sound Erase (Forced m) number requester reply n = stepped-sound 2 reply (steps.forced requester m r) (forced-sound r sound requester m n)
+  decides-sound Erase (Forced m) number requester reply n = stepped-sound 2 reply (steps.forced requester m r) (forced-sound r sound requester m (or-right (eqb (requester .0) 0) _ n))
   decides-sound Interrogate e number requester reply n = told-sound reply (steps.interrogated r)
 
   request-sound : (flags : ℕ) (requester : Msisdn) (reply : List ℕ) (read : Option Request) → isNumber (requester .0) ≡ true
@@ -90,6 +92,7 @@ module _ (r : Record) (sound : recordSound r ≡ true) where
 
   -- a call that names a number leaves that number's record sound
   pub visit-sound : (list : List ℕ) (delay : ℕ) (c : Call) (k : ℕ) → nameOf list c ≡ some k → SoundVisit (visit list delay c r)
+  unfolding decided
   visit-sound list delay (request requester scheme string reply) k e =
       request-sound (flagsOf list (requester .0)) requester reply (requestOf string) (requester-number list reply requester scheme string k e)
   visit-sound list delay (framed requester message frame) k e =
@@ -102,6 +105,10 @@ module _ (r : Record) (sound : recordSound r ≡ true) where
       (sent-step-sound number buffer (steps.sent delay (clockReading now) r) (sent-sound r sound delay (clockReading now)))
   visit-sound list delay (result now number kind) k e =
       result-step-sound (steps.resulted kind (clockReading now) r) (resulted-sound r sound kind (clockReading now) (omega arith))
+  visit-sound list delay (terminal number holder reply) k e =
+      decide-each SoundVisit
+      ((ltb (length reply) bufferRoom, visited (refusal 1) reply r) ∷ (not (bothNumbers number holder), visited (refusal 7) reply r) ∷ []) _ (sound, (sound, tt))
+      (stepped-sound 2 reply (steps.forced nobody holder r) (forced-sound r sound nobody holder refl))
 
 -- ---- a call leaves a sound state
 
@@ -134,7 +141,7 @@ module _ (t : State) (sound : stateSound t ≡ true) (requester : Msisdn) (one :
     decides-at-keeps : (o : Operation) (e : Erasing) (number : FunctionalNumber) → Kept t (decidesAt o e number requester t i .state)
     decides-at-keeps Register e number = step-at-keeps 1 (steps.registered number requester (recordIn t i)) (registered-sound (recordIn t i) row number requester one)
     decides-at-keeps Erase Empty number = step-at-keeps 2 (steps.erased number requester (recordIn t i)) (erased-sound (recordIn t i) row number requester)
-    decides-at-keeps Erase (Forced m) number = step-at-keeps 2 (steps.forced requester m (recordIn t i)) (forced-sound (recordIn t i) row requester m one)
+    decides-at-keeps Erase (Forced m) number = step-at-keeps 2 (steps.forced requester m (recordIn t i)) (forced-sound (recordIn t i) row requester m (or-right (eqb (requester .0) 0) _ one))
     decides-at-keeps Interrogate e number = tell-at-keeps (steps.interrogated (recordIn t i))
 
   pub step-keeps : (f : Request) → erasingSound (f .operation) (f .erasing) ≡ true → Kept t (requests.step t requester f .state)

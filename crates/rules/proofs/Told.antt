@@ -1,4 +1,4 @@
--- The told: who is forced off a number is the addressee of every sending that succeeds, up to the result that clears the notice, and reads the number and the supervisor in it. Assumes nothing.
+-- The told: who is forced off a number is the addressee of every sending that succeeds, up to the result that clears the notice, and reads the number and the supervisor in it, or nobody. Assumes nothing.
 use mathlib.Core.Path.{_≡_, refl, sym, ap, _∙_}
 use mathlib.Core.Bool.{Bool, true, false}
 use mathlib.Core.Option.{Option, some}
@@ -7,8 +7,10 @@ use Prim.Native.Nat.{ℕ, zero, suc}
 use native.Mathlib.Omega.{arith}
 use lib.ListN.{getElem?}
 use lib.Dec.{eqb}
+use borrow.Author.Tests.{eq-eqb}
 use Rattle.answers.proofs.Checks.{not-some}
 use Rattle.answers.proofs.Tests.{no-path, and-right}
+use Rattle.numbers.specs.Numbers.{nobody}
 use Rattle.numbers.specs.declared.FunctionalNumber.{FunctionalNumber}
 use Rattle.numbers.specs.declared.Msisdn.{Msisdn}
 use Rattle.strings.specs.declared.Erasing.the-variants.{Forced}
@@ -18,7 +20,7 @@ use Rattle.records.specs.Steps.{same, isAbsent}
 use Rattle.states.specs.States.{State, recordFor}
 use Rattle.rules.specs.Answers.{isOutcome}
 use Rattle.rules.specs.Run.{log}
-use Rattle.rules.specs.Calls.{Call, Reply, request, framed, sending, result, readOf, namesOne, call, steps}
+use Rattle.rules.specs.Calls.{Call, Reply, request, framed, sending, result, terminal, readOf, namesOne, call, steps}
 use Rattle.rules.specs.Visits.{Visited}
 use Rattle.rules.specs.Pending.{never, holdsOf, sendingDone, noticeCleared}
 use Rattle.rules.specs.Users.{askerOf, telling}
@@ -26,7 +28,7 @@ use Rattle.rules.proofs.Once.{single}
 use Rattle.rules.proofs.Single.{call-single, singles-log}
 use Rattle.rules.proofs.Steps.{forced-alone}
 use Rattle.rules.proofs.Calls.{all-steps-single}
-use Rattle.rules.proofs.Along.{Asked, negative, registration, erasure, herself, forced, Does, asks, unsent, sends, untaken, clears, goes-on, Along, ends, passes, visits, along, answered-02, same-one, not-same, never-first}
+use Rattle.rules.proofs.Along.{Asked, negative, registration, erasure, herself, forced, Does, asks, unsent, sends, untaken, clears, goes-on, unmoved, removes, Along, ends, passes, visits, along, answered-02, same-one, not-same, never-first}
 use Rattle.rules.proofs.NoticeEnds.{request-unsent, passed-unsent, still-pending}
 
 -- a notice to h from s is pending
@@ -41,6 +43,7 @@ Tells h s (request requester scheme string reply, a) = ⊥
 Tells h s (framed requester message frame, a) = ⊥
 Tells h s (sending now number buffer, a) = a ≡ telling number h s buffer
 Tells h s (result now number kind, a) = ⊥
+Tells h s (terminal number holder reply, a) = ⊥
 
 module _ (list : List ℕ) (k : ℕ) where
   -- a sending that succeeds tells the record's addressee of its supervisor
@@ -51,6 +54,8 @@ module _ (list : List ℕ) (k : ℕ) where
   sending-tells untaken u = no-path u
   sending-tells (clears w e) u = no-path u
   sending-tells (goes-on w p) u = no-path u
+  sending-tells (unmoved p q) u = no-path u
+  sending-tells (removes m x z) u = no-path u
 
   -- a forced erasure naming h, by another, answered 02, leaves a notice to h from her
   forced-tells : {r next : Record} {h s : Msisdn} {read : Option Request} {one two : Bool} {f : Request} → Asked list r s read one two next
@@ -72,6 +77,15 @@ module _ (list : List ℕ) (k : ℕ) where
   call-tells untaken t e o u = not-some t
   call-tells (clears w q) t e o u = not-some t
   call-tells (goes-on w p) t e o u = not-some t
+  call-tells (unmoved p q) t e o u = not-some t
+  call-tells (removes m x z) t e o u = not-some t
+
+  -- at the terminal
+  terminal-tells : {r : Record} {number : FunctionalNumber} {h : Msisdn} {reply : List ℕ} {v : Visited} → Does list r (terminal number h reply) v
+      → isOutcome 2 (v .reply .answer) ≡ true → Telling h nobody (v .next)
+  terminal-tells (asks i d) u = no-path i
+  terminal-tells (unmoved p q) u = no-path (sym q ∙ u)
+  terminal-tells {r} {h = h} (removes m x z) u = record { pending = refl; addressee = same-one (r .holder) h m; supervisor = refl }
 
   module _ (h s : Msisdn) where
     told-along : {r : Record} {l : List (Call × Reply)} {p : Option Record} → Along list k (some r) l p → Telling h s r → never (noticeCleared k) l ≡ true
@@ -89,7 +103,25 @@ module _ (list : List ℕ) (k : ℕ) where
 
 -- ---- the told
 
--- a call c, framed or not, asks for a forced erasure of k naming h, and its requester is not h; it is answered 02; then come any calls, none of them a result that clears k's notice
+-- k's record in a state has a notice to h from s
+abbrev NotifiedIn : State → ℕ → Msisdn → Msisdn → Type 0
+NotifiedIn after k h s = (r : Record) × (recordFor after k ≡ some r) × Telling h s r
+
+-- over any calls, none of them a result that clears k's notice, every sending of k that succeeds tells h of s, whoever holds k meanwhile: among the single steps of the calls, a sending being its own
+abbrev pub ToldFrom : List ℕ → ℕ → ℕ → State → Msisdn → Msisdn → Type 0
+ToldFrom list delay k after h s =
+    (calls : List Call) → never (noticeCleared k) (log (call list delay) (steps list calls) after) ≡ true
+    → (i now : ℕ) (number : FunctionalNumber) (buffer : List ℕ) (a : Reply)
+    → getElem? (log (call list delay) (steps list calls) after) i ≡ some (sending now number buffer, a)
+    → sendingDone k (sending now number buffer, a) ≡ true → a ≡ telling number h s buffer
+
+told-from : (list : List ℕ) (delay k : ℕ) (after : State) (h s : Msisdn) → NotifiedIn after k h s → ToldFrom list delay k after h s
+told-from list delay k after h s (r, known, t) calls uncleared i now number buffer a e d =
+    let same = singles-log list delay (steps list calls) after (all-steps-single list delay calls) in
+    told-along list k h s (rw known at (along list delay k (steps list calls) after)) t (rw same at uncleared) i (sending now number buffer, a)
+    (rw same at e) d
+
+-- a call c, framed or not, asks for a forced erasure of k naming h, and its requester is not h; it is answered 02
 module _ (list : List ℕ) (delay k : ℕ) (state : State) (h : Msisdn) (c : Call) (f : Request)
     (named : namesOne list c k ≡ true) (reads : readOf c ≡ some f) (forces : f .erasing ≡ Forced h)
     (other : askerOf c ≡ h → ⊥) (answered : isOutcome 2 ((call list delay c state) .0 .answer) ≡ true) where
@@ -103,18 +135,21 @@ module _ (list : List ℕ) (delay k : ℕ) (state : State) (h : Msisdn) (c : Cal
   singly : call list delay c state ≡ single list delay c state
   singly = call-single list delay c state (forced-alone c f reads forces)
 
-  notified : (r : Record) × (recordFor after k ≡ some r) × Telling h s r
+  notified : NotifiedIn after k h s
   notified =
       let (r, v, d, e, u) = answered-02 (along list delay k (c ∷ []) state) named (ap (λ x. isOutcome 2 (x .0 .answer)) (sym singly) ∙ answered) in
       (v .next, ap (λ x. recordFor (x .1) k) singly ∙ e, call-tells list k d reads forces other u)
 
-  -- every sending of k that succeeds tells h of her, whoever holds k meanwhile: among the single steps of the calls, a sending being its own
-  pub holder-is-told : (calls : List Call) → never (noticeCleared k) (log (call list delay) (steps list calls) after) ≡ true
-      → (i now : ℕ) (number : FunctionalNumber) (buffer : List ℕ) (a : Reply)
-      → getElem? (log (call list delay) (steps list calls) after) i ≡ some (sending now number buffer, a)
-      → sendingDone k (sending now number buffer, a) ≡ true → a ≡ telling number h s buffer
-  holder-is-told calls uncleared i now number buffer a e d =
-      let (r, known, t) = notified in
-      let same = singles-log list delay (steps list calls) after (all-steps-single list delay calls) in
-      told-along list k h s (rw known at (along list delay k (steps list calls) after)) t (rw same at uncleared) i (sending now number buffer, a)
-      (rw same at e) d
+  pub holder-is-told : ToldFrom list delay k after h s
+  holder-is-told = told-from list delay k after h s notified
+
+-- the same from the terminal: it names h exactly, is answered 02, and nobody is named in the notice
+module _ (list : List ℕ) (delay : ℕ) (state : State) (number : FunctionalNumber) (h : Msisdn) (reply : List ℕ)
+    (answered : isOutcome 2 ((call list delay (terminal number h reply) state) .0 .answer) ≡ true) where
+  abbrev cleared-state : State
+  cleared-state = (call list delay (terminal number h reply) state) .1
+
+  pub told-from-the-terminal : ToldFrom list delay (number .0) cleared-state h nobody
+  told-from-the-terminal =
+      let (r, v, d, e, u) = answered-02 (along list delay (number .0) (terminal number h reply ∷ []) state) (eq-eqb (number .0) (number .0) refl) answered in
+      told-from list delay (number .0) cleared-state h nobody (v .next, e, terminal-tells list (number .0) d u)

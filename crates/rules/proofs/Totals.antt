@@ -23,11 +23,10 @@ use Rattle.states.proofs.States.{state-table, sound-state}
 use Rattle.rules.specs.Answers.{refusal, resultClass, deliveredNumber, droppedNumber, numbersOf, isOf, isOutcome}
 use Rattle.rules.specs.Run.{only, end, log}
 use Rattle.rules.specs.Notices.{noticeIn}
-use Rattle.rules.specs.Calls.{Call, request, framed, sending, result, Reply, call, readOf, codesOf, nameOf, namesOne, isNamed}
+use Rattle.rules.specs.Calls.{Call, request, framed, sending, result, terminal, Reply, call, codesOf, nameOf, namesOne, isNamed}
 use Rattle.rules.specs.Visits.{missed}
 use Rattle.rules.specs.Demand.{gotBy}
-use Rattle.rules.specs.Users.{askerOf}
-use Rattle.rules.specs.Accounts.{ofNumber, forcesAnother, makesNotice, hasKind, returns, isZero, isOneToFour, isFive, isDelivery, isDroppedByKind, isDroppedLast, howOften, erasures, deliveries, droppedByKind, droppedLast, pendingFor, pendingIn, Balanced, sumTo, overNumbers, waitingFigure, inFlightFigure, notifiedIn, Accounted}
+use Rattle.rules.specs.Accounts.{ofNumber, forcesOff, makesNotice, hasKind, returns, isZero, isOneToFour, isFive, isDelivery, isDroppedByKind, isDroppedLast, howOften, erasures, deliveries, droppedByKind, droppedLast, pendingFor, pendingIn, Balanced, sumTo, overNumbers, waitingFigure, inFlightFigure, notifiedIn, Accounted}
 use Rattle.rules.proofs.Once.{single}
 use Rattle.rules.proofs.Visits.{single-stops}
 use Rattle.rules.proofs.Sound.{Kept, kept-twice, record-place, single-absent}
@@ -67,6 +66,7 @@ kind-any test (request requester scheme string reply) h = h
 kind-any test (framed requester message frame) h = h
 kind-any test (sending now number buffer) h = h
 kind-any test (result now number kind) h = refl
+kind-any test (terminal number holder reply) h = h
 
 returned-counts : (n : ℕ) (test : ℕ → Bool) (e : Call × Reply) → returns n test e ≡ true → mayCount e ≡ true
 returned-counts n test e r =
@@ -81,7 +81,7 @@ Placed list t e = mayCount e ≡ true → (i : ℕ) × (i < rowsIn (t .table)) �
 
 -- what no number's record decided mayCount nothing
 unsaid-counts : (c : Call) (a : Reply) → isOutcome 2 (a .answer) ≡ false → (hasKind (λ kind. true) c && isOf resultClass (a .answer)) ≡ false → mayCount (c, a) ≡ false
-unsaid-counts c a u k = rw (and-no (forcesAnother (askerOf c) (readOf c)) (isOutcome 2 (a .answer)) u) k
+unsaid-counts c a u k = rw (and-no (forcesOff c) (isOutcome 2 (a .answer)) u) k
 
 module _ (list : List ℕ) (delay : ℕ) where
   missed-counts : (c : Call) → mayCount (c, missed list c) ≡ false
@@ -92,6 +92,7 @@ module _ (list : List ℕ) (delay : ℕ) where
       by-call (framed requester message frame) = refl
       by-call (sending now number buffer) = refl
       by-call (result now number kind) = refl
+      by-call (terminal number holder reply) = refl
 
   nameless-counts : (c : Call) (a : Reply) → nameOf list c ≡ none → isOutcome 2 (a .answer) ≡ false → mayCount (c, a) ≡ false
   nameless-counts c a n u = unsaid-counts c a u (by-call c n)
@@ -101,6 +102,7 @@ module _ (list : List ℕ) (delay : ℕ) where
       by-call (framed requester message frame) n = refl
       by-call (sending now number buffer) n = refl
       by-call (result now number kind) n = not-some (sym n)
+      by-call (terminal number holder reply) n = refl
 
   single-placed : (c : Call) (t : State) → stateSound t ≡ true → Placed list t (c, single list delay c t .0)
   single-placed c t sound u = by-name (nameOf list c) refl
@@ -211,7 +213,7 @@ module _ (list : List ℕ) (delay : ℕ) (t : State) (unsound : stateSound t ≡
       rw e (rw (unrefused c n buffer) (none-passes test unrefused cs))
 
   none-made : Unrefused makesNotice
-  none-made c n buffer = and-no (forcesAnother (askerOf c) (readOf c)) false refl
+  none-made c n buffer = and-no (forcesOff c) false refl
 
   none-returned : (m : ℕ) (test : ℕ → Bool) → Unrefused (returns m test)
   none-returned m test c n buffer = and-no (hasKind test c) false refl

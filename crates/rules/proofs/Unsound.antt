@@ -7,6 +7,7 @@ use lib.ListN.{length, drop}
 use lib.Dec.{ltb}
 use Rattle.answers.specs.Checks.{decide, isNone}
 use Rattle.answers.proofs.Tests.{no-path}
+use Rattle.numbers.specs.Numbers.{nobody}
 use Rattle.numbers.specs.declared.FunctionalNumber.{FunctionalNumber}
 use Rattle.numbers.specs.declared.Msisdn.{Msisdn}
 use Rattle.strings.specs.Text.{Request}
@@ -15,13 +16,14 @@ use Rattle.frames.specs.Messages.{frameRoom, unreadMessage, registerOf}
 use Rattle.tables.specs.Tables.{tableSound, listSound, flagsOf}
 use Rattle.states.specs.States.{State, figuresRight, stateSound, rowFor, recordFor}
 use Rattle.rules.specs.Answers.{refusal, Outcome, made, bufferRoom, refusing}
-use Rattle.rules.specs.Requests.{refusalChecks, askingBy, requestingBy}
+use Rattle.rules.specs.Requests.{refusalChecks, once, askingBy, requestingBy}
 use Rattle.rules.specs.Crews.{requesting}
 use Rattle.rules.specs.Frames.{registered, framedBy, framedRequest}
 use Rattle.rules.specs.Notices.{sendingChecks, sentAt, sendingNotice, resultChecks, resultAt, takingResult}
+use Rattle.rules.specs.Terminal.{terminalRequest, terminalChecks, terminalErasure}
 use Rattle.rules.specs.Run.{end}
 use Rattle.rules.specs.Figures.{isEarly}
-use Rattle.rules.specs.Calls.{Call, request, framed, sending, result, Reply, replied, clockReading, call}
+use Rattle.rules.specs.Calls.{Call, request, framed, sending, result, terminal, Reply, replied, clockReading, call}
 use Rattle.rules.proofs.Once.{requestingOnce, framedOnce, single}
 
 module _ (t : State) (unsound : stateSound t ≡ false) where
@@ -68,12 +70,19 @@ module _ (t : State) (unsound : stateSound t ≡ false) where
       let checks = refusing t [] (resultChecks (tableSound (t .table)) (figuresRight t) (number .0) (recordFor t (number .0)) kind) in
       refused-by [] [] tt (drop 2 checks) (resultAt kind clock (rowFor t (number .0)) t) (tableSound (t .table)) (figuresRight t) unsound
 
+  terminal-refused : (reply : List ℕ) (number : FunctionalNumber) (holder : Msisdn) → RefusedAt (terminalErasure t reply number holder)
+  unfolding terminalErasure
+  terminal-refused reply number holder =
+      let checks = refusing t reply (terminalChecks (tableSound (t .table)) (figuresRight t) reply number holder) in
+      refused-by reply ((ltb (length reply) bufferRoom, 1) ∷ []) (refl, tt) (drop 3 checks) (once t reply nobody (terminalRequest number holder)) (tableSound (t .table)) (figuresRight t) unsound
+
   pub unsound-single : (list : List ℕ) (delay : ℕ) (c : Call) → RefusedWith (single list delay c t)
   unfolding requestingOnce framedOnce
   unsound-single list delay (request requester scheme string reply) = request-refused _ list reply requester scheme string
   unsound-single list delay (framed requester message frame) = framed-refused _ list frame message
   unsound-single list delay (sending now number buffer) = sending-refused buffer number delay (clockReading now)
   unsound-single list delay (result now number kind) = result-refused number kind (clockReading now)
+  unsound-single list delay (terminal number holder reply) = terminal-refused reply number holder
 
   pub unsound-call : (list : List ℕ) (delay : ℕ) (c : Call) → RefusedWith (call list delay c t)
   unfolding requesting framedRequest
@@ -81,6 +90,7 @@ module _ (t : State) (unsound : stateSound t ≡ false) where
   unsound-call list delay (framed requester message frame) = framed-refused _ list frame message
   unsound-call list delay (sending now number buffer) = sending-refused buffer number delay (clockReading now)
   unsound-call list delay (result now number kind) = result-refused number kind (clockReading now)
+  unsound-call list delay (terminal number holder reply) = terminal-refused reply number holder
 
   pub unsound-end : (list : List ℕ) (delay : ℕ) (cs : List Call) → end (call list delay) cs t ≡ t
   unsound-end list delay [] = refl

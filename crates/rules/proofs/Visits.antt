@@ -8,11 +8,11 @@ use lib.ListN.{length}
 use lib.Dec.{eqb, ltb, leb}
 use borrow.Author.Tests.{eqb-true, not-false}
 use Rattle.answers.specs.Checks.{decide, isNone, anyHolds}
-use Rattle.answers.proofs.Tests.{no-path, or-neither, or-right}
+use Rattle.answers.proofs.Tests.{no-path, and-right, or-neither, or-right}
 use Rattle.answers.proofs.Checks.{not-some}
 use Rattle.answers.proofs.Decide.{chosen, answering, decide-of, decide-each, all-pass, any-answering, none-holds, one-holds}
 use Rattle.packing.specs.Packing.{unpacked}
-use Rattle.numbers.specs.Numbers.{isNumber}
+use Rattle.numbers.specs.Numbers.{isNumber, nobody, isNobody}
 use Rattle.numbers.specs.declared.FunctionalNumber.{FunctionalNumber}
 use Rattle.numbers.specs.declared.Msisdn.{Msisdn}
 use Rattle.strings.specs.declared.Operation.{Operation}
@@ -47,8 +47,9 @@ use Rattle.rules.specs.Requests as requests
 use Rattle.rules.specs.Requests.{Stepping, comesTo, says}
 use Rattle.rules.specs.Frames.{ownReply}
 use Rattle.rules.specs.Notices as notices
-use Rattle.rules.specs.Calls.{Call, request, framed, sending, result, Reply, replied, clockReading, numberRead, nameOf}
-use Rattle.rules.specs.Visits.{stepAt, tellAt, decidesAt, visited, storing, leaving, visitSaying, stepped, holderAnswered, erases, decides, decided, sentStep, resultStep, visitSending, visitResult, visitRequest, visit, replySaying, missedSending, missedResult, missedRequest, missed, enveloped}
+use Rattle.rules.specs.Terminal.{terminalRequest, bothNumbers, terminalErasure}
+use Rattle.rules.specs.Calls.{Call, request, framed, sending, result, terminal, Reply, replied, clockReading, numberRead, nameOf}
+use Rattle.rules.specs.Visits.{stepAt, tellAt, decidesAt, visited, storing, leaving, visitSaying, stepped, holderAnswered, erases, decides, decided, sentStep, resultStep, visitSending, visitResult, visitRequest, visitTerminal, visit, replySaying, missedSending, missedResult, missedRequest, missedTerminal, missed, enveloped}
 use Rattle.rules.proofs.Once.{requestingOnce, single}
 use Rattle.rules.proofs.Inside.{turned, outcome-kept, Opened, shut, carries, opened}
 
@@ -75,15 +76,15 @@ abbrev pub recordChecks : Operation → Erasing → FunctionalNumber → Msisdn 
 recordChecks Register e number requester r =
     (steps.isOwn number requester, 67)
     ∷ (r .closed, 64)
-    ∷ (not (steps.isNobody (r .holder)) && not (steps.same (r .holder) requester), 61)
+    ∷ (not (isNobody (r .holder)) && not (steps.same (r .holder) requester), 61)
     ∷ []
-recordChecks Erase Empty number requester r = (steps.isNobody (r .holder), 62) ∷ (not (steps.mayErase number requester (r .holder)), 63) ∷ []
+recordChecks Erase Empty number requester r = (isNobody (r .holder), 62) ∷ (not (steps.mayErase number requester (r .holder)), 63) ∷ []
 recordChecks Erase (Forced m) number requester r =
-    (steps.isNobody (r .holder), 62)
+    (isNobody (r .holder), 62)
     ∷ (not (steps.same (r .holder) m), 63)
     ∷ (not (steps.same (r .holder) requester) && not (steps.isAbsent (r .notice)), 68)
     ∷ []
-recordChecks Interrogate e number requester r = (steps.isNobody (r .holder), 62) ∷ []
+recordChecks Interrogate e number requester r = (isNobody (r .holder), 62) ∷ []
 
 module _ (t : State) (i : ℕ) (requester : Msisdn) where
   abbrev it : Record
@@ -100,7 +101,7 @@ module _ (t : State) (i : ℕ) (requester : Msisdn) where
       → decide (map (requests.staying t) (recordChecks o e number requester it)) (requests.carriedOut o e requester t i) ≡ decidesAt o e number requester t i
   unfolding steps.registered steps.erased steps.forced steps.interrogated
   by-record Register e number = stepping 1 (recordChecks Register e number requester it) (steps.heldBy requester it)
-  by-record Erase Empty number = stepping 2 (recordChecks Erase Empty number requester it) (steps.heldBy steps.nobody it)
+  by-record Erase Empty number = stepping 2 (recordChecks Erase Empty number requester it) (steps.heldBy nobody it)
   by-record Erase (Forced m) number = stepping 2 (recordChecks Erase (Forced m) number requester it) (requests.afterErasure requester (Forced m) it)
   by-record Interrogate e number =
       decide-of (λ m. comesTo (says m) t) (tellAt t) holds.Stays (λ m. refl) (recordChecks Interrogate e number requester it) (holds.Held (it .holder))
@@ -346,6 +347,42 @@ module _ (t : State) (number : FunctionalNumber) (kind clock : ℕ) (sound : sta
   pub result-misses : rowFor t (number .0) ≡ Nothing → notices.takingResult t number kind clock ≡ leaving t missedResult
   result-misses e = result-at Nothing e ∙ rw (or-right (not (isNumber (number .0))) true refl)
 
+-- ---- the terminal
+
+module _ (t : State) (reply : List ℕ) (number : FunctionalNumber) (holder : Msisdn) (sound : stateSound t ≡ true) where
+  abbrev erasure : Request
+  erasure = terminalRequest number holder
+
+  -- table and figures are right, so 1 and 7 are left of the checks
+  two-left :
+      terminalErasure t reply number holder
+      ≡ decide (refusing t reply ((ltb (length reply) bufferRoom, refusal 1) ∷ (not (bothNumbers number holder), refusal 7) ∷ [])) (requests.once t reply nobody erasure)
+  unfolding terminalErasure
+  two-left = rw (state-table t sound, state-right t sound)
+
+  -- the number is in row i: that row's record decides
+  pub terminal-visits : (i : ℕ) → rowFor t (number .0) ≡ At i → terminalErasure t reply number holder ≡ storing t i (visitTerminal number holder reply (recordIn t i))
+  unfolding decided
+  terminal-visits i e = two-left ∙ chosen (storing t i) (ltb (length reply) bufferRoom) (rw same) (go (bothNumbers number holder) refl)
+    where
+      same : storedIn t i (recordIn t i) ≡ t
+      same = found-back t (number .0) i sound e
+
+      go : (b : Bool) → bothNumbers number holder ≡ b
+          → cond (not b) (made (refusal 7) t reply) (requests.once t reply nobody erasure)
+          ≡ storing t i (cond (not b) (visited (refusal 7) reply (recordIn t i)) (decides Erase (Forced holder) number nobody reply (recordIn t i)))
+      go false h = rw same
+      go true h =
+          ap (requests.replying reply) (step-visits t nobody erasure i e (and-right (isNumber (number .0)) (isNumber (holder .0)) h))
+          ∙ replies t i same nobody reply Erase (Forced holder) number
+
+  -- the number is not in the table
+  pub terminal-misses : rowFor t (number .0) ≡ Nothing → terminalErasure t reply number holder ≡ leaving t (missedTerminal number holder reply)
+  terminal-misses e =
+      two-left
+      ∙ chosen (leaving t) (ltb (length reply) bufferRoom) refl
+      (chosen (leaving t) (not (bothNumbers number holder)) refl (ap (requests.replying reply) (step-misses t nobody erasure e)))
+
 -- ---- calls
 
 module _ (list : List ℕ) (delay : ℕ) (t : State) (sound : stateSound t ≡ true) where
@@ -369,6 +406,7 @@ module _ (list : List ℕ) (delay : ℕ) (t : State) (sound : stateSound t ≡ t
           w .singles t sound ∙ ap (turned (enveloped j frame)) (bare-visits requester (j .scheme) (j .string) ownReply k i (sym (w .name) ∙ n) e) ∙ rw inside refl
   single-visits (sending now number buffer) k i n e = ap replied (sending-visits t buffer number delay (clockReading now) sound i (cc))
   single-visits (result now number kind) k i n e = ap replied (result-visits t number kind (clockReading now) sound i (cc))
+  single-visits (terminal number holder reply) k i n e = ap replied (terminal-visits t reply number holder sound i (cc))
 
   -- it is not in the table
   bare-misses : (requester : Msisdn) (scheme : ℕ) (string reply : List ℕ) (k : ℕ) → nameOf list (request requester scheme string reply) ≡ some k
@@ -387,6 +425,7 @@ module _ (list : List ℕ) (delay : ℕ) (t : State) (sound : stateSound t ≡ t
           w .singles t sound ∙ ap (turned (enveloped j frame)) (bare-misses requester (j .scheme) (j .string) ownReply k (sym (w .name) ∙ n) e) ∙ rw inside refl
   single-misses (sending now number buffer) k n e = ap replied (sending-misses t buffer number delay (clockReading now) sound (cc))
   single-misses (result now number kind) k n e = ap replied (result-misses t number kind (clockReading now) sound (cc))
+  single-misses (terminal number holder reply) k n e = ap replied (terminal-misses t reply number holder sound (cc))
 
 -- the call names none: it gets the same over every sound state, no outcome, and the state stays
 module _ (list : List ℕ) (delay : ℕ) where
@@ -413,3 +452,4 @@ module _ (list : List ℕ) (delay : ℕ) where
           (enveloped j frame r, λ m. outcome-kept j frame r m ∙ unsaid m, λ t sound. w .singles t sound ∙ ap (turned (enveloped j frame)) (stops t sound))
   single-stops (sending now number buffer) n = not-some (sym n)
   single-stops (result now number kind) n = not-some (sym n)
+  single-stops (terminal number holder reply) n = not-some (sym n)

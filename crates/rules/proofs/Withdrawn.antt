@@ -6,10 +6,11 @@ use mathlib.Core.Option.{Option, none, some}
 use mathlib.Core.List.{List}
 use Prim.Native.Nat.{ℕ}
 use Rattle.answers.proofs.Tests.{no-path, and-left, and-right}
+use Rattle.numbers.specs.Numbers.{nobody, isNobody}
 use Rattle.numbers.specs.declared.Msisdn.{Msisdn}
 use Rattle.strings.specs.Text.{Request}
 use Rattle.records.specs.declared.Record.{Record}
-use Rattle.records.specs.Steps.{nobody, isNobody, same, heldBy, isAbsent, hasRunOut}
+use Rattle.records.specs.Steps.{same, heldBy, isAbsent, hasRunOut}
 use Rattle.rows.proofs.Notices.{absent-still}
 use Rattle.states.specs.States.{State, recordFor}
 use Rattle.rules.specs.Requests.{holderIn, isClosed}
@@ -19,7 +20,7 @@ use Rattle.rules.specs.Visits.{Visited}
 use Rattle.rules.specs.Withdrawn.{runOut, Withdrawn}
 use Rattle.rules.proofs.Single.{singles-log}
 use Rattle.rules.proofs.Calls.{all-steps-single, singly-end}
-use Rattle.rules.proofs.Along.{Asked, negative, registration, erasure, herself, forced, Does, asks, unsent, sends, untaken, clears, goes-on, Along, ends, passes, visits, along, same-one}
+use Rattle.rules.proofs.Along.{Asked, negative, registration, erasure, herself, forced, Does, asks, unsent, sends, untaken, clears, goes-on, unmoved, removes, Along, ends, passes, visits, along, same-one}
 
 -- ---- one visit
 
@@ -37,6 +38,8 @@ visit-closed (sends w) = refl
 visit-closed untaken = refl
 visit-closed (clears f e) = refl
 visit-closed (goes-on f p) = refl
+visit-closed (unmoved p q) = refl
+visit-closed (removes m x z) = refl
 
 -- the holder stays or goes
 asked-holds : {list : List ℕ} {r next : Record} {requester : Msisdn} {read : Option Request} {one two : Bool} → Asked list r requester read one two next → r .closed ≡ true
@@ -54,6 +57,8 @@ visit-holds (sends w) c = inl refl
 visit-holds untaken c = inl refl
 visit-holds (clears f e) c = inl refl
 visit-holds (goes-on f p) c = inl refl
+visit-holds (unmoved p q) c = inl refl
+visit-holds (removes m x z) c = inr refl
 
 -- nobody again is nobody
 held-again : (r : Record) → isNobody (r .holder) ≡ true → heldBy nobody r ≡ r
@@ -74,6 +79,8 @@ module _ (r : Record) (c : r .closed ≡ true) (n : isNobody (r .holder) ≡ tru
   visit-stays untaken = refl
   visit-stays (clears f e) = no-path (sym (absent-still (r .notice) a .1) ∙ f)
   visit-stays (goes-on f p) = no-path (sym (absent-still (r .notice) a .1) ∙ f)
+  visit-stays (unmoved p q) = refl
+  visit-stays (removes m x z) = no-path (sym z ∙ n)
 
 -- ---- along the calls
 

@@ -6,20 +6,21 @@ use mathlib.Core.List.{List, [], _∷_}
 use Prim.Native.Nat.{ℕ, zero, suc, _+_, _<_}
 use lib.ListN.{length, take, getD, getElem?}
 use lib.Dec.{eqb, ltb, leb}
+use Rattle.numbers.specs.Numbers.{nobody}
 use Rattle.numbers.specs.declared.FunctionalNumber.{FunctionalNumber}
 use Rattle.numbers.specs.declared.Msisdn.{Msisdn}
 use Rattle.strings.specs.declared.Erasing.{Erasing}
 use Rattle.strings.specs.declared.Erasing.the-variants.{Empty, Forced}
 use Rattle.strings.specs.Text.{Request}
 use Rattle.records.specs.declared.Record.{Record}
-use Rattle.records.specs.Steps.{nobody, same, isAbsent, sendingsDone, mostSendings, lastKind}
+use Rattle.records.specs.Steps.{same, isAbsent, sendingsDone, mostSendings, lastKind}
 use Rattle.rows.specs.Rows.{numberAt, one}
 use Rattle.tables.specs.Tables.{rowsIn}
 use Rattle.tables.specs.Figures.{howMany, hasNoticeAt}
 use Rattle.states.specs.States.{State, recordFor}
 use Rattle.rules.specs.Answers.{deliveredNumber, droppedNumber, isOutcome, isResult, isSent}
 use Rattle.rules.specs.Run.{only, last, end, log}
-use Rattle.rules.specs.Calls.{Call, request, framed, sending, result, Reply, call, readOf, namesOne}
+use Rattle.rules.specs.Calls.{Call, request, framed, sending, result, terminal, Reply, call, readOf, namesOne}
 use Rattle.rules.specs.Demand.{holderOf, gotBy}
 use Rattle.rules.specs.Pending.{noticeFor, holdsAt, Between, sendingDone, noticeCleared}
 use Rattle.rules.specs.Users.{askerOf, telling}
@@ -35,9 +36,17 @@ abbrev pub forcesAnother : Msisdn → Option Request → Bool
 forcesAnother supervisor none = false
 forcesAnother supervisor (some f) = namesAnother supervisor (f .erasing)
 
--- "forced erasures answered 02 where supervisor and holder differ", framed or not
+-- a forced erasure of another's number, framed or not; M-111: the terminal's is counted "always"
+abbrev pub forcesOff : Call → Bool
+forcesOff (request requester scheme string reply) = forcesAnother requester (readOf (request requester scheme string reply))
+forcesOff (framed requester message frame) = forcesAnother requester (readOf (framed requester message frame))
+forcesOff (sending now number buffer) = false
+forcesOff (result now number kind) = false
+forcesOff (terminal number holder reply) = true
+
+-- "forced erasures answered 02 where supervisor and holder differ"
 abbrev pub makesNotice : Call × Reply → Bool
-makesNotice entry = forcesAnother (askerOf (entry .0)) (readOf (entry .0)) && isOutcome 2 (entry .1 .answer)
+makesNotice entry = forcesOff (entry .0) && isOutcome 2 (entry .1 .answer)
 
 -- the call is a result of such a kind
 abbrev pub hasKind : (ℕ → Bool) → Call → Bool
@@ -45,6 +54,7 @@ hasKind test (request requester scheme string reply) = false
 hasKind test (framed requester message frame) = false
 hasKind test (sending now number buffer) = false
 hasKind test (result now number kind) = test kind
+hasKind test (terminal number holder reply) = false
 
 -- a result of such a kind that returned the number n
 abbrev pub returns : ℕ → (ℕ → Bool) → Call × Reply → Bool
@@ -139,9 +149,17 @@ abbrev pub holderNamed : Option Request → Msisdn
 holderNamed none = nobody
 holderNamed (some f) = namedIn (f .erasing)
 
--- by an erasure: the MSISDN that it names, and who asks for it
+-- the holder whom a call names: in its string, or at the terminal
+abbrev pub holderNamedBy : Call → Msisdn
+holderNamedBy (request requester scheme string reply) = holderNamed (readOf (request requester scheme string reply))
+holderNamedBy (framed requester message frame) = holderNamed (readOf (framed requester message frame))
+holderNamedBy (sending now number buffer) = nobody
+holderNamedBy (result now number kind) = nobody
+holderNamedBy (terminal number holder reply) = holder
+
+-- by an erasure: the MSISDN that it names, and who asks for it; at the terminal, nobody
 abbrev pub notifiedBy : Call × Reply → Notified
-notifiedBy entry = record { holder = holderNamed (readOf (entry .0)); supervisor = askerOf (entry .0) }
+notifiedBy entry = record { holder = holderNamedBy (entry .0); supervisor = askerOf (entry .0) }
 
 -- by the starting table: the notice's addressee and supervisor
 abbrev pub notifiedIn : Option Record → Notified
@@ -153,7 +171,7 @@ abbrev pub notifiedAfter : Option (Call × Reply) → Notified → Notified
 notifiedAfter none before = before
 notifiedAfter (some entry) before = notifiedBy entry
 
--- what is proved of every list of calls, accepted and refused: requests (bare, framed, crews), sendings and results, with one list and one delay, from a sound table with right figures; the equations from any table
+-- what is proved of every list of calls, accepted and refused: requests (bare, framed, crews), sendings, results and erasures at the terminal, with one list and one delay, from a sound table with right figures; the equations from any table
 module _ (list : List ℕ) (delay : ℕ) (calls : List Call) (state : State) where
   abbrev got : List (Call × Reply)
   got = log (call list delay) calls state
@@ -195,7 +213,7 @@ module _ (list : List ℕ) (delay : ℕ) (c : Call) (state : State) (k : ℕ) wh
   pub record CountedOnce : Type 0 where
     pub made : erasures its ≡ one (isAbsent (noticeFor state k) && not (isAbsent (noticeFor left k)))
     -- the MSISDN that it then names is "the holder at that erasure"
-    pub holder : erasures its ≡ 1 → holderOf state k ≡ holderNamed (readOf c) .0
+    pub holder : erasures its ≡ 1 → holderOf state k ≡ holderNamedBy c .0
     pub ended : endings its ≡ one (not (isAbsent (noticeFor state k)) && isAbsent (noticeFor left k))
     -- "dropped after the last sending": the most sendings were done
     pub last : droppedLast its ≡ 1 → sendingsDone (noticeFor state k) ≡ mostSendings

@@ -1,4 +1,4 @@
--- Requests, framed ones, sendings and results as calls over one table and its figures, with one subscriber list and one delay; the numbers that a call names; and its single steps. Assumes nothing.
+-- Requests, framed ones, sendings, results and erasures at the terminal as calls over one table and its figures, with one subscriber list and one delay; the numbers that a call names; and its single steps. Assumes nothing.
 use Prim.Native.Nat.{ℕ, _*_, _%_, _^_}
 use mathlib.Core.Bool.{Bool, true, false, cond, not, _||_}
 use mathlib.Core.Option.{Option, none, some}
@@ -22,6 +22,7 @@ use Rattle.rules.specs.Requests.{hasFollowMe, refusalChecks}
 use Rattle.rules.specs.Crews.{withCode, memberOf, crewCodes, requesting}
 use Rattle.rules.specs.Frames.{framedChecks, Inside, insideOf, ownReply, framedRequest}
 use Rattle.rules.specs.Notices as notices
+use Rattle.rules.specs.Terminal.{terminalErasure}
 
 -- a call, with its own clock and buffer
 pub data Call : Type 0 where
@@ -33,6 +34,8 @@ pub data Call : Type 0 where
   sending : ℕ → FunctionalNumber → List ℕ → Call
   -- now, functional number, kind
   result : ℕ → FunctionalNumber → ℕ → Call
+  -- functional number, holder, reply buffer: at the node's terminal (M-111)
+  terminal : FunctionalNumber → Msisdn → List ℕ → Call
 
 -- the buffer that a call is lent; a result is lent none
 abbrev pub bufferOf : Call → List ℕ
@@ -40,6 +43,7 @@ bufferOf (request requester scheme string reply) = reply
 bufferOf (framed requester message frame) = frame
 bufferOf (sending now number buffer) = buffer
 bufferOf (result now number kind) = []
+bufferOf (terminal number holder reply) = reply
 
 -- what a caller gets: the answer, and the buffer afterwards
 pub record Reply : Type 0 where
@@ -59,13 +63,15 @@ call list delay (request requester scheme string reply) state = replied (request
 call list delay (framed requester message frame) state = replied (framedRequest state list frame requester message)
 call list delay (sending now number buffer) state = replied (notices.sendingNotice state buffer number delay (clockReading now))
 call list delay (result now number kind) state = replied (notices.takingResult state number kind (clockReading now))
+call list delay (terminal number holder reply) state = replied (terminalErasure state reply number holder)
 
--- what the string of a request reads as; a framed one's stands inside it
+-- what the string of a request reads as; a framed one's stands inside it, and at the terminal there is none
 abbrev pub readOf : Call → Option Request
 readOf (request requester scheme string reply) = requestOf string
 readOf (framed requester message frame) = insideOf message >>= λ i. requestOf (i .string)
 readOf (sending now number buffer) = none
 readOf (result now number kind) = none
+readOf (terminal number holder reply) = none
 
 abbrev pub numberRead : Option Request → Option ℕ
 numberRead none = none
@@ -77,13 +83,14 @@ abbrev pub requestName : List ℕ → Msisdn → ℕ → List ℕ → List ℕ �
 requestName list requester scheme string reply =
     cond (anyHolds (refusalChecks true true list reply requester scheme string)) none (numberRead (requestOf string))
 
--- a framed request names what the request inside names; one that is refused or rejected has none inside. A sending or a result names the number that it is given
+-- a framed request names what the request inside names; one that is refused or rejected has none inside. A sending, a result or the terminal names the number that it is given
 abbrev pub nameOf : List ℕ → Call → Option ℕ
 nameOf list (request requester scheme string reply) = requestName list requester scheme string reply
 nameOf list (framed requester message frame) =
     cond (anyHolds (framedChecks true true list frame message)) none (insideOf message >>= λ i. requestName list requester (i .scheme) (i .string) ownReply)
 nameOf list (sending now number buffer) = some (number .0)
 nameOf list (result now number kind) = some (number .0)
+nameOf list (terminal number holder reply) = some (number .0)
 
 abbrev pub isNamed : Option ℕ → ℕ → Bool
 isNamed none k = false
@@ -143,6 +150,7 @@ stepsOf list (framed requester message frame) =
     stepsInside list (framed requester message frame) (anyHolds (framedChecks true true list frame message)) requester (insideOf message)
 stepsOf list (sending now number buffer) = sending now number buffer ∷ []
 stepsOf list (result now number kind) = result now number kind ∷ []
+stepsOf list (terminal number holder reply) = terminal number holder reply ∷ []
 
 -- the single steps of a list of calls, in their order
 abbrev pub steps : List ℕ → List Call → List Call

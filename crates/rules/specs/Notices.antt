@@ -8,7 +8,7 @@ use lib.Dec.{eqb, ltb, leb}
 use Rattle.answers.specs.Checks.{decide, isNone}
 use Rattle.numbers.specs.Numbers.{isNumber}
 use Rattle.numbers.specs.declared.FunctionalNumber.{FunctionalNumber}
-use Rattle.strings.specs.Text.{textOf, noticeFields}
+use Rattle.strings.specs.Notices.{noticeText, noticeFields}
 use Rattle.records.specs.declared.Notice.{Notice}
 use Rattle.records.specs.declared.Notice.the-variants.{Absent, Waiting}
 use Rattle.records.specs.declared.Record.{Record}
@@ -44,7 +44,7 @@ abbrev pub sentAt : FunctionalNumber → Found → State → List ℕ → Outcom
 sentAt number Nothing state buffer = made (refusal 7) state buffer
 sentAt number (At i) state buffer =
     let r = recordIn state i in
-    let text = textOf (noticeFields number (r .supervisor)) in
+    let text = noticeText (noticeFields number (r .supervisor)) in
     made (sentTo (r .addressee .0) (octetCount text)) (storedIn state i (withNotice (launched (r .notice)) r)) (packedOver text buffer)
 
 unfoldable pub sendingNotice : State → List ℕ → FunctionalNumber → ℕ → ℕ → Outcome

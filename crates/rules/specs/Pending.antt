@@ -10,7 +10,7 @@ use Rattle.records.specs.declared.Notice.{Notice}
 use Rattle.states.specs.States.{State, recordFor}
 use Rattle.rules.specs.Answers.{isRefusal, isSent, isClearing}
 use Rattle.rules.specs.Notices.{noticeIn}
-use Rattle.rules.specs.Calls.{Call, request, framed, sending, result, Reply}
+use Rattle.rules.specs.Calls.{Call, request, framed, sending, result, terminal, Reply}
 
 -- the notice that the table keeps for the number k: none, as at phase 0, where k is not in it
 abbrev pub noticeFor : State → ℕ → Notice
@@ -48,6 +48,7 @@ isSendingOf k (request requester scheme string reply) = false
 isSendingOf k (framed requester message frame) = false
 isSendingOf k (sending now number buffer) = eqb (number .0) k
 isSendingOf k (result now number kind) = false
+isSendingOf k (terminal number holder reply) = false
 
 -- a result that names the number k
 abbrev pub isResultOf : ℕ → Call → Bool
@@ -55,6 +56,7 @@ isResultOf k (request requester scheme string reply) = false
 isResultOf k (framed requester message frame) = false
 isResultOf k (sending now number buffer) = false
 isResultOf k (result now number kind) = eqb (number .0) k
+isResultOf k (terminal number holder reply) = false
 
 -- a sending of k that succeeded
 abbrev pub sendingDone : ℕ → Call × Reply → Bool

@@ -6,7 +6,7 @@ use mathlib.Core.List.{List, [], _∷_, map}
 use lib.ListN.{length}
 use lib.Dec.{eqb, ltb}
 use Rattle.answers.specs.Checks.{decide, isNone}
-use Rattle.numbers.specs.Numbers.{isNumber, twoDigits}
+use Rattle.numbers.specs.Numbers.{isNumber, twoDigits, nobody, isNobody}
 use Rattle.numbers.specs.declared.FunctionalNumber.{FunctionalNumber}
 use Rattle.numbers.specs.declared.Msisdn.{Msisdn}
 use Rattle.strings.specs.declared.Operation.{Operation}
@@ -16,7 +16,7 @@ use Rattle.strings.specs.declared.Erasing.the-variants.{Empty, Forced}
 use Rattle.strings.specs.Text.{Request, codingScheme}
 use Rattle.strings.specs.Outcomes.{requestOf}
 use Rattle.records.specs.declared.Record.{Record}
-use Rattle.records.specs.Steps.{nobody, isNobody, same, isOwn, mayErase, heldBy, forcedOff, isAbsent}
+use Rattle.records.specs.Steps.{same, isOwn, mayErase, heldBy, forcedOff, isAbsent}
 use Rattle.tables.specs.declared.Found.{Found}
 use Rattle.tables.specs.declared.Found.the-variants.{At, Nothing}
 use Rattle.tables.specs.Tables.{tableSound, listSound, flagsOf}

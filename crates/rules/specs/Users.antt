@@ -11,14 +11,15 @@ use Rattle.numbers.specs.declared.FunctionalNumber.{FunctionalNumber}
 use Rattle.numbers.specs.declared.Msisdn.{Msisdn}
 use Rattle.strings.specs.declared.Erasing.{Erasing}
 use Rattle.strings.specs.declared.Erasing.the-variants.{Empty, Forced}
-use Rattle.strings.specs.Text.{Request, textOf, noticeFields, codingScheme}
+use Rattle.strings.specs.Text.{Request, codingScheme}
+use Rattle.strings.specs.Notices.{noticeText, noticeFields}
 use Rattle.strings.specs.Outcomes.{requestOf}
 use Rattle.records.specs.Steps.{same, isOwn}
 use Rattle.tables.specs.Tables.{listSound, flagsOf}
 use Rattle.states.specs.States.{State, recordFor}
 use Rattle.rules.specs.Answers.{sentTo, isOutcome, bufferRoom, packedOver, octetCount}
 use Rattle.rules.specs.Requests.{hasFollowMe, isErase, noNotice, mostStringOctets}
-use Rattle.rules.specs.Calls.{Call, request, framed, sending, result, Reply, readOf, namesOne}
+use Rattle.rules.specs.Calls.{Call, request, framed, sending, result, terminal, Reply, readOf, namesOne}
 use Rattle.rules.specs.Demand.{registers, requesterOf, holderOf}
 
 -- ---- the driver
@@ -40,16 +41,25 @@ abbrev pub erasesHoldIn : Msisdn → Bool → Msisdn → ℕ → Option Request 
 erasesHoldIn h phase0 requester flags none = false
 erasesHoldIn h phase0 requester flags (some f) = isErase (f .operation) && erasesHold h phase0 (f .number) requester flags (f .erasing)
 
--- the call is a request, framed or not, whose string reads as such an erasure
-abbrev pub mayEndHold : List ℕ → Msisdn → Bool → Call → Bool
-mayEndHold list h phase0 c = erasesHoldIn h phase0 (askerOf c) (flagsOf list (requesterOf c)) (readOf c)
+-- M-111: at the node's terminal, naming h exactly, at phase 0
+abbrev pub clearsHold : Msisdn → Bool → Call → Bool
+clearsHold h phase0 (request requester scheme string reply) = false
+clearsHold h phase0 (framed requester message frame) = false
+clearsHold h phase0 (sending now number buffer) = false
+clearsHold h phase0 (result now number kind) = false
+clearsHold h phase0 (terminal number holder reply) = same holder h && phase0
 
--- a request, framed or not
-abbrev pub isRequest : Call → Bool
-isRequest (request requester scheme string reply) = true
-isRequest (framed requester message frame) = true
-isRequest (sending now number buffer) = false
-isRequest (result now number kind) = false
+-- the call is a request, framed or not, whose string reads as such an erasure, or the terminal's
+abbrev pub mayEndHold : List ℕ → Msisdn → Bool → Call → Bool
+mayEndHold list h phase0 c = erasesHoldIn h phase0 (askerOf c) (flagsOf list (requesterOf c)) (readOf c) || clearsHold h phase0 c
+
+-- a sending or a result
+abbrev pub isOfNotice : Call → Bool
+isOfNotice (request requester scheme string reply) = false
+isOfNotice (framed requester message frame) = false
+isOfNotice (sending now number buffer) = true
+isOfNotice (result now number kind) = true
+isOfNotice (terminal number holder reply) = false
 
 -- of a single call c over a state, that got the reply a and left the state `after`: it has ended h's hold of k
 pub record HoldEnded (list : List ℕ) (h : Msisdn) (k : ℕ) (c : Call) (state : State) (a : Reply) (after : State) : Type 0 where
@@ -95,8 +105,8 @@ pub record WellFormed (list : List ℕ) (requester : Msisdn) (scheme : ℕ) (str
 
 -- ---- the told
 
--- what a sending of the number gets where it tells h of s: h and the octet count, and the buffer with the text of the number and s
+-- what a sending of the number gets where it tells h of s: h and the octet count, and the buffer with the text of the number and s; nobody is named where s is nobody (M-111)
 abbrev pub telling : FunctionalNumber → Msisdn → Msisdn → List ℕ → Reply
 telling number h s buffer =
-    let text = textOf (noticeFields number s) in
+    let text = noticeText (noticeFields number s) in
     record { answer = sentTo (h .0) (octetCount text); buffer = packedOver text buffer }

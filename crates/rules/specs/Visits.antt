@@ -1,4 +1,4 @@
--- A helper: a second form of the rules, for the theorems and the code, proved equal to `Requests` and `Notices` (proofs/Visits). Once a request's string reads, and for every sending and result, a single call visits the record of one number, and a step of that record decides. Assumes nothing.
+-- A helper: a second form of the rules, for the theorems and the code, proved equal to `Requests`, `Notices` and `Terminal` (proofs/Visits). Once a request's string reads, and for every sending, result and erasure at the terminal, a single call visits the record of one number, and a step of that record decides. Assumes nothing.
 use Prim.Native.Nat.{ℕ}
 use mathlib.Core.Bool.{not, _&&_}
 use mathlib.Core.Option.{Option, none, some}
@@ -8,12 +8,13 @@ use lib.Dec.{ltb}
 use Rattle.answers.specs.Checks.{decide}
 use Rattle.numbers.specs.declared.FunctionalNumber.{FunctionalNumber}
 use Rattle.numbers.specs.declared.Msisdn.{Msisdn}
-use Rattle.numbers.specs.Numbers.{twoDigits}
+use Rattle.numbers.specs.Numbers.{twoDigits, nobody}
 use Rattle.strings.specs.declared.Operation.{Operation}
 use Rattle.strings.specs.declared.Operation.the-variants.{Register, Erase, Interrogate}
 use Rattle.strings.specs.declared.Erasing.{Erasing}
 use Rattle.strings.specs.declared.Erasing.the-variants.{Empty, Forced}
-use Rattle.strings.specs.Text.{Request, textOf, noticeFields}
+use Rattle.strings.specs.Text.{Request}
+use Rattle.strings.specs.Notices.{noticeText, noticeFields}
 use Rattle.strings.specs.Outcomes.{requestOf}
 use Rattle.frames.specs.Messages.{unreadMessage}
 use Rattle.records.specs.declared.Record.{Record}
@@ -31,7 +32,8 @@ use Rattle.states.specs.States.{State, beside, recordIn, storedIn}
 use Rattle.rules.specs.Answers.{Answer, refusal, error, outcome, holderIs, sentTo, delivered, dropped, again, Outcome, made, bufferRoom, holderText, packedOver, octetCount}
 use Rattle.rules.specs.Requests.{hasFollowMe, isSupervisor, isForced, Stepping, comesTo, says, tells}
 use Rattle.rules.specs.Frames.{answeredIn, Inside, insideOf, ownReply}
-use Rattle.rules.specs.Calls.{Call, request, framed, sending, result, Reply, replied, clockReading}
+use Rattle.rules.specs.Terminal.{terminalRequest, bothNumbers}
+use Rattle.rules.specs.Calls.{Call, request, framed, sending, result, terminal, Reply, replied, clockReading}
 
 -- what a call gets, and the record that it leaves
 pub record Visited : Type 0 where
@@ -98,7 +100,7 @@ decidesAt Interrogate e number requester t i = tellAt t (steps.interrogated (rec
 abbrev pub sentStep : FunctionalNumber → List ℕ → Record → Sending → Visited
 sentStep number buffer r (launches.Refused m) = visited (refusal m) buffer r
 sentStep number buffer r (launches.Launched next) =
-    let text = textOf (noticeFields number (r .supervisor)) in
+    let text = noticeText (noticeFields number (r .supervisor)) in
     visited (sentTo (r .addressee .0) (octetCount text)) (packedOver text buffer) next
 
 abbrev pub resultStep : Record → Resulted → Visited
@@ -116,6 +118,12 @@ visitSending delay clock number buffer r =
 
 abbrev pub visitResult : ℕ → ℕ → Record → Visited
 visitResult kind clock r = resultStep r (steps.resulted kind clock r)
+
+-- 1 and 7 stand before what the record decides
+abbrev pub visitTerminal : FunctionalNumber → Msisdn → List ℕ → Record → Visited
+visitTerminal number holder reply r =
+    decide ((ltb (length reply) bufferRoom, visited (refusal 1) reply r) ∷ (not (bothNumbers number holder), visited (refusal 7) reply r) ∷ [])
+    (decided (terminalRequest number holder) nobody reply r)
 
 abbrev pub visitRequest : ℕ → Msisdn → List ℕ → Option Request → Record → Visited
 visitRequest flags requester reply none r = visited (error 36) reply r
@@ -138,6 +146,7 @@ visit list delay (request requester scheme string reply) r = visitRequest (flags
 visit list delay (framed requester message frame) r = visitInside (flagsOf list (requester .0)) requester frame (insideOf message) r
 visit list delay (sending now number buffer) r = visitSending delay (clockReading now) number buffer r
 visit list delay (result now number kind) r = visitResult kind (clockReading now) r
+visit list delay (terminal number holder reply) r = visitTerminal number holder reply r
 
 -- ---- a number that is not in the table
 
@@ -160,8 +169,17 @@ missedSending buffer =
 abbrev pub missedResult : Reply
 missedResult = record { answer = refusal 7; buffer = [] }
 
+abbrev pub missedTerminal : FunctionalNumber → Msisdn → List ℕ → Reply
+missedTerminal number holder reply =
+    decide
+    ((ltb (length reply) bufferRoom, record { answer = refusal 1; buffer = reply })
+    ∷ (not (bothNumbers number holder), record { answer = refusal 7; buffer = reply })
+    ∷ [])
+    (replySaying 41 reply)
+
 abbrev pub missed : List ℕ → Call → Reply
 missed list (request requester scheme string reply) = missedRequest (flagsOf list (requester .0)) reply (requestOf string)
 missed list (framed requester message frame) = missedInside (flagsOf list (requester .0)) frame (insideOf message)
 missed list (sending now number buffer) = missedSending buffer
 missed list (result now number kind) = missedResult
+missed list (terminal number holder reply) = missedTerminal number holder reply

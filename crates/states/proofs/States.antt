@@ -8,8 +8,9 @@ use lib.ListN.{length}
 use borrow.Author.Tests.{eq-eqb}
 use Rattle.answers.specs.Checks.{decide}
 use Rattle.answers.proofs.Tests.{and-left, and-right, and-both}
+use Rattle.numbers.specs.Numbers.{isNobody}
 use Rattle.records.specs.declared.Record.{Record}
-use Rattle.records.specs.Steps.{isNobody, isWaiting, isInFlight}
+use Rattle.records.specs.Steps.{isWaiting, isInFlight}
 use Rattle.rows.specs.Rows.{rowSound, recordAt, stored, recordSound, one}
 use Rattle.rows.proofs.Rows.{words-stored, record-sound, record-other, record-stored}
 use Rattle.tables.specs.Tables.{mostNumbers, rowsIn, tableSound}

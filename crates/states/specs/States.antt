@@ -6,8 +6,9 @@ use mathlib.Core.List.{List, [], _∷_}
 use lib.ListN.{getD}
 use lib.Dec.{eqb}
 use Rattle.answers.specs.Checks.{decide}
+use Rattle.numbers.specs.Numbers.{isNobody}
 use Rattle.records.specs.declared.Record.{Record}
-use Rattle.records.specs.Steps.{isNobody, isWaiting, isInFlight}
+use Rattle.records.specs.Steps.{isWaiting, isInFlight}
 use Rattle.rows.specs.Rows.{recordAt, stored, one}
 use Rattle.tables.specs.declared.Found.{Found}
 use Rattle.tables.specs.Tables.{tableSound, rowOf, recordFound, recordOf}

@@ -1,7 +1,7 @@
--- The additional field: its reader reads exactly its texts. Assumes nothing.
+-- The additional field: its reader reads exactly its texts, and a forced erasure's has no crew. Assumes nothing.
 use mathlib.Core.Path.{_≡_, refl, sym, ap, _∙_}
-use mathlib.Core.Bool.{true, false, _&&_}
-use mathlib.Core.Option.{none, some}
+use mathlib.Core.Bool.{Bool, true, false, not, cond, _&&_, and-false}
+use mathlib.Core.Option.{Option, none, some}
 use mathlib.Core.List.{List, [], _++_}
 use Prim.Native.Nat.{ℕ, _+_, _≤_, _<_}
 use native.Mathlib.Nat.{add-zero}
@@ -15,7 +15,13 @@ use Rattle.answers.proofs.Leading.{leading-stop, leading-front, leading-append}
 use Rattle.answers.proofs.Tests.{and-left, and-right}
 use Rattle.answers.proofs.Checks.{onlyIf-some}
 use Rattle.numbers.specs.Numbers.{isDigit}
-use Rattle.strings.specs.Text.{isAdditional, areAdditional, mostAdditional, hash}
+use Rattle.numbers.specs.declared.FunctionalNumber.{FunctionalNumber}
+use Rattle.numbers.specs.declared.Msisdn.{Msisdn}
+use Rattle.crews.specs.Crews.{crewOf, isBulk, counted, countOf}
+use Rattle.crews.specs.declared.Crew.the-variants.{Single}
+use Rattle.strings.specs.declared.Operation.the-variants.{Erase}
+use Rattle.strings.specs.declared.Erasing.the-variants.{Forced}
+use Rattle.strings.specs.Text.{isAdditional, areAdditional, mostAdditional, hash, isLead, crewAllowed}
 use Rattle.strings.specs.Reader.{leadingAdditional, additionalAt}
 use Rattle.answers.proofs.Begins.{begins-only}
 
@@ -72,3 +78,16 @@ additional-only s e = go (leadingAdditional s) (leading-front isAdditional s .pa
           are,
           sym (take-append-drop n s) ∙ ap (λ (r : List ℕ). take n s ++ r) rest,
         )
+
+-- ---- a crew in it
+
+-- none may stand in a forced erasure
+pub forced-crew :
+    (number : FunctionalNumber) (supervisor : Msisdn) (a : List ℕ) → crewAllowed Erase number (Forced supervisor) (countOf a) ≡ not (isBulk a)
+unfolding countOf
+forced-crew number supervisor a = go (isBulk a) (crewOf a)
+  where
+    go : (b : Bool) (o : Option (List ℕ)) → crewAllowed Erase number (Forced supervisor) (cond b (counted o) Single) ≡ not b
+    go false o = refl
+    go true none = refl
+    go true (some codes) = and-false (isLead number)

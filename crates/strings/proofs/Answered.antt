@@ -64,10 +64,6 @@ pub unread : (os text : List ℕ) → requestOf os ≡ none → text ≡ textBes
 unfolding reading
 unread os text e t = rw (e, t)
 
-pub unreadable : (os : List ℕ) → readable os ≡ false → requestOf os ≡ none
-unfolding requestOf
-unreadable os e = rw e
-
 pub read :
     (os text more : List ℕ) (r : Reading) → readable os ≡ true → told r (unpacked os) ≡ tell (unpacked os) (fieldsOf (unpacked os))
     → text ≡ unpacked os ++ more → text ≡ textBeside os → madeRead (record { reading = r; text = text }) ≡ reading os

@@ -7,17 +7,25 @@ use Prim.Native.Nat.{ℕ, _+_, _-_, _≤_}
 use native.Mathlib.Omega.{arith}
 use lib.ListN.{length, take, drop, length-drop}
 use lib.Seq.{length-take-le, drop-drop}
+use Rattle.answers.specs.Ascii.{ascii}
+use Rattle.answers.specs.Begins.{begins}
+use Rattle.answers.specs.Checks.{onlyIf}
 use Rattle.answers.proofs.Parts.{rest-of}
 use Rattle.crews.specs.Crews.{countOf}
+use Rattle.crews.specs.declared.Crew.{Crew}
 use Rattle.strings.specs.declared.Operation.{Operation}
+use Rattle.strings.specs.declared.Operation.the-variants.{Erase}
 use Rattle.strings.specs.declared.Erasing.{Erasing}
+use Rattle.strings.specs.declared.Erasing.the-variants.{Forced}
 use Rattle.strings.specs.declared.Fields.{Fields}
 use Rattle.strings.specs.declared.Reading.the-variants.{Read, Unreadable}
-use Rattle.strings.specs.Text.{requestFrom, crewKept}
+use Rattle.strings.specs.Text.{requestFrom, crewAllowed, crewKept}
 use Rattle.strings.specs.Reader.{Field, operationAt, serviceAt, numberFieldAt, erasingAt, additionalAt, fieldsOf}
 use Rattle.strings.specs.Outcomes.{requestIn, told, tell}
 use Rattle.strings.specs.Outcomes.Told.{fields}
+use Rattle.strings.specs.Notices.{supervisorFieldAt, noticeStringAt}
 use Rattle.strings.specs.Found.{Found, Served}
+use Rattle.strings.proofs.Additional.{forced-crew}
 
 -- ---- a field found in the rest of a text, said of the text
 
@@ -73,6 +81,42 @@ module _ (s : List ℕ) where
                 crewKept (requestFrom o (record { 0 = w }) x additional) ≡ true → fieldsOf s ≡ some (requestFrom o (record { 0 = w }) x additional)
             unfolding fieldsOf
             all-read e = rw (operation .found, service .found, number .found, erasing .found, found, e)
+
+-- ---- a notice's fields
+
+module _ (s : List ℕ) where
+  pub notice-other : begins (ascii "##214*") s ≡ false → noticeStringAt s ≡ none
+  unfolding noticeStringAt
+  notice-other e = rw e
+
+  module _ (begun : begins (ascii "##214*") s ≡ true) where
+    pub notice-no-number : numberFieldAt (drop 6 s) ≡ none → noticeStringAt s ≡ none
+    unfolding noticeStringAt
+    notice-no-number e = rw (begun, e)
+
+    module _ (w n : ℕ) (number : Found numberFieldAt s 6 w n) where
+      pub notice-no-88 : begins (ascii "88*") (drop n s) ≡ false → noticeStringAt s ≡ none
+      unfolding noticeStringAt
+      notice-no-88 e = rw (begun, number .found, e)
+
+      module _ (forced : begins (ascii "88*") (drop n s) ≡ true) where
+        pub notice-no-supervisor : supervisorFieldAt (drop (n + 3) s) ≡ none → noticeStringAt s ≡ none
+        unfolding noticeStringAt
+        notice-no-supervisor e = rw (begun, number .found, forced, drop-drop 3 n s, e)
+
+        module _ (x m : ℕ) (supervisor : Found supervisorFieldAt s (n + 3) x m) where
+          pub notice-no-additional : additionalAt (drop m s) ≡ none → noticeStringAt s ≡ none
+          unfolding noticeStringAt
+          notice-no-additional e = rw (begun, number .found, forced, drop-drop 3 n s, supervisor .found, e)
+
+          pub notice-read :
+              (additional : List ℕ) → additionalAt (drop m s) ≡ some additional → (crew : Crew) → crew ≡ countOf additional
+              → noticeStringAt s
+              ≡ onlyIf (crewAllowed Erase (record { 0 = w }) (Forced (record { 0 = x })) crew)
+              (record { number = record { 0 = w }; supervisor = record { 0 = x }; additional = additional })
+          unfolding noticeStringAt
+          notice-read additional e crew said =
+              rw (begun, number .found, forced, drop-drop 3 n s, supervisor .found, e, said, forced-crew (record { 0 = w }) (record { 0 = x }) additional)
 
 -- the additional field stands before the last character
 pub told-read :

@@ -1,20 +1,24 @@
 -- Each field's reader reads exactly the texts of its field, whatever stands behind them. Assumes nothing.
 use mathlib.Core.Path.{_≡_, refl, sym, ap, _∙_}
 use mathlib.Core.Logic.{_⊎_, inl, inr, ⊎-elim}
-use mathlib.Core.Bool.{Bool, true}
+use mathlib.Core.Bool.{Bool, true, false}
 use mathlib.Core.Option.{Option, none, some, Option·some-injective}
-use mathlib.Core.List.{List, _∷_, _++_, append-assoc}
+use mathlib.Core.List.{List, [], _∷_, _++_, append-assoc}
 use Prim.Native.Nat.{ℕ}
 use lib.ListN.{drop}
 use lib.Seq.{drop-append-seam}
+use lib.Dec.{eqb}
+use borrow.Author.Tests.{eqb-true}
 use Rattle.answers.specs.Begins.{begins, behind}
 use Rattle.answers.specs.Ascii.{ascii}
 use Rattle.answers.specs.Checks.{onlyIf}
-use Rattle.answers.proofs.Tests.{and-left, and-right, and-both}
+use Rattle.answers.specs.Leading.{leading}
+use Rattle.answers.proofs.Tests.{and-left, and-right, and-both, or-cases, or-right}
 use Rattle.answers.proofs.Checks.{not-some, bind-some, onlyIf-some}
-use Rattle.numbers.specs.Numbers.{isDigit, isNumber, digitsOf, leadingNumber}
+use Rattle.numbers.specs.Numbers.{isDigit, isNumber, numberOrNobody, digitsUpTo, digitsOf, leadingNumber}
 use Rattle.numbers.specs.declared.NumberRead.{NumberRead}
 use Rattle.numbers.specs.declared.NumberRead.the-variants.{Number, Unreadable}
+use Rattle.numbers.proofs.Lengths.{no-digits, nobody-or-number}
 use Rattle.numbers.proofs.Reading.{number-read-before, read-from}
 use Rattle.strings.specs.declared.Operation.{Operation}
 use Rattle.strings.specs.declared.Operation.the-variants.{Register, Erase, Interrogate}
@@ -22,6 +26,7 @@ use Rattle.strings.specs.declared.Erasing.{Erasing}
 use Rattle.strings.specs.declared.Erasing.the-variants.{Empty, Forced}
 use Rattle.strings.specs.Text.{operationText, serviceText, star, supervisorText, msisdnText, mayForce, erasingSound}
 use Rattle.strings.specs.Reader.{Field, fieldAt, orElse, operationAt, serviceAt, starredNumber, numberFieldAt, forcedAt, erasingAt}
+use Rattle.strings.specs.Notices.{supervisorFieldAt}
 use Rattle.answers.proofs.Begins.{begins-only, behind-only}
 
 -- a reader reads exactly the texts of what is sound, whatever stands behind them
@@ -94,6 +99,34 @@ number-exact = record { back = back; only = only }
               rw (append-assoc (digitsOf (f .got)) star (f .rest), ← (k .0), ← (k .1)) (m .front),
             )
         go Unreadable r d = not-some d
+
+-- a star is no number's
+pub number-not : (s : List ℕ) → numberFieldAt (star ++ s) ≡ none
+unfolding numberFieldAt leadingNumber leading isDigit
+number-not s = refl
+
+-- ---- a notice's supervisor and the star
+
+pub supervisor-exact : Exact supervisorFieldAt starred numberOrNobody
+unfolding begins supervisorFieldAt
+supervisor-exact = record { back = back; only = only }
+  where
+    named : (w : ℕ) (s : List ℕ) → isNumber w ≡ true → supervisorFieldAt (starred w ++ s) ≡ some (record { got = w; rest = s })
+    named w s h = go (begins star (starred w ++ s)) refl
+      where
+        go : (b : Bool) → begins star (starred w ++ s) ≡ b → supervisorFieldAt (starred w ++ s) ≡ some (record { got = w; rest = s })
+        go true e =
+            not-some (sym (number-not _) ∙ ap numberFieldAt (sym (begins-only star (starred w ++ s) e)) ∙ number-exact .back w s h)
+        go false e = rw e (number-exact .back w s h)
+
+    back : (w : ℕ) (s : List ℕ) → numberOrNobody w ≡ true → supervisorFieldAt (starred w ++ s) ≡ some (record { got = w; rest = s })
+    back w s h = nobody-or-number (λ x. supervisorFieldAt (starred x ++ s) ≡ some (record { got = x; rest = s })) w h (rw no-digits) (named w s)
+
+    only : (s : List ℕ) {f : Field ℕ} → supervisorFieldAt s ≡ some f → (numberOrNobody (f .got) ≡ true) × (s ≡ starred (f .got) ++ f .rest)
+    only s {f} e = ⊎-elim blank (λ d. let k = number-exact .only s d in (or-right (eqb (f .got) 0) (isNumber (f .got)) (k .0), k .1)) (else-some _ _ e)
+      where
+        blank : fieldAt 0 star s ≡ some f → (numberOrNobody (f .got) ≡ true) × (s ≡ starred (f .got) ++ f .rest)
+        blank d = let k = field-only 0 star s d in rw (← (k .0), no-digits) (refl, k .1)
 
 -- ---- supervisor field and MSISDN to erase, each with its star
 

@@ -1,21 +1,26 @@
--- Document 01's examples of strings, and a string of each class of document 02, M-100, computed from the definitions. Assumes nothing.
+-- Document 01's examples of strings, a string of each class of document 02, M-100, and M-111's notices, computed from the definitions. Assumes nothing.
 use mathlib.Core.Path.{_≡_, refl}
+use mathlib.Core.Bool.{false}
 use mathlib.Core.List.{List, [], _++_}
 use Prim.Native.Nat.{ℕ, _/_}
 use lib.ListN.{length, getD, replicate}
 use Rattle.answers.specs.Begins.{begins}
 use Rattle.answers.specs.Leading.{each, leading}
 use Rattle.answers.specs.Ascii.{ascii}
-use Rattle.numbers.specs.Numbers.{isDigit, pushed, storedForm, digitsUpTo, digitsOf, leadingNumber}
+use Rattle.numbers.specs.Numbers.{isDigit, pushed, storedForm, isNumber, nobody, digitsUpTo, digitsOf, leadingNumber}
+use Rattle.numbers.specs.declared.FunctionalNumber.{FunctionalNumber}
 use Rattle.crews.specs.Crews.{isCode, isIn, distinct, codesSound, codesIn, codesAt, soundCodesAt, spacedCodesAt, countedCodesAt, crewOf, countOf}
 use Rattle.crews.specs.declared.Crew.the-variants.{Single, Codes}
 use Rattle.packing.specs.Packing.{valueOf, digits, octetsFor, charsIn, padded, packed, characters, readable, filled, kept, unpacked}
-use Rattle.strings.specs.declared.Operation.the-variants.{Register}
-use Rattle.strings.specs.declared.Erasing.the-variants.{Empty}
-use Rattle.strings.specs.Text.{Request, isAdditional, textOf}
+use Rattle.strings.specs.declared.NoticeReading.{NoticeReading}
+use Rattle.strings.specs.declared.NoticeReading.the-variants.{Notice, Unreadable}
+use Rattle.strings.specs.declared.Operation.the-variants.{Register, Erase}
+use Rattle.strings.specs.declared.Erasing.the-variants.{Empty, Forced}
+use Rattle.strings.specs.Text.{Request, requestFrom, requestSound, isAdditional, textOf}
 use Rattle.strings.specs.Reader.{operationAt, serviceAt, numberFieldAt, forcedAt, erasingAt, additionalAt, fieldsOf}
 use Rattle.strings.specs.Outcomes.{requestOf, Told, reading}
 use Rattle.strings.specs.Outcomes.Told.{fields, error}
+use Rattle.strings.specs.Notices.{noticeText, noticeFields, supervisorFieldAt, noticeStringAt, noticeStringOf, noticeRead}
 
 -- what is told of a text, once it is packed
 unfoldable pub toldOf : List ℕ → Told
@@ -88,3 +93,42 @@ not-forced = refl
 pub not-a-lead : toldOf (ascii "**214*0492123402***BULK0#") ≡ error 36
 unfolding toldOf
 not-a-lead = refl
+
+-- ---- notices
+
+-- what a text reads as, as a notice, once it is packed
+unfoldable pub noticeToldOf : List ℕ → NoticeReading
+unfolding begins numberFieldAt leading additionalAt supervisorFieldAt noticeStringAt noticeStringOf isAdditional isDigit pushed storedForm leadingNumber valueOf digits octetsFor charsIn padded packed characters readable filled kept unpacked
+noticeToldOf text = noticeRead (noticeStringOf (packed text))
+
+abbrev number : FunctionalNumber
+number = record { 0 = 10492123401 }
+
+-- M-111: "`##214*0492123401*88**#`"
+pub blank-written : noticeText (noticeFields number nobody) ≡ ascii "##214*0492123401*88**#"
+unfolding noticeText noticeFields digitsUpTo digitsOf
+blank-written = refl
+
+pub blank-reads : (noticeToldOf (ascii "##214*0492123401*88**#") ≡ Notice number nobody) × (toldOf (ascii "##214*0492123401*88**#") ≡ error 36)
+unfolding noticeToldOf toldOf
+blank-reads = (refl, refl)
+
+-- the request writer refuses it, 9
+pub blank-not-written : requestSound (requestFrom Erase number (Forced nobody) []) ≡ false
+unfolding requestSound isNumber
+blank-not-written = refl
+
+pub supervisor-reads : noticeToldOf (ascii "##214*0492123401*88*4915100002*#") ≡ Notice number (record { 0 = 14915100002 })
+unfolding noticeToldOf
+supervisor-reads = refl
+
+-- the blank form too may have an additional field of up to 30 characters, and no crew
+pub blank-thirty :
+    (noticeToldOf (ascii "##214*0492123401*88**" ++ replicate 30 65 ++ ascii "#") ≡ Notice number nobody)
+    × (noticeToldOf (ascii "##214*0492123401*88**" ++ replicate 31 65 ++ ascii "#") ≡ Unreadable)
+unfolding noticeToldOf
+blank-thirty = (refl, refl)
+
+pub blank-no-crew : noticeToldOf (ascii "##214*0492123401*88**BULK0#") ≡ Unreadable
+unfolding noticeToldOf
+blank-no-crew = refl

@@ -1,4 +1,4 @@
--- What a number's field and the fields of an erasure come to, by the tests in their order. Assumes nothing.
+-- What a number's field, a notice's supervisor and the fields of an erasure come to, by the tests in their order. Assumes nothing.
 use mathlib.Core.Path.{_≡_}
 use mathlib.Core.Bool.{true, false}
 use mathlib.Core.Option.{none}
@@ -11,11 +11,14 @@ use Rattle.answers.specs.Begins.{begins}
 use Rattle.answers.specs.Ascii.{ascii}
 use Rattle.numbers.specs.Numbers.{leadingNumber}
 use Rattle.numbers.specs.declared.NumberRead.the-variants.{Number, Unreadable}
+use Rattle.strings.specs.declared.NumberFieldRead.{NumberFieldRead}
+use Rattle.strings.specs.declared.NumberFieldRead.the-variants.{Read as NumberField, Unreadable as NoNumber}
 use Rattle.strings.specs.declared.Operation.{Operation}
 use Rattle.strings.specs.declared.Erasing.the-variants.{Empty, Forced}
 use Rattle.strings.specs.Text.{mayForce, star}
 use Rattle.strings.specs.Reader.{numberFieldAt, forcedAt, erasingAt}
-use Rattle.strings.specs.Found.{Found}
+use Rattle.strings.specs.Notices.{supervisorFieldAt}
+use Rattle.strings.specs.Found.{Found, NumberFieldIs}
 use Rattle.answers.proofs.Begins.{begins-within}
 
 -- ---- a number and its star
@@ -32,6 +35,18 @@ module _ (s : List ℕ) (w n : ℕ) (read : leadingNumber s ≡ Number w n) wher
   pub number-found : begins star (drop n s) ≡ true → Found numberFieldAt s 0 w (n + 1)
   unfolding numberFieldAt
   number-found e = record { within = omega (arith, begins-within star (drop n s) e, length-drop n s); found = rw (read, e, drop-drop 1 n s) }
+
+-- ---- a notice's supervisor and the star
+
+module _ (s : List ℕ) where
+  pub supervisor-blank : begins star s ≡ true → Found supervisorFieldAt s 0 0 1
+  unfolding supervisorFieldAt
+  supervisor-blank e = record { within = begins-within star s e; found = rw e }
+
+  pub supervisor-named : (r : NumberFieldRead) → begins star s ≡ false → NumberFieldIs numberFieldAt r s → NumberFieldIs supervisorFieldAt r s
+  unfolding supervisorFieldAt
+  supervisor-named (NumberField w n) e k = record { within = k .within; found = rw e (k .found) }
+  supervisor-named NoNumber e k = rw e k
 
 -- ---- supervisor field and MSISDN to erase, each with its star
 

@@ -1,31 +1,28 @@
--- Sound fields part by part, and their text: field behind field, its characters and its length. Assumes nothing.
+-- Sound fields part by part, and the text that is written from fields: field behind field, its characters and its length. Assumes nothing.
 use mathlib.Core.Path.{_≡_, refl}
 use mathlib.Core.Logic.{⊎-elim}
 use mathlib.Core.Bool.{true, false, _&&_, _||_, and-true, and-false}
 use mathlib.Core.List.{List, _++_, append-assoc}
-use Prim.Native.Nat.{ℕ, _≤_, _<_}
+use Prim.Native.Nat.{ℕ, _+_, _≤_, _<_}
 use native.Mathlib.Omega.{arith}
 use lib.ListN.{length, length-append}
 use lib.Dec.{leb, eqb}
 use borrow.Author.Tests.{leb-true, le-leb, lt-leb, eqb-true, lt-ltb, ne-eqb}
 use Rattle.answers.specs.Leading.{each}
-use Rattle.answers.specs.Ascii.{ascii}
-use Rattle.answers.specs.Begins.{begins}
 use Rattle.answers.proofs.Leading.{each-append, each-implies, each-leading}
-use Rattle.answers.proofs.Tests.{and-left, and-right, or-cases}
-use Rattle.numbers.specs.Numbers.{isDigit, isNumber, digitsOf}
-use Rattle.numbers.proofs.Digits.{digits-are, digits-most}
-use Rattle.numbers.specs.declared.FunctionalNumber.{FunctionalNumber}
+use Rattle.answers.proofs.Tests.{and-left, and-right, or-cases, or-right}
+use Rattle.numbers.specs.Numbers.{isDigit, isNumber, isNobody, numberOrNobody, digitsOf}
 use Rattle.numbers.specs.declared.Msisdn.{Msisdn}
-use Rattle.crews.specs.Crews.{countOf}
-use Rattle.packing.specs.Packing.{taken, takes, octetsFor, packed}
-use Rattle.packing.proofs.Laws.{length-packed}
+use Rattle.numbers.proofs.Digits.{digits-are, digits-most}
+use Rattle.numbers.proofs.Lengths.{no-digits, nobody-or-number}
+use Rattle.packing.specs.Packing.{taken, takes, octetsFor}
 use Rattle.strings.specs.declared.Operation.{Operation}
 use Rattle.strings.specs.declared.Operation.the-variants.{Register, Erase, Interrogate}
 use Rattle.strings.specs.declared.Erasing.{Erasing}
 use Rattle.strings.specs.declared.Erasing.the-variants.{Empty, Forced}
-use Rattle.strings.specs.Text.{Request, isAdditional, areAdditional, mostAdditional, mayForce, erasingSound, crewKept, requestSound, operationText, serviceText, star, hash, textOf, noticeFields, mostCharacters, mostOctets}
+use Rattle.strings.specs.Text.{Request, isAdditional, areAdditional, mostAdditional, mayForce, erasingSound, crewKept, requestSound, operationText, serviceText, star, hash, textOf, mostCharacters, mostOctets}
 use Rattle.strings.specs.Reader.{leadingAdditional}
+use Rattle.strings.specs.Writable.{msisdnWritable, Writable}
 use Rattle.strings.proofs.Exact.{starred, erasingText}
 
 -- the rules that sound fields keep, one by one
@@ -57,6 +54,16 @@ sound-rules f h =
 pub rules-sound : (f : Request) → Rules f → requestSound f ≡ true
 unfolding requestSound
 rules-sound f r = rw (r .number, r .erasing, r .few, r .additional) (r .crew)
+
+-- their text can be written
+pub sound-writable : (f : Request) → requestSound f ≡ true → Writable f
+sound-writable f h =
+    let r = sound-rules f h in
+    record { number = r .number; msisdn = named (f .operation) (f .erasing) (r .erasing); few = r .few; additional = r .additional }
+  where
+    named : (o : Operation) (e : Erasing) → erasingSound o e ≡ true → msisdnWritable e ≡ true
+    named o Empty k = refl
+    named o (Forced m) k = or-right (isNobody m) (isNumber (m .0)) (and-right (mayForce o) (isNumber (m .0)) k)
 
 -- the tests as the writer makes them
 pub unsound-many : (f : Request) → mostAdditional < length (f .additional) → requestSound f ≡ false
@@ -106,23 +113,17 @@ digit-additional c h = rw h
 both-taken : (a b : List ℕ) → takes a ≡ true → takes b ≡ true → takes (a ++ b) ≡ true
 both-taken a b p q = rw (each-append taken a b, p) q
 
--- an MSISDN that is named is a number
-pub sound-erasing : (o : Operation) (e : Erasing) → erasingSound o e ≡ true → erasingSound Erase e ≡ true
-sound-erasing o Empty h = refl
-sound-erasing o (Forced m) h = and-right (mayForce o) (isNumber (m .0)) h
-
 starred-taken : (w : ℕ) → isNumber w ≡ true → takes (starred w) ≡ true
 starred-taken w h =
     both-taken (digitsOf w) star (each-implies isDigit taken (λ c d. additional-taken c (digit-additional c d)) (digitsOf w) (digits-are w h)) (unfold each taken in refl)
 
-pub text-taken : (f : Request) → requestSound f ≡ true → takes (textOf f) ≡ true
+pub text-taken : (f : Request) → Writable f → takes (textOf f) ≡ true
 unfolding each taken
-text-taken f h =
-    let r = sound-rules f h in
+text-taken f r =
     rw (text-fields f)
     (both-taken (operationText (f .operation)) _ (operation (f .operation))
     (both-taken (starred (f .number .0)) _ (starred-taken (f .number .0) (r .number))
-    (both-taken (erasingText (f .erasing)) _ (erasing (f .erasing) (r .erasing))
+    (both-taken (erasingText (f .erasing)) _ (erasing (f .erasing) (r .msisdn))
     (both-taken (f .additional) hash (each-implies isAdditional taken additional-taken (f .additional) (r .additional)) refl))))
   where
     operation : (o : Operation) → takes (operationText o) ≡ true
@@ -130,9 +131,9 @@ text-taken f h =
     operation Erase = refl
     operation Interrogate = refl
 
-    erasing : (e : Erasing) → erasingSound (f .operation) e ≡ true → takes (erasingText e) ≡ true
+    erasing : (e : Erasing) → msisdnWritable e ≡ true → takes (erasingText e) ≡ true
     erasing Empty k = refl
-    erasing (Forced m) k = starred-taken (m .0) (sound-erasing (f .operation) (Forced m) k)
+    erasing (Forced m) k = nobody-or-number (λ w. takes (starred w) ≡ true) (m .0) k (rw no-digits) (starred-taken (m .0))
 
 -- ---- its length, as it grows
 
@@ -158,45 +159,34 @@ before-number f = go (f .operation)
     go Erase = refl
     go Interrogate = refl
 
-pub before-erasing : (f : Request) → requestSound f ≡ true → length (beforeErasing f) ≤ 22
-before-erasing f h =
-    simp (length-append (beforeNumber f), length-append (digitsOf (f .number .0)))
-    (omega (arith, before-number f, digits-most (f .number .0) (sound-rules f h .number)))
+pub before-erasing : (f : Request) → Writable f → length (beforeErasing f) ≤ 22
+before-erasing f r =
+    simp (length-append (beforeNumber f), length-append (digitsOf (f .number .0))) (omega (arith, before-number f, digits-most (f .number .0) (r .number)))
 
-pub before-additional : (f : Request) → requestSound f ≡ true → length (beforeAdditional f) ≤ 41
-before-additional f h = simp (length-append (beforeErasing f)) (omega (arith, before-erasing f h, go (f .erasing) (sound-rules f h .erasing)))
+pub supervisor-most : (s : Msisdn) → numberOrNobody (s .0) ≡ true → length (digitsOf (s .0)) ≤ 15
+supervisor-most s h = nobody-or-number (λ w. length (digitsOf w) ≤ 15) (s .0) h (rw no-digits (omega arith)) (digits-most (s .0))
+
+pub before-additional : (f : Request) → Writable f → length (beforeAdditional f) ≤ 41
+before-additional f r = simp (length-append (beforeErasing f)) (omega (arith, before-erasing f r, go (f .erasing) (r .msisdn)))
   where
-    go : (e : Erasing) → erasingSound (f .operation) e ≡ true → length (erasingText e) ≤ 19
+    go : (e : Erasing) → msisdnWritable e ≡ true → length (erasingText e) ≤ 19
     go Empty k = omega arith
-    go (Forced m) k = simp length-append (omega (arith, digits-most (m .0) (sound-erasing (f .operation) (Forced m) k)))
+    go (Forced m) k = simp length-append (omega (arith, supervisor-most m k))
 
+pub text-length : (f : Request) → Writable f → length (textOf f) ≤ 42 + length (f .additional)
+text-length f r =
+    rw (text-grows f, length-append (beforeAdditional f) (f .additional ++ hash), length-append (f .additional) hash) (omega (arith, before-additional f r))
+
+pub writable-short : (f : Request) → Writable f → length (textOf f) ≤ mostCharacters
+writable-short f r = omega (arith, text-length f r, leb-true (length (f .additional)) mostAdditional (r .few))
+
+pub writable-octets : (f : Request) → Writable f → octetsFor (length (textOf f)) ≤ mostOctets
+unfolding octetsFor
+writable-octets f r = omega (arith, writable-short f r)
+
+-- the same of sound fields
 pub text-short : (f : Request) → requestSound f ≡ true → length (textOf f) ≤ mostCharacters
-text-short f h =
-    rw (text-grows f, length-append (beforeAdditional f) (f .additional ++ hash), length-append (f .additional) hash)
-    (omega (arith, before-additional f h, leb-true (length (f .additional)) mostAdditional (sound-rules f h .few)))
+text-short f h = writable-short f (sound-writable f h)
 
 pub octets-short : (f : Request) → requestSound f ≡ true → octetsFor (length (textOf f)) ≤ mostOctets
-unfolding octetsFor
-octets-short f h = omega (arith, text-short f h)
-
--- ---- the notice
-
--- `##214*` number `*88*` supervisor `*#`
-pub notice-text :
-    (n : FunctionalNumber) (s : Msisdn)
-    → textOf (noticeFields n s) ≡ ascii "##214*" ++ (digitsOf (n .0) ++ (ascii "*88*" ++ (digitsOf (s .0) ++ ascii "*#")))
-unfolding textOf noticeFields
-notice-text n s = refl
-
-module _ (n : FunctionalNumber) (s : Msisdn) (number : isNumber (n .0) ≡ true) (supervisor : isNumber (s .0) ≡ true) where
-  pub notice-sound : requestSound (noticeFields n s) ≡ true
-  unfolding requestSound noticeFields each begins countOf
-  notice-sound = rw (number, supervisor)
-
-  -- at most 42 characters, 37 octets: a notice fits the 80 octets of its buffer
-  pub notice-short : length (textOf (noticeFields n s)) ≤ 42
-  notice-short = rw (notice-text n s) (simp length-append (omega (arith, digits-most (n .0) number, digits-most (s .0) supervisor)))
-
-  pub notice-octets : length (packed (textOf (noticeFields n s))) ≤ 37
-  unfolding octetsFor
-  notice-octets = rw (length-packed (textOf (noticeFields n s))) (omega (arith, notice-short))
+octets-short f h = writable-octets f (sound-writable f h)

@@ -16,7 +16,7 @@ use Rattle.strings.specs.declared.ErasingRead.{ErasingRead}
 use Rattle.strings.specs.declared.ErasingRead.the-variants.{Read as ErasingField, Unreadable as NoErasing}
 use Rattle.strings.specs.declared.AdditionalRead.{AdditionalRead}
 use Rattle.strings.specs.declared.AdditionalRead.the-variants.{Read as AdditionalField, Unreadable as NoAdditional}
-use Rattle.strings.specs.Reader.{Field, operationAt, serviceAt, numberFieldAt, erasingAt, additionalAt}
+use Rattle.strings.specs.Reader.{Field, operationAt, serviceAt, erasingAt, additionalAt}
 
 -- the reader finds x in s from one place up to another
 pub record Found {X : Type 0} (reader : List ℕ → Option (Field X)) (s : List ℕ) (at : ℕ) (x : X) (end : ℕ) : Type 0 where
@@ -36,9 +36,10 @@ abbrev pub ServiceIs : ServiceRead → List ℕ → Type 0
 ServiceIs (ServiceField n) s = Served s 0 n
 ServiceIs NoService s = serviceAt s ≡ none
 
-abbrev pub NumberFieldIs : NumberFieldRead → List ℕ → Type 0
-NumberFieldIs (NumberField w n) s = Found numberFieldAt s 0 w n
-NumberFieldIs NoNumber s = numberFieldAt s ≡ none
+-- of a number, or of a notice's supervisor
+abbrev pub NumberFieldIs : (List ℕ → Option (Field ℕ)) → NumberFieldRead → List ℕ → Type 0
+NumberFieldIs reader (NumberField w n) s = Found reader s 0 w n
+NumberFieldIs reader NoNumber s = reader s ≡ none
 
 abbrev pub ErasingIs : Operation → ErasingRead → List ℕ → Type 0
 ErasingIs o (ErasingField e n) s = Found (erasingAt o) s 0 e n

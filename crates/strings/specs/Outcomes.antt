@@ -1,6 +1,6 @@
 -- What the reader and the writer of the packed request string answer and leave, for every input. Assumes nothing.
 use Prim.Native.Nat.{ℕ, _-_}
-use mathlib.Core.Bool.{not, cond}
+use mathlib.Core.Bool.{not}
 use mathlib.Core.Option.{Option, none, some}
 use mathlib.Core.List.{List}
 use lib.ListN.{length, take, drop, replicate}
@@ -8,18 +8,18 @@ use lib.Dec.{ltb}
 use Rattle.answers.specs.Writing.{WriteOutcome, writing}
 use Rattle.crews.specs.Crews.{countOf}
 use Rattle.crews.specs.declared.Crew.{Crew}
-use Rattle.packing.specs.Packing.{packed, readable, unpacked}
+use Rattle.packing.specs.Packing.{packed, unpacked}
 use Rattle.packing.specs.Outcomes.{unpacking}
 use Rattle.strings.specs.declared.Fields.{Fields}
 use Rattle.strings.specs.declared.Reading.{Reading}
 use Rattle.strings.specs.declared.Reading.the-variants.{Read, Unreadable}
 use Rattle.strings.specs.declared.ReadRequest.{ReadRequest}
 use Rattle.strings.specs.Text.{Request, requestSound, textOf, mostCharacters}
-use Rattle.strings.specs.Reader.{fieldsOf}
+use Rattle.strings.specs.Reader.{unpackedBy, fieldsOf}
 
 -- what the packed string reads as: nothing where its bits are unreadable or it breaks its rules
 unfoldable pub requestOf : List ℕ → Option Request
-requestOf os = cond (readable os) (fieldsOf (unpacked os)) none
+requestOf os = unpackedBy fieldsOf os
 
 -- in the paper's words: the fields, with the place of the additional field in the text and what it says of a crew, or an error by its number
 pub data Told : Type 0 where

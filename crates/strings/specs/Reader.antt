@@ -1,6 +1,6 @@
 -- Document 01, "Request string": how the fields are read from a text. "Each field is read from the remaining part of the string; the first field that cannot be read ends the reading with error 36." Assumes nothing.
 use Prim.Native.Nat.{ℕ, _+_}
-use mathlib.Core.Bool.{_&&_}
+use mathlib.Core.Bool.{cond, _&&_}
 use mathlib.Core.Option.{Option, none, some}
 use mathlib.Core.List.{List, _++_}
 use lib.ListN.{length, take, drop}
@@ -9,6 +9,7 @@ use Rattle.answers.specs.Ascii.{ascii}
 use Rattle.answers.specs.Begins.{begins, behind}
 use Rattle.answers.specs.Leading.{leading}
 use Rattle.answers.specs.Checks.{_>>=_, onlyIf}
+use Rattle.packing.specs.Packing.{readable, unpacked}
 use Rattle.numbers.specs.Numbers.{leadingNumber}
 use Rattle.numbers.specs.declared.NumberRead.{NumberRead}
 use Rattle.numbers.specs.declared.NumberRead.the-variants.{Number, Unreadable}
@@ -17,6 +18,10 @@ use Rattle.strings.specs.declared.Operation.the-variants.{Register, Eras
 use Rattle.strings.specs.declared.Erasing.{Erasing}
 use Rattle.strings.specs.declared.Erasing.the-variants.{Empty, Forced}
 use Rattle.strings.specs.Text.{Request, requestFrom, mayForce, crewKept, isAdditional, mostAdditional, operationText, serviceText, star, hash}
+
+-- what packed octets read as, by a reader of their characters: nothing where their bits are unreadable
+abbrev pub unpackedBy : {X : Type 0} → (List ℕ → Option X) → List ℕ → Option X
+unpackedBy reader os = cond (readable os) (reader (unpacked os)) none
 
 -- a field that was read, and what is left of the string
 pub record Field (X : Type 0) : Type 0 where

@@ -9,7 +9,6 @@ use Rattle.answers.specs.Joined.{joined}
 use Rattle.answers.specs.Leading.{each}
 use Rattle.numbers.specs.Numbers.{isDigit, isNumber, digitsOf}
 use Rattle.numbers.specs.declared.FunctionalNumber.{FunctionalNumber}
-use Rattle.numbers.specs.declared.Msisdn.{Msisdn}
 use Rattle.crews.specs.Crews.{leadCode, countOf}
 use Rattle.crews.specs.declared.Crew.{Crew}
 use Rattle.crews.specs.declared.Crew.the-variants.{Single, Codes, Broken}
@@ -116,10 +115,6 @@ textOf f = joined
     ∷ f .additional
     ∷ hash
     ∷ [])
-
--- "Notices": `##214*` number `*88*` supervisor `*#`, the text of a forced erasure with the supervisor in the MSISDN's place
-unfoldable pub noticeFields : FunctionalNumber → Msisdn → Request
-noticeFields number supervisor = record { operation = Erase; number = number; erasing = Forced supervisor; additional = [] }
 
 -- "data coding scheme is not 0x0F": the scheme of a request's string
 abbrev pub codingScheme : ℕ

@@ -1,4 +1,4 @@
-// The request string: its fields, and the reader of its packed octets.
+// The request string and the notice: their fields, and the readers of their packed octets.
 use answers::Written;
 use answers::begins_with;
 use crews::Crew;
@@ -10,9 +10,10 @@ ghost use mathlib.Core.Path.{_≡_};
 ghost use mathlib.Core.Bool.{true};
 ghost use Prim.Native.Nat.{_+_, _<_};
 ghost use Rattle.strings.specs.Text.{isAdditional, mayForce, mayCarry, crewAllowed};
-ghost use Rattle.strings.specs.Reader.{leadingAdditional, fieldsOf};
+ghost use Rattle.strings.specs.Reader.{numberFieldAt, leadingAdditional, fieldsOf};
 ghost use Rattle.strings.specs.Found.{OperationIs, ServiceIs, NumberFieldIs, ErasingIs, AdditionalIs};
 ghost use Rattle.strings.specs.Outcomes.{told, tell, madeRead, reading};
+ghost use Rattle.strings.specs.Notices.{supervisorFieldAt, noticeStringAt, noticeStringOf, noticeRead};
 
 // An additional field has at most so many characters.
 pub const MOST_ADDITIONAL: usize = 30;
@@ -56,6 +57,12 @@ pub enum Reading {
 pub struct ReadRequest {
     pub reading: Reading,
     pub text: [u8; MOST_CHARACTERS],
+}
+
+// A notice's number and its supervisor, 0 where the MSISDN is blank; or octets that are no notice's.
+pub enum NoticeReading {
+    Notice(FunctionalNumber, Msisdn),
+    Unreadable,
 }
 
 // What a field's reader answers: the field at the front of a part and how far it reaches, or that it cannot be read.
@@ -112,7 +119,7 @@ fn read_service(part: &[u8]) -> ServiceRead
 
 // A number and its star.
 fn read_number_field(part: &[u8]) -> NumberFieldRead
-    ensures { λ r. ⌜ NumberFieldIs r (now (part .entry)) ⌝ }
+    ensures { λ r. ⌜ NumberFieldIs numberFieldAt r (now (part .entry)) ⌝ }
 {
     let NumberRead::Number(word, n) = numbers::read_number(part) else {
         return NumberFieldRead::Unreadable;
@@ -270,4 +277,54 @@ pub fn read_request(octets: &[u8]) -> ReadRequest
     };
     let reading = read_fields(&text[..n]);
     ReadRequest { reading, text }
+}
+
+// A notice's supervisor: a number and its star, or the star alone.
+fn read_supervisor(part: &[u8]) -> NumberFieldRead
+    ensures { λ r. ⌜ NumberFieldIs supervisorFieldAt r (now (part .entry)) ⌝ }
+{
+    if begins_with(part, b"*") {
+        return NumberFieldRead::Read(0, 1);
+    }
+    read_number_field(part)
+}
+
+// The fields of a notice's text, each read from the rest of it.
+fn read_notice_fields(text: &[u8]) -> NoticeReading
+    ensures { λ r. ⌜ r ≡ noticeRead (noticeStringAt (now (text .entry))) ⌝ }
+{
+    if !begins_with(text, b"##214*") {
+        return NoticeReading::Unreadable;
+    }
+    let NumberFieldRead::Read(word, n) = read_number_field(&text[6..]) else {
+        return NoticeReading::Unreadable;
+    };
+    let number = FunctionalNumber(word);
+    let cursor = 6 + n;
+    if !begins_with(&text[cursor..], b"88*") {
+        return NoticeReading::Unreadable;
+    }
+    let cursor = cursor + 3;
+    let NumberFieldRead::Read(word, n) = read_supervisor(&text[cursor..]) else {
+        return NoticeReading::Unreadable;
+    };
+    let supervisor = Msisdn(word);
+    let AdditionalRead::Read(_, crew) = read_additional(&text[cursor + n..]) else {
+        return NoticeReading::Unreadable;
+    };
+    if !crew_allowed(Operation::Erase, number, Erasing::Forced(supervisor), crew) {
+        return NoticeReading::Unreadable;
+    }
+    NoticeReading::Notice(number, supervisor)
+}
+
+// Reads a packed notice; octets of too many characters for any, or with unreadable bits, are no notice's.
+pub fn read_notice(octets: &[u8]) -> NoticeReading
+    ensures { λ r. ⌜ r ≡ noticeRead (noticeStringOf (now (octets .entry))) ⌝ }
+{
+    let mut text = [0u8; MOST_CHARACTERS];
+    let Written::Count(n) = packing::unpack(octets, &mut text) else {
+        return NoticeReading::Unreadable;
+    };
+    read_notice_fields(&text[..n])
 }

@@ -10,8 +10,9 @@ use lib.Seq.{drop-at, getD-append-add}
 use Rattle.answers.specs.Joined.{joined}
 use Rattle.answers.proofs.Tests.{and-left, and-right}
 use Rattle.answers.proofs.Checks.{not-some}
+use Rattle.numbers.specs.Numbers.{isNobody}
 use Rattle.records.specs.declared.Record.{Record}
-use Rattle.records.specs.Steps.{isNobody, isAbsent, hasRunOut}
+use Rattle.records.specs.Steps.{isAbsent, hasRunOut}
 use Rattle.rows.specs.Rows.{rowWords, recordAt}
 use Rattle.rows.proofs.Notices.{absent-still}
 use Rattle.tables.specs.Tables.{rowsIn, tableSound, recordOf}

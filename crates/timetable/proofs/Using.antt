@@ -10,9 +10,10 @@ use lib.Seq.{length-take-le, take-take}
 use borrow.Author.Tests.{lt-ltb, le-ltb, ltb-false}
 use Rattle.answers.specs.Checks.{decide}
 use Rattle.answers.proofs.Tests.{and-no}
+use Rattle.numbers.specs.Numbers.{isNobody}
 use Rattle.records.specs.declared.Notice.the-variants.{Absent}
 use Rattle.records.specs.declared.Record.{Record}
-use Rattle.records.specs.Steps.{isNobody, isAbsent, hasRunOut}
+use Rattle.records.specs.Steps.{isAbsent, hasRunOut}
 use Rattle.rows.specs.Rows.{rowWords, rowSound, row}
 use Rattle.tables.specs.Tables.{rowsIn, tableSound}
 use Rattle.tables.proofs.Sound.{table-row}

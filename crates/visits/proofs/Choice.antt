@@ -1,4 +1,4 @@
--- For each of the four calls and for each visit to a row, two outcomes that its contract allows are equal: answer, table, figures and every octet. Assumes nothing.
+-- For each of the node's calls and for each visit to a row, two outcomes that its contract allows are equal: answer, table, figures and every octet. Assumes nothing.
 use mathlib.Core.Path.{_≡_, refl, sym, ap, _∙_}
 use mathlib.Core.List.{List}
 use Prim.Native.Nat.{ℕ}

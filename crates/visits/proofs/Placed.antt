@@ -4,10 +4,10 @@ use mathlib.Core.Bool.{Bool, true, false, not, cond}
 use mathlib.Core.List.{List, [], _∷_}
 use Prim.Native.Nat.{ℕ, _<_}
 use native.Mathlib.Omega.{arith}
-use Rattle.numbers.specs.Numbers.{isNumber, twoDigits}
+use Rattle.numbers.specs.Numbers.{isNumber, numberOrNobody, twoDigits, isNobody}
 use Rattle.numbers.specs.declared.FunctionalNumber.{FunctionalNumber}
 use Rattle.numbers.specs.declared.Msisdn.{Msisdn}
-use Rattle.strings.specs.Text.{textOf, noticeFields}
+use Rattle.strings.specs.Notices.{noticeText, noticeFields}
 use Rattle.answers.specs.Checks.{decide}
 use Rattle.answers.specs.Writing.{Stands}
 use Rattle.packing.specs.Packing.{packed}
@@ -21,7 +21,7 @@ use Rattle.records.specs.declared.Holder.the-variants as holder
 use Rattle.records.specs.declared.Resulted.{Resulted}
 use Rattle.records.specs.declared.Resulted.the-variants.{Refused, Delivered, Dropped, Again}
 use Rattle.rows.specs.Rows.{recordSound}
-use Rattle.records.specs.Steps.{isAbsent, isWaiting, isDue, isNobody, withNotice, launched, delayAllowed, interrogated, sent}
+use Rattle.records.specs.Steps.{isAbsent, isWaiting, isDue, withNotice, launched, delayAllowed, interrogated, sent}
 use Rattle.rows.proofs.Kept.{holder-number, pending-words}
 use Rattle.tables.specs.Tables.{rowsIn}
 use Rattle.states.specs.States.{State, stateSound, recordIn, storedIn}
@@ -66,8 +66,8 @@ module _ (t : State) (i : ℕ) (step : Resulted) where
     pub result-again : step ≡ Again next → made again new [] ≡ storing t i (resultStep (recordIn t i) step)
     result-again e = rw (e, stores)
 
--- a notice that is sent has a supervisor
-pub sent-supervisor : (delay clock : ℕ) (r next : Record) → recordSound r ≡ true → sent delay clock r ≡ launches.Launched next → isNumber (r .supervisor .0) ≡ true
+-- the supervisor of a notice that is sent is a number, or nobody
+pub sent-supervisor : (delay clock : ℕ) (r next : Record) → recordSound r ≡ true → sent delay clock r ≡ launches.Launched next → numberOrNobody (r .supervisor .0) ≡ true
 unfolding sent
 sent-supervisor delay clock r next sound e = pending-words r sound (go (delayAllowed delay) (r .notice) e) .supervised
   where
@@ -86,11 +86,11 @@ module _ (t : State) (i : ℕ) (b : List ℕ) (number : FunctionalNumber) (step 
 
   pub sending-placed :
       (next r : Record) (new : State) (after : List ℕ) (octets : ℕ) → step ≡ launches.Launched next → r ≡ recordIn t i → new ≡ storedIn t i next
-      → Stands (packed (textOf (noticeFields number (r .supervisor)))) b octets after
+      → Stands (packed (noticeText (noticeFields number (r .supervisor)))) b octets after
       → made (sentTo (r .addressee .0) octets) new after ≡ storing t i (sentStep number b (recordIn t i) step)
   sending-placed next r new after octets e same stores w = rw (e, w .buffer, w .count)
       (ap (λ u. made (sent r .0) u (sent r .1)) stores ∙ ap (λ x. made (sent x .0) (storedIn t i next) (sent x .1)) same)
     where
       -- what a record's notice gets
       sent : Record → Answer × List ℕ
-      sent x = let text = textOf (noticeFields number (x .supervisor)) in (sentTo (x .addressee .0) (octetCount text), packedOver text b)
+      sent x = let text = noticeText (noticeFields number (x .supervisor)) in (sentTo (x .addressee .0) (octetCount text), packedOver text b)

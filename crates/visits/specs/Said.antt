@@ -1,4 +1,4 @@
--- The paper's class, number and values for each case of the four calls' answers. Assumes nothing.
+-- The paper's class, number and values for each case of the answers of the node's calls. Assumes nothing.
 use Rattle.rules.specs.Answers.{Answer, refusal, error, outcome, holderIs, sentTo, delivered, dropped, again, found, noneDue}
 use Rattle.visits.specs.declared.RequestAnswer.{RequestAnswer}
 use Rattle.visits.specs.declared.RequestAnswer.the-variants as request

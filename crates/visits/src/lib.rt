@@ -1,4 +1,4 @@
-// A call's visit to the row of its number: the record is read, a step of it taken and stored, and what the step says is written. The answers of the four calls.
+// A call's visit to the row of its number: the record is read, a step of it taken and stored, and what the step says is written. The answers of the node's calls.
 use answers::Written;
 use numbers::FunctionalNumber;
 use numbers::Msisdn;

@@ -9,9 +9,9 @@ use lib.Dec.{eqb, leb}
 use lib.ListN.{length-append}
 use borrow.Author.Tests.{eqb-true, eqb-false}
 use Rattle.answers.proofs.Tests.{and-right}
-use Rattle.numbers.specs.Numbers.{isNumber}
+use Rattle.numbers.specs.Numbers.{isNumber, isNobody}
 use Rattle.records.specs.declared.Record.{Record}
-use Rattle.records.specs.Steps.{isNobody, isAbsent, hasRunOut}
+use Rattle.records.specs.Steps.{isAbsent, hasRunOut}
 use Rattle.rows.specs.Rows.{one}
 use Rattle.tables.specs.declared.Found.{Found}
 use Rattle.tables.specs.declared.Found.the-variants.{At, Nothing}

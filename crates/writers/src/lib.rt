@@ -13,10 +13,11 @@ ghost use Prim.Native.Nat.{_+_, _<_, _≤_};
 ghost use lib.ListN.{length};
 ghost use Rattle.answers.specs.Writing.{madeWrite, Stands};
 ghost use Rattle.packing.specs.Packing.{packed};
-ghost use Rattle.numbers.specs.Numbers.{mostDigits, isNumber, digitsOf, numeral};
-ghost use Rattle.strings.specs.declared.Operation.the-variants.{Erase};
-ghost use Rattle.strings.specs.Text.{erasingSound, requestFrom, requestSound, operationText, serviceText, star, hash, supervisorText, msisdnText, textOf, noticeFields, mostCharacters, mostOctets};
+ghost use Rattle.numbers.specs.Numbers.{mostDigits, isNumber, numberOrNobody, digitsOf, numeral};
+ghost use Rattle.strings.specs.Text.{erasingSound, requestFrom, requestSound, operationText, serviceText, star, hash, supervisorText, msisdnText, textOf, mostCharacters, mostOctets};
 ghost use Rattle.strings.specs.Outcomes.{writingRequest};
+ghost use Rattle.strings.specs.Notices.{noticeText, noticeFields};
+ghost use Rattle.strings.specs.Writable.{msisdnWritable, Writable};
 
 // The buffer of a request's writer has at least so many octets.
 pub const WRITER_ROOM: usize = 160;
@@ -77,9 +78,21 @@ fn put_number(word: u64, out: &mut [u8]) -> usize
     at + put(b"*", &mut out[at..])
 }
 
-// Writes supervisor field and MSISDN to erase, each with its star.
+// Writes an MSISDN's digits and the star; nobody has no digits.
+fn put_msisdn(msisdn: Msisdn, out: &mut [u8]) -> usize
+    requires { ⌜ numberOrNobody (msisdn .0) ≡ true ⌝ }
+    requires { ⌜ mostDigits < length (now out) ⌝ }
+    ensures { λ r. ⌜ Stands (digitsOf (msisdn .0) ++ star) (now (out .entry)) r (now (out .exit)) ⌝ }
+{
+    if msisdn.0 == 0 {
+        return put(b"*", out);
+    }
+    put_number(msisdn.0, out)
+}
+
+// Writes supervisor field and MSISDN, each with its star.
 fn put_erasing(erasing: Erasing, out: &mut [u8]) -> usize
-    requires { ⌜ erasingSound Erase erasing ≡ true ⌝ }
+    requires { ⌜ msisdnWritable erasing ≡ true ⌝ }
     requires { ⌜ 3 + mostDigits < length (now out) ⌝ }
     ensures { λ r. ⌜ Stands (supervisorText erasing ++ (star ++ (msisdnText erasing ++ star))) (now (out .entry)) r (now (out .exit)) ⌝ }
 {
@@ -87,7 +100,7 @@ fn put_erasing(erasing: Erasing, out: &mut [u8]) -> usize
         Erasing::Empty => put(b"**", out),
         Erasing::Forced(msisdn) => {
             let at = put(b"88*", out);
-            at + put_number(msisdn.0, &mut out[at..])
+            at + put_msisdn(msisdn, &mut out[at..])
         }
     }
 }
@@ -101,7 +114,7 @@ fn put_additional(additional: &[u8], out: &mut [u8]) -> usize
     at + put(b"#", &mut out[at..])
 }
 
-// Writes the text of sound fields.
+// Writes the text of fields, a request's or a notice's.
 fn write_text(
     operation: Operation,
     number: FunctionalNumber,
@@ -109,7 +122,7 @@ fn write_text(
     additional: &[u8],
     text: &mut [u8],
 ) -> usize
-    requires { ⌜ requestSound (requestFrom operation number erasing (now additional)) ≡ true ⌝ }
+    requires { ⌜ Writable (requestFrom operation number erasing (now additional)) ⌝ }
     requires { ⌜ mostCharacters ≤ length (now text) ⌝ }
     ensures { λ r. ⌜ Stands (textOf (requestFrom operation number erasing (now (additional .entry)))) (now (text .entry)) r (now (text .exit)) ⌝ }
 {
@@ -119,7 +132,7 @@ fn write_text(
     at + put_additional(additional, &mut text[at..])
 }
 
-// Writes the packed text of sound fields.
+// Writes the packed text of such fields.
 fn write_packed(
     operation: Operation,
     number: FunctionalNumber,
@@ -127,7 +140,7 @@ fn write_packed(
     additional: &[u8],
     out: &mut [u8],
 ) -> usize
-    requires { ⌜ requestSound (requestFrom operation number erasing (now additional)) ≡ true ⌝ }
+    requires { ⌜ Writable (requestFrom operation number erasing (now additional)) ⌝ }
     requires { ⌜ mostOctets ≤ length (now out) ⌝ }
     ensures { λ r. ⌜ Stands (packed (textOf (requestFrom operation number erasing (now (additional .entry))))) (now (out .entry)) r (now (out .exit)) ⌝ }
 {
@@ -190,11 +203,11 @@ pub fn write_request(
     Written::Count(write_packed(operation, number, erasing, additional, out))
 }
 
-// Writes a notice to a holder that was forced off: the packed string of a forced erasure, with the supervisor in the MSISDN's place.
+// Writes a notice to a holder that was forced off: the supervisor in the MSISDN's place, or nobody.
 pub fn write_notice(number: FunctionalNumber, supervisor: Msisdn, out: &mut [u8]) -> usize
-    requires { ⌜ (isNumber (number .0) ≡ true) × (isNumber (supervisor .0) ≡ true) ⌝ }
+    requires { ⌜ (isNumber (number .0) ≡ true) × (numberOrNobody (supervisor .0) ≡ true) ⌝ }
     requires { ⌜ mostOctets ≤ length (now out) ⌝ }
-    ensures { λ r. ⌜ Stands (packed (textOf (noticeFields number supervisor))) (now (out .entry)) r (now (out .exit)) ⌝ }
+    ensures { λ r. ⌜ Stands (packed (noticeText (noticeFields number supervisor))) (now (out .entry)) r (now (out .exit)) ⌝ }
 {
     write_packed(
         Operation::Erase,

@@ -259,8 +259,12 @@ fn calls(lines: &mut Vec<Line>, numbers: usize, subscribers: usize) {
     if subscribers > 0 {
         return;
     }
-    // A notice to send, and one in flight, set anew before each call.
-    let row = |phase: u64| [number, 0, phase, SUBSCRIBERS, SUBSCRIBERS + 3, 0, 0];
+    // A number that is held, or has a notice to send or one in flight, set anew
+    // before each call.
+    let row = |phase: u64| match phase {
+        0 => [number, SUBSCRIBERS, 0, 0, 0, 0, 0],
+        _ => [number, 0, phase, SUBSCRIBERS, SUBSCRIBERS + 3, 0, 0],
+    };
     let set = |t: &mut [u64], phase: u64| {
         if numbers > 0 {
             t[NUMBER_WORDS * middle..][..NUMBER_WORDS].copy_from_slice(&row(phase));
@@ -272,7 +276,33 @@ fn calls(lines: &mut Vec<Line>, numbers: usize, subscribers: usize) {
         set(&mut t, phase);
         figures(&t)
     };
-    let (waiting, flying) = (counted(&ours, 1), counted(&ours, 2));
+    let (held, waiting, flying) = (counted(&ours, 0), counted(&ours, 1), counted(&ours, 2));
+    line(
+        lines,
+        "terminal",
+        numbers,
+        0,
+        best(
+            turns,
+            &mut [
+                &mut || {
+                    set(&mut ours, 0);
+                    let (t, mut lent) = (&mut ours, held);
+                    let said = c::terminal_erasure(t, &mut lent, &mut a, number, SUBSCRIBERS);
+                    black_box(said);
+                },
+                &mut || {
+                    set(&mut theirs, 0);
+                    let (t, mut lent) = (&mut theirs, held);
+                    let said = oracle::terminal_erasure(t, &mut lent, &mut b, number, SUBSCRIBERS);
+                    black_box(said);
+                },
+                &mut || {
+                    black_box(sum(black_box(&words)));
+                },
+            ],
+        ),
+    );
     line(
         lines,
         "sending",
@@ -704,7 +734,7 @@ fn growth(lines: &[Line]) {
         println!("{what:32} {:6.2} {:6.2} {:6.2}", more[0], more[1], more[2]);
     };
     println!("\na row more (ns)                     ours   Rust   bare");
-    for call in ["request", "sending", "result", "finding"] {
+    for call in ["request", "terminal", "sending", "result", "finding"] {
         let what = format!("{call}, a number");
         show(&what, 960.0, at(call, 64, 0), at(call, 1024, 0));
     }

@@ -213,6 +213,13 @@ fn ask_library(lent: &mut Lent) -> Said {
             figures,
             number,
         } => answer(c::add(words, *rows, figures, *number)),
+        Call::TerminalErasure {
+            table,
+            figures,
+            reply,
+            number,
+            holder,
+        } => answer(c::terminal_erasure(table, figures, reply, *number, *holder)),
     }
 }
 
@@ -440,6 +447,7 @@ fn kind(call: &Call, said: &Said) -> String {
         Call::Close { .. } => "close",
         Call::Compact { .. } => "compact",
         Call::Add { .. } => "add",
+        Call::TerminalErasure { .. } => "terminal erasure",
     };
     let said = match said {
         Said::Answer(Answer::Refusal(n)) | Said::Count(Err(n)) => format!("refused {n}"),
@@ -532,5 +540,7 @@ mod tests {
         expected("compact", "refused 2, refused 10, rows, fewer rows");
         expected("add", "refused 2, refused 10, refused 7, refused 51");
         expected("add", "refused 50, rows");
+        expected("terminal erasure", "refused 1, refused 2, refused 10");
+        expected("terminal erasure", "refused 7, 02, 41, 62, 63, 68");
     }
 }

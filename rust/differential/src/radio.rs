@@ -4,6 +4,7 @@ use ffn::c;
 use oracle::generate::radio::{case, RadioCall};
 use oracle::generate::Generator;
 use oracle::radio::{Doing, Entry, Radio};
+use oracle::read_notice;
 
 use crate::Counts;
 
@@ -110,9 +111,12 @@ fn from_c(radio: &c::Radio) -> Radio {
 
 /// The kind of an answer, for the counts.
 fn kind(before: &Lent, left: &Radio, said: Doing) -> String {
-    let (call, became) = match before.call {
+    let (call, became) = match &before.call {
         RadioCall::Store { .. } if left.count > before.radio.count => ("store", "new"),
         RadioCall::Store { .. } => ("store", "known"),
+        RadioCall::Notice { string, .. } if is_from_the_terminal(string) => {
+            ("notice from the terminal", "taken")
+        }
         RadioCall::Notice { .. } => ("notice", "taken"),
         RadioCall::Reply { .. } => ("reply", made_of_asked(&before.radio, left)),
     };
@@ -121,6 +125,11 @@ fn kind(before: &Lent, left: &Radio, said: Doing) -> String {
         (0, _) => format!("{call}: {became}, asks"),
         (refusal, _) => format!("{call}: refused {refusal}"),
     }
+}
+
+/// Whether a string is a notice that names no supervisor.
+fn is_from_the_terminal(string: &[u8]) -> bool {
+    read_notice(string).is_some_and(|notice| notice.supervisor.is_none())
 }
 
 /// What became of the number that was asked.
@@ -152,6 +161,7 @@ mod tests {
             let call = |name: &str| format!("{radio}, {name}");
             expected(&call("store"), "new; known; refused 20; refused 23");
             expected(&call("notice"), "taken; taken, asks; refused 1; refused 21");
+            expected(&call("notice from the terminal"), "taken; taken, asks");
             expected(&call("reply"), "kept; marked; dropped");
             expected(&call("reply"), "kept, asks; marked, asks; dropped, asks");
             expected(&call("reply"), "refused 1; refused 22");

@@ -62,7 +62,7 @@ reason! {
         Phase = 4: "the notice is not in the phase that the call needs",
         NotDue = 5: "the notice is not due",
         Delay = 6: "the delay is neither 0 nor 60 to 600 seconds",
-        Number = 7: "the functional number is malformed or not in the table",
+        Number = 7: "the functional number is malformed or not in the table, or the holder named is malformed",
         ListUnsound = 8: "the list is unsound",
         Unfit = 9: "the fields break the string's rules, a value is not one that the packer takes, unused bits are not 0, or the transaction identifier is above 15",
         Figures = 10: "the figures differ from a recount of the table",
@@ -150,7 +150,7 @@ numbered! {
     }
 }
 
-/// The outcome of a request.
+/// The outcome of a request, or of an erasure at the terminal.
 #[derive(Clone, Copy, Debug, PartialEq, Eq)]
 pub enum Outcome {
     /// 01: the requester holds the number.
@@ -206,8 +206,8 @@ impl Outcome {
     }
 }
 
-/// A request that has an outcome: its text is packed in the first `octets`
-/// octets of the reply.
+/// A request, or an erasure at the terminal, that has an outcome: its text is
+/// packed in the first `octets` octets of the reply.
 #[derive(Clone, Copy, Debug, PartialEq, Eq)]
 pub struct Reply {
     pub outcome: Outcome,

@@ -186,6 +186,16 @@ mod linked {
             string: *const u8,
             string_length: usize,
         ) -> Answer;
+        pub fn ffn_terminal_erasure(
+            table: *mut u64,
+            table_words: usize,
+            figures: *mut u64,
+            figure_words: usize,
+            reply: *mut u8,
+            reply_length: usize,
+            functional_number: u64,
+            holder: u64,
+        ) -> Answer;
         pub fn ffn_sending(
             table: *mut u64,
             table_words: usize,
@@ -356,6 +366,27 @@ pub fn request(
             scheme,
             string.as_ptr(),
             string.len(),
+        )
+    }
+}
+
+pub fn terminal_erasure(
+    table: &mut [u64],
+    figures: &mut [u64],
+    reply: &mut [u8],
+    functional_number: u64,
+    holder: u64,
+) -> Answer {
+    unsafe {
+        linked::ffn_terminal_erasure(
+            table.as_mut_ptr(),
+            table.len(),
+            figures.as_mut_ptr(),
+            figures.len(),
+            reply.as_mut_ptr(),
+            reply.len(),
+            functional_number,
+            holder,
         )
     }
 }

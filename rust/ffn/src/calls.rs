@@ -108,6 +108,15 @@ pub(crate) fn outcome(number: u32, value: u64, octets: &[u8]) -> Outcome {
     }
 }
 
+/// The outcome of an answer, whose text is in front of `reply`.
+fn replied(answer: c::Answer, reply: &[u8]) -> Reply {
+    let octets = answer.count;
+    Reply {
+        outcome: outcome(answer.number, answer.value, &reply[..octets]),
+        octets,
+    }
+}
+
 pub(crate) fn written(answer: c::Answer) -> Result<usize, Refusal> {
     match answer.class {
         c::WRITTEN => Ok(answer.count),
@@ -189,18 +198,62 @@ pub fn request(
     let answer =
         figures.lend(|figures| c::request(table, figures, list, reply, requester, scheme, string));
     match answer.class {
-        c::OUTCOME => Ok(Reply {
-            outcome: outcome(answer.number, answer.value, &reply[..answer.count]),
-            octets: answer.count,
-        }),
+        c::OUTCOME => Ok(replied(answer, reply)),
         c::ERROR => Err(Failure::Error(error(answer.number))),
         c::REFUSAL => Err(Failure::Refused(refusal(answer.number))),
         _ => unreachable!("{answer:?}"),
     }
 }
 
+/// Erases a number at the node's terminal, whose staff name its holder: a forced
+/// erasure by nobody listed. The outcome is [`Outcome::Erased`], and a notice to the
+/// holder waits that names no supervisor; or it is [`Outcome::UnknownNumber`],
+/// [`Outcome::NoHolder`], [`Outcome::WrongHolder`] or [`Outcome::NoticePending`], in
+/// this order, and nothing changes.
+///
+/// # Errors
+/// [`Refusal::NoRoom`], [`Refusal::TableUnsound`], [`Refusal::Figures`],
+/// [`Refusal::Number`] where the number or the holder is malformed, in this order.
+///
+/// # Examples
+/// ```
+/// use ffn::{sending, terminal_erasure, unpack, Figures, Outcome, BUFFER_ROOM};
+///
+/// // A driver has gone home and left her number behind.
+/// let (number, driver) = ("0492123401".parse()?, "4915100001".parse()?);
+/// let table = &mut [10_492_123_401, 14_915_100_001, 0, 0, 0, 0, 0];
+/// let figures = &mut Figures::recount(table)?;
+/// let buffer = &mut [0; BUFFER_ROOM];
+/// let done = terminal_erasure(table, figures, buffer, number, driver)?;
+/// assert_eq!(done.outcome, Outcome::Erased);
+///
+/// // She is told, and by nobody's name.
+/// let sent = sending(table, figures, buffer, number, 60, 100)?;
+/// assert_eq!(sent.addressee, driver);
+/// let text = &mut [0; BUFFER_ROOM];
+/// let count = unpack(&buffer[..sent.octets], text)?;
+/// assert_eq!(text[..count], *b"##214*0492123401*88**#");
+/// # Ok::<(), Box<dyn std::error::Error>>(())
+/// ```
+pub fn terminal_erasure(
+    table: &mut [u64],
+    figures: &mut Figures,
+    reply: &mut [u8],
+    number: FunctionalNumber,
+    holder: Msisdn,
+) -> Result<Reply, Refusal> {
+    let (number, holder) = (number.word(), holder.word());
+    let answer = figures.lend(|figures| c::terminal_erasure(table, figures, reply, number, holder));
+    match answer.class {
+        c::OUTCOME => Ok(replied(answer, reply)),
+        c::REFUSAL => Err(refusal(answer.number)),
+        _ => unreachable!("{answer:?}"),
+    }
+}
+
 /// Sends the notice of a number, if it is due. The delay is 60 to 600 seconds,
-/// or 0 for 300; `now` is the second counter, which wraps.
+/// or 0 for 300; `now` is the second counter, which wraps. A notice from the
+/// terminal leaves the supervisor's MSISDN blank.
 ///
 /// # Errors
 /// [`Refusal::NoRoom`], [`Refusal::TableUnsound`], [`Refusal::Figures`],

@@ -14,6 +14,10 @@
 //! the start of the buffer, and everything beyond its count stays, but that
 //! compacting makes the words that it frees 0.
 //!
+//! Staff at the node's terminal clear a number without a subscription
+//! (`terminal_erasure`): they name its holder, who is told by a notice whose
+//! supervisor is nobody: that word of its row is 0.
+//!
 //! Table and list move to new hardware as one image, whose figures are recounted
 //! where it is read.
 //!
@@ -47,8 +51,8 @@ pub use answers::{
 };
 #[cfg(feature = "archive")]
 pub use calls::{
-    finding, pack, read_request, request, result, sending, unpack, write_request, ReadRequest,
-    Request, BUFFER_ROOM, CODING_SCHEME, MOST_CHARACTERS, WRITER_ROOM,
+    finding, pack, read_request, request, result, sending, terminal_erasure, unpack, write_request,
+    ReadRequest, Request, BUFFER_ROOM, CODING_SCHEME, MOST_CHARACTERS, WRITER_ROOM,
 };
 pub use crews::{Codes, Crew, CrewField};
 pub use figures::Figures;

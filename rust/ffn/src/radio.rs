@@ -26,7 +26,7 @@ reason! {
     Refusal: "refusal" {
         NoRoom = 1: "the question buffer has under 160 octets",
         Full = 20: "the number is new and the store is full",
-        NoNotice = 21: "the notice is not the string of a forced erasure",
+        NoNotice = 21: "the string is no notice",
         NoQuestion = 22: "no question is open, or the reply answers another one",
         Number = 23: "the functional number is malformed",
         Unsound = 24: "the radio is unsound",
@@ -162,7 +162,9 @@ impl Radio {
     }
 
     /// Takes a packed notice, and begins a round; an earlier one and its open
-    /// question are forgotten. The first question is written to `question`.
+    /// question are forgotten. The first question is written to `question`. A
+    /// notice names the supervisor, or nobody where the holder was forced off at
+    /// the node's terminal.
     ///
     /// # Errors
     /// [`Refusal::Unsound`], [`Refusal::NoRoom`], [`Refusal::NoNotice`], in this

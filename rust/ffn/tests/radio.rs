@@ -253,6 +253,27 @@ fn refusals_in_their_order() {
     for text in ["##214*0492123401***#", "*#214*0492123401***#", "62", ""] {
         assert_eq!(self::notice(&mut sound, text), Err(Refusal::NoNotice));
     }
+    // From the terminal, and against a rule.
+    for text in [
+        "**214*0492123401*88**#",
+        "##214*0492123401*88*#",
+        "##214*0492123401*88**BULK0#",
+    ] {
+        assert_eq!(self::notice(&mut sound, text), Err(Refusal::NoNotice));
+    }
+}
+
+/// A round begins as by a supervisor's notice.
+#[test]
+fn a_notice_from_the_terminal() {
+    for additional in ["", "CAB 7", " BULK0", "012345678901234567890123456789"] {
+        let text = format!("##214*0492123401*88**{additional}#");
+        for mut radio in [cab(&[G, F, F + 1]), hand_held(&[F, G])] {
+            let mut other = radio.clone();
+            assert_eq!(notice(&mut radio, &text), notice(&mut other, NOTICE));
+            assert_eq!(radio, other);
+        }
+    }
 }
 
 #[test]

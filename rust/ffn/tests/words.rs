@@ -106,7 +106,8 @@ fn every_refusal_has_its_number_and_words() {
             "refusal 4: the notice is not in the phase that the call needs",
             "refusal 5: the notice is not due",
             "refusal 6: the delay is neither 0 nor 60 to 600 seconds",
-            "refusal 7: the functional number is malformed or not in the table",
+            "refusal 7: the functional number is malformed or not in the table, or the \
+             holder named is malformed",
             "refusal 8: the list is unsound",
             "refusal 9: the fields break the string's rules, a value is not one that \
              the packer takes, unused bits are not 0, or the transaction identifier is above 15",
@@ -136,7 +137,7 @@ fn every_refusal_of_a_radio_has_its_number_and_words() {
         [
             "refusal 1: the question buffer has under 160 octets",
             "refusal 20: the number is new and the store is full",
-            "refusal 21: the notice is not the string of a forced erasure",
+            "refusal 21: the string is no notice",
             "refusal 22: no question is open, or the reply answers another one",
             "refusal 23: the functional number is malformed",
             "refusal 24: the radio is unsound",

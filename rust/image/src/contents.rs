@@ -79,9 +79,11 @@ fn write_number(
         "in flight"
     };
     write!(f, "notice {state}, sendings done {}", phase / 2)?;
-    let [addressee, supervisor] =
-        [addressee, supervisor].map(|word| digits(Msisdn::from_word(word)));
-    write!(f, ", addressee {addressee}, supervisor {supervisor}")?;
+    write!(f, ", addressee {}", digits(Msisdn::from_word(addressee)))?;
+    match Msisdn::from_word(supervisor) {
+        Some(supervisor) => write!(f, ", supervisor {supervisor}")?,
+        None => f.write_str(", from the terminal")?,
+    }
     if phase % 2 == 1 && phase > 1 {
         write!(f, ", last failure at second {second}")?;
     }

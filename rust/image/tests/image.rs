@@ -175,6 +175,40 @@ fn closed_numbers_are_shown_as_such() {
     assert_eq!(ask("show", &path, b""), Ok(shown.into()));
 }
 
+/// A notice names no supervisor where the terminal forced the holder off.
+#[test]
+fn notices_from_the_terminal_are_shown_as_such() {
+    let folder = Folder::new("terminal");
+    let path = folder.join("node.image");
+    let (first, second) = (14_915_100_001, 14_915_100_002);
+    let table = [
+        [100_000, 0, 1, first, 0, 0, 0],
+        [100_001, second, 2, first, 0, 0, 1],
+        [100_002, 0, 3, first, 0, 7, 0],
+        [100_003, 0, 3, first, second, 7, 0],
+    ];
+    store(&path, table.as_flattened(), &[]);
+    let shown = "\
+        number 00000: no holder, notice waiting, sendings done 0, \
+        addressee 4915100001, from the terminal\n\
+        number 00001: closed, holder 4915100002, notice in flight, sendings done 1, \
+        addressee 4915100001, from the terminal\n\
+        number 00002: no holder, notice waiting, sendings done 1, \
+        addressee 4915100001, from the terminal, last failure at second 7\n\
+        number 00003: no holder, notice waiting, sendings done 1, \
+        addressee 4915100001, supervisor 4915100002, last failure at second 7\n\
+        figures: held 1, waiting 3, in flight 1\n";
+    assert_eq!(ask("show", &path, b""), Ok(shown.into()));
+    let ok = "ok: numbers 4, subscribers 0\n";
+    assert_eq!(ask("check", &path, b""), Ok(ok.into()));
+    // To nobody it is none.
+    let mut image = fs::read(&path).unwrap();
+    image[8 * 3..][..8].fill(0);
+    fs::write(&path, image).unwrap();
+    let said = "refusal 2: the table is unsound";
+    assert_eq!(fault("check", &path, b""), said);
+}
+
 /// An image from before rows had their seventh word.
 #[test]
 fn an_old_image() {

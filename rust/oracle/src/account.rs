@@ -4,13 +4,14 @@
 use crate::frame::{read_register, Invoked, Message};
 use crate::generate::Call;
 use crate::node::Answer;
-use crate::rows::{Record, PHASE};
+use crate::rows::{Record, NOBODY, PHASE};
 use crate::string::read_request;
 
 /// The counts of a list of calls.
 #[derive(Clone, Copy, Debug, Default, PartialEq, Eq)]
 pub struct Account {
-    /// Forced erasures answered 02 whose requester is not the holder they name.
+    /// Forced erasures answered 02 whose requester is not the holder they name,
+    /// those at the terminal among them.
     pub erasures: u64,
     /// Notices delivered.
     pub deliveries: u64,
@@ -42,7 +43,7 @@ impl Account {
     }
 }
 
-/// What a forced erasure says.
+/// What a forced erasure says. At the terminal its supervisor is nobody, 0.
 #[derive(Clone, Copy, Debug, PartialEq, Eq)]
 pub struct ForcedErasure {
     pub number: u64,
@@ -50,9 +51,17 @@ pub struct ForcedErasure {
     pub supervisor: u64,
 }
 
-/// The forced erasure that a request asks for, bare or in its frame.
+/// The forced erasure that a request asks for, bare or in its frame, or that the
+/// terminal makes.
 pub fn forced_erasure(call: &Call) -> Option<ForcedErasure> {
     let (supervisor, string) = match call {
+        Call::TerminalErasure { number, holder, .. } => {
+            return Some(ForcedErasure {
+                number: *number,
+                holder: *holder,
+                supervisor: NOBODY,
+            });
+        }
         Call::Request {
             requester, string, ..
         } => (*requester, string.as_slice()),

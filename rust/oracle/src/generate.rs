@@ -17,12 +17,12 @@ use crate::frame::{
     read_register, read_release, write_register, Invoked, Message, Place, Released,
 };
 use crate::image::{read_image, write_image};
-use crate::node::{finding, framed_request, request, result, sending, Answer};
+use crate::node::{finding, framed_request, request, result, sending, terminal_erasure, Answer};
 use crate::number::{digit_count, is_number};
 use crate::packing::{pack, unpack};
 use crate::rows::{
     figures_of, free_record, recount, Record, ADDRESSEE, CLOSED, FAILURE, FIGURES, HOLDER,
-    LAST_PHASE, MAX_RECORDS, MAX_SUBSCRIBERS, NOTICE, NUMBER, PHASE, RECORD_WORDS,
+    LAST_PHASE, MAX_RECORDS, MAX_SUBSCRIBERS, NOBODY, NOTICE, NUMBER, PHASE, RECORD_WORDS,
     SUBSCRIBER_WORDS, SUPERVISOR,
 };
 use crate::string::{read_request, write_request, Additional, Fields, Operation};
@@ -33,6 +33,7 @@ mod along;
 mod frames;
 mod images;
 pub mod radio;
+mod terminal;
 mod withdrawals;
 
 pub use along::Along;
@@ -40,6 +41,9 @@ pub use frames::changed_frames;
 
 /// Lengths of buffers around the limits.
 pub const BUFFER_LENGTHS: [usize; 10] = [0, 79, 80, 81, 119, 120, 121, 159, 160, 200];
+
+/// The place of the MSISDN among the pieces of a string.
+const MSISDN: usize = 7;
 
 /// Codes of crews are often below this, so that crews of one root meet.
 const CLOSE_CODES: u64 = 14;
@@ -116,7 +120,7 @@ pub enum TableDamage {
     IdleAddressee,
     IdleSupervisor,
     IdleFailure,
-    /// A notice with a malformed addressee or supervisor.
+    /// A notice with a malformed addressee or supervisor, or to nobody.
     Addressee,
     Supervisor,
     /// A notice whose addressee is the supervisor.
@@ -309,13 +313,20 @@ pub enum Call {
         figures: Vec<u64>,
         number: u64,
     },
+    TerminalErasure {
+        table: Vec<u64>,
+        figures: Vec<u64>,
+        reply: Vec<u8>,
+        number: u64,
+        holder: u64,
+    },
 }
 
 /// What a call returns.
 #[derive(Clone, Copy, Debug, PartialEq, Eq)]
 pub enum Reply {
     /// Of a request, framed or not, a sending, result or finding, of closing,
-    /// compacting or adding.
+    /// compacting or adding, of an erasure at the terminal.
     Answer(Answer),
     /// Of a recount.
     Figures(Option<[u64; FIGURES]>),
@@ -416,6 +427,13 @@ impl Call {
                 figures,
                 number,
             } => Reply::Answer(add(words, *rows, figures, *number)),
+            Self::TerminalErasure {
+                table,
+                figures,
+                reply,
+                number,
+                holder,
+            } => Reply::Answer(terminal_erasure(table, figures, reply, *number, *holder)),
         }
     }
 }
@@ -540,7 +558,8 @@ impl Generator {
     }
 
     /// A sound table of `rows` records, some of them closed, whose numbers,
-    /// holders, addressees and supervisors are often in `list`.
+    /// holders, addressees and supervisors are often in `list`. Some notices are
+    /// from the terminal.
     pub fn table(&mut self, rows: usize, list: &[u64]) -> Vec<u64> {
         let known: Vec<u64> = list.iter().step_by(2).copied().collect();
         let mut table = Vec::with_capacity(RECORD_WORDS * (rows + 1));
@@ -578,7 +597,10 @@ impl Generator {
             holder if self.random.once_in(3) => holder,
             _ => self.person(known),
         };
-        record[SUPERVISOR] = self.person(known);
+        record[SUPERVISOR] = match self.random.below(4) {
+            0 => NOBODY,
+            _ => self.person(known),
+        };
         while record[SUPERVISOR] == record[ADDRESSEE] {
             record[SUPERVISOR] = self.number();
         }
@@ -651,11 +673,11 @@ impl Generator {
             }
             TableDamage::Supervisor => {
                 self.set_notice(record, phase, &[]);
-                record[SUPERVISOR] = self.malformed_or_nobody();
+                record[SUPERVISOR] = self.malformed();
             }
             TableDamage::SameNumbers => {
                 self.set_notice(record, phase, &[]);
-                record[ADDRESSEE] = record[SUPERVISOR];
+                record[SUPERVISOR] = record[ADDRESSEE];
             }
             TableDamage::FailureTooLarge => {
                 let phase = 3 + 2 * self.random.below(LAST_PHASE / 2 - 1);
@@ -931,7 +953,7 @@ impl Generator {
         let other: &[&str] = match place {
             0 => &["**", "##", "*#", "#*", "*", "#", "* ", "12"],
             1 => &["213", "21", "2140", "0214", "2 4", "88"],
-            3 | 7 => &["1234", "1234567890123456", "12345", "1234A", " 12345", "*"],
+            3 | MSISDN => &["1234", "1234567890123456", "12345", "1234A", " 12345", "*"],
             5 => &["88", "8", "888", "89", "088", "8 ", "#"],
             9 => &[
                 "a", "-", "@", "[", "/", ":", "`", "A*", "*", "#", "A#B", "\r",
@@ -985,7 +1007,11 @@ impl Generator {
 
     /// The packed string of `fields`, whole or damaged, or another string.
     pub fn string(&mut self, fields: &Fields<Vec<u8>>) -> Vec<u8> {
-        let mut pieces = Self::pieces(fields);
+        self.string_of(Self::pieces(fields))
+    }
+
+    /// The same of the pieces of a string.
+    fn string_of(&mut self, mut pieces: [Vec<u8>; 11]) -> Vec<u8> {
         match self.random.below(32) {
             0 => Vec::new(),
             1 => self.octets(),
@@ -1002,6 +1028,11 @@ impl Generator {
                 let mut octets = pack_by_bits(&pieces.concat());
                 self.break_octets(&mut octets);
                 octets
+            }
+            10 => {
+                // A forced erasure becomes the terminal's notice, which is no request.
+                pieces[MSISDN].clear();
+                pack_by_bits(&pieces.concat())
             }
             _ => pack_by_bits(&pieces.concat()),
         }
@@ -1117,18 +1148,19 @@ fn crew_numbers(fields: &Fields<Vec<u8>>) -> Vec<u64> {
 impl Generator {
     /// Any call.
     pub fn call(&mut self) -> Call {
-        match self.random.below(34) {
+        match self.random.below(36) {
             0 => self.writing_image(),
             1 => self.reading_image(),
             2 => self.closing(),
             3 => self.compacting(),
             4 => self.adding(),
+            5 | 6 => self.erasing_at_the_terminal(),
             _ => self.line_call(),
         }
     }
 
-    /// Any call that the program `calls` makes: it makes none of images, and
-    /// withdraws no numbers.
+    /// Any call that the program `calls` makes: it makes none of images,
+    /// withdraws no numbers, and has no terminal.
     fn line_call(&mut self) -> Call {
         match self.random.below(29) {
             0..=8 => self.request(),
@@ -1258,8 +1290,8 @@ impl Generator {
     }
 
     /// A table, damaged now and then, with a record of it before the damage
-    /// and the number that a sending, a result or a closing names: mostly that
-    /// record's.
+    /// and the number that a sending, a result, a closing or the terminal names:
+    /// mostly that record's.
     fn table_and_number(&mut self) -> (Vec<u64>, Record, u64) {
         let list = self.list(4);
         let mut table = self.some_table(&list);
@@ -1767,6 +1799,7 @@ impl Generator {
             Call::Close { .. } | Call::Compact { .. } | Call::Add { .. } => {
                 unreachable!("the program withdraws no numbers")
             }
+            Call::TerminalErasure { .. } => unreachable!("the program has no terminal"),
         };
         self.put_line(input, line, 48);
     }

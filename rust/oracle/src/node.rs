@@ -1,12 +1,13 @@
-//! The calls on a lent table: requests and the three calls for notices.
+//! The calls on a lent table: requests, erasures at the node's terminal, and the
+//! three calls for notices.
 
 use crate::crew::{crew_codes, member, Code, Steps, LEAD};
 use crate::frame::{read_register, write_release, Invoked, Message, Released, FRAME_ROOM, SCHEME};
 use crate::number::is_number;
 use crate::rows::{
     figures_of, find_flags, find_record, list_is_sound, sound_records, sound_records_mut, Record,
-    ADDRESSEE, CLOSED, FAILURE, HAS_FOLLOW_ME, HOLDER, IS_SUPERVISOR, LAST_PHASE, NOTICE, NUMBER,
-    PHASE, SUPERVISOR,
+    ADDRESSEE, CLOSED, FAILURE, HAS_FOLLOW_ME, HOLDER, IS_SUPERVISOR, LAST_PHASE, NOBODY, NOTICE,
+    NUMBER, PHASE, SUPERVISOR,
 };
 use crate::string::{read_fields, Fields, Operation, MAX_CHARACTERS};
 use crate::text::Text;
@@ -21,8 +22,9 @@ pub enum Answer {
     Refusal(u8),
     /// The request is in error; no memory was touched.
     Error(u8),
-    /// The request has an outcome. Its text, packed, is in the first `octets`
-    /// octets of the reply buffer. `msisdn` is that of outcome 03, else 0.
+    /// The request, or the erasure at the terminal, has an outcome. Its text,
+    /// packed, is in the first `octets` octets of the reply buffer. `msisdn` is
+    /// that of outcome 03, else 0.
     Outcome {
         number: u8,
         octets: usize,
@@ -311,6 +313,31 @@ fn force(record: &mut Record, supervisor: u64, msisdn: u64) -> u8 {
     2
 }
 
+/// Erases `number` for staff at the node's terminal, who name its holder: a forced
+/// erasure by nobody listed, of which the holder is always told.
+///
+/// Refused 1 for a reply too short, 2 for an unsound table, 10 for figures that
+/// differ from a recount, 7 for a malformed number or holder, in this order.
+pub fn terminal_erasure(
+    table: &mut [u64],
+    figures: &mut [u64],
+    reply: &mut [u8],
+    number: u64,
+    holder: u64,
+) -> Answer {
+    if reply.len() < ROOM {
+        return Answer::Refusal(1);
+    }
+    counted(table, figures, |records| {
+        if !is_number(number) || !is_number(holder) {
+            return Answer::Refusal(7);
+        }
+        let record = find_record(records, number);
+        let said = record.map_or(41, |record| force(record, NOBODY, holder));
+        outcome(said, reply)
+    })
+}
+
 /// Sends the notice of `number`, if it is due.
 pub fn sending(
     table: &mut [u64],
@@ -345,17 +372,21 @@ fn send(records: &mut [Record], buffer: &mut [u8], number: u64, delay: u32, now:
     }
     record[PHASE] += 1;
     record[FAILURE] = 0;
-    let octets = Text::new()
-        .put(b"##214*")
-        .put_number(number)
-        .put(b"*88*")
-        .put_number(record[SUPERVISOR])
-        .put(b"*#")
-        .pack_into(buffer);
     Answer::Sent {
         addressee: record[ADDRESSEE],
-        octets,
+        octets: notice_text(number, record[SUPERVISOR]).pack_into(buffer),
     }
+}
+
+/// What a notice says. One from the terminal leaves the supervisor's place blank.
+fn notice_text(number: u64, supervisor: u64) -> Text {
+    let mut text = Text::new();
+    text.put(b"##214*").put_number(number).put(b"*88*");
+    if supervisor != NOBODY {
+        text.put_number(supervisor);
+    }
+    text.put(b"*#");
+    text
 }
 
 /// Takes in the result of a sending: kind 0 is delivered, 1 to 4 are errors

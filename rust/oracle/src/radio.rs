@@ -6,7 +6,7 @@
 
 use crate::number::{is_number, number_from_digits};
 use crate::packing::unpack;
-use crate::string::{read_request, write_request, Fields, Operation, WRITER_ROOM};
+use crate::string::{read_notice, write_request, Fields, Operation, WRITER_ROOM};
 
 /// The most functional numbers that a radio stores.
 pub const MAX_STORED: usize = 16;
@@ -82,9 +82,9 @@ pub fn store(radio: &mut Radio, number: u64) -> Doing {
 pub fn notice(radio: &mut Radio, string: &[u8], question: &mut [u8]) -> Doing {
     change(radio, |store| {
         has_room(question)?;
-        let forced_off = forced_off(string).ok_or(21)?;
+        let notice = read_notice(string).ok_or(21)?;
         for stored in &mut store.numbers {
-            stored.to_ask = store.hand_held || root(stored.number) == root(forced_off);
+            stored.to_ask = store.hand_held || root(stored.number) == root(notice.number);
         }
         Ok(Doing {
             respond: 1,
@@ -129,12 +129,6 @@ fn has_room(question: &[u8]) -> Result<(), u8> {
     } else {
         Ok(())
     }
-}
-
-/// The functional number in a notice, which is the string of a forced erasure.
-fn forced_off(string: &[u8]) -> Option<u64> {
-    let fields = read_request(string)?;
-    fields.forced.map(|_supervisor| fields.number)
 }
 
 /// All digits but the last two, the branch. The 1 in front of the digits keeps

@@ -22,6 +22,9 @@ pub(crate) const SUPERVISOR: usize = 4;
 pub(crate) const FAILURE: usize = 5;
 pub(crate) const CLOSED: usize = 6;
 
+/// The supervisor of a notice that the terminal at the node made.
+pub(crate) const NOBODY: u64 = 0;
+
 /// The words of a record's notice: 0 where it has none.
 pub(crate) const NOTICE: Range<usize> = PHASE..FAILURE + 1;
 
@@ -86,8 +89,7 @@ fn record_is_sound(record: &Record) -> bool {
     phase <= LAST_PHASE
         && failure <= LARGEST_FAILURE[phase as usize]
         && is_number(addressee)
-        && is_number(supervisor)
-        && addressee != supervisor
+        && (supervisor == NOBODY || is_number(supervisor) && supervisor != addressee)
 }
 
 /// The figures of `table`, if it is sound.
@@ -223,7 +225,6 @@ mod tests {
         assert!(!table_is_sound(&[0; RECORD_WORDS]));
         for phase in 1..=12 {
             assert!(!sound([F, 0, phase, 0, B, 0, 0]));
-            assert!(!sound([F, 0, phase, A, 0, 0, 0]));
             assert!(!sound([F, 0, phase, 0, 0, 0, 0]));
             assert!(!sound([F, 0, phase, A, A, 0, 0]));
             assert!(!sound([F, 0, phase, A, B, 1 << 32, 0]));
@@ -240,6 +241,22 @@ mod tests {
         assert!(!sound([F, 0, 0, 0, B, 0, 0]));
         assert!(!sound([F, 0, 0, A, B, 0, 0]));
         assert!(!sound([F, 0, 0, 0, 0, 1, 0]));
+    }
+
+    /// A notice may be from nobody, the terminal, but never to nobody.
+    #[test]
+    fn notices_from_the_terminal() {
+        for phase in 1..=12 {
+            for (holder, closed) in [(0, 0), (A, 0), (B, 1)] {
+                let row = |to, failure| [F, holder, phase, to, 0, failure, closed];
+                assert!(sound(row(A, 0)) && sound(row(B, 0)));
+                assert!(!sound(row(0, 0)) && !sound(row(7, 0)));
+                let keeps_failure = phase > 1 && phase % 2 == 1;
+                assert_eq!(sound(row(A, 1)), keeps_failure);
+                assert!(!sound(row(A, 1 << 32)));
+            }
+        }
+        assert!(!sound([F, 0, 13, A, 0, 0, 0]));
     }
 
     #[test]

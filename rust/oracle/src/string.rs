@@ -1,5 +1,5 @@
 //! The request string (document 000, 4.2.4.1): fields read from packed octets
-//! and written as packed octets.
+//! and written as packed octets. The notice (6.2.1.1), read from them.
 
 use crate::crew::{crew_codes, member, LEAD, TAG};
 use crate::number::{is_number, leading_number};
@@ -120,16 +120,47 @@ pub fn read_request(octets: &[u8]) -> Option<Fields<Additional>> {
     })
 }
 
+/// What a notice says.
+#[derive(Clone, Copy, Debug, PartialEq, Eq)]
+pub struct Notice {
+    /// The functional number, in stored form.
+    pub number: u64,
+    /// Who forced its holder off, in stored form; none where that was done at the
+    /// node's terminal.
+    pub supervisor: Option<u64>,
+}
+
+/// Reads a packed notice: the string of a forced erasure, whose MSISDN may be
+/// blank. `None` for anything else.
+pub fn read_notice(octets: &[u8]) -> Option<Notice> {
+    let mut chars = [0; MAX_CHARACTERS];
+    let rest = unpacked(octets, &mut chars)?.strip_prefix(b"##214*")?;
+    let (number, rest) = leading_number(rest)?;
+    let rest = rest.strip_prefix(b"*88*")?;
+    let (supervisor, rest) = match leading_number(rest) {
+        Some((msisdn, rest)) => (Some(msisdn), rest),
+        None => (None, rest),
+    };
+    let additional = rest.strip_prefix(b"*")?.strip_suffix(b"#")?;
+    let reads = is_additional(additional) && !additional.starts_with(TAG);
+    reads.then_some(Notice { number, supervisor })
+}
+
+/// The characters of a string that is not too long, in `chars`.
+fn unpacked<'a>(octets: &[u8], chars: &'a mut [u8; MAX_CHARACTERS]) -> Option<&'a [u8]> {
+    if octets.len() > MAX_OCTETS {
+        return None;
+    }
+    let count = unpack(octets, chars).ok()?;
+    Some(&chars[..count])
+}
+
 /// Unpacks `octets` into `chars` and reads the fields there.
 pub(crate) fn read_fields<'a>(
     octets: &[u8],
     chars: &'a mut [u8; MAX_CHARACTERS],
 ) -> Option<Fields<&'a [u8]>> {
-    if octets.len() > MAX_OCTETS {
-        return None;
-    }
-    let count = unpack(octets, chars).ok()?;
-    parse(&chars[..count])
+    parse(unpacked(octets, chars)?)
 }
 
 /// Reads the fields of an unpacked string, each from what the one before left.
@@ -182,10 +213,14 @@ mod tests {
     const F: u64 = 10_492_123_401;
     const A: u64 = 14_915_100_001;
 
-    fn read(string: &str) -> Option<Fields<Additional>> {
+    fn packed(string: &str) -> Vec<u8> {
         let mut octets = [0; 300];
         let count = pack(string.as_bytes(), &mut octets).unwrap();
-        read_request(&octets[..count])
+        octets[..count].to_vec()
+    }
+
+    fn read(string: &str) -> Option<Fields<Additional>> {
+        read_request(&packed(string))
     }
 
     /// The string reads as these fields, and they write the same octets.
@@ -342,6 +377,84 @@ mod tests {
         ] {
             assert_eq!(read(string), None, "{string:?}");
         }
+    }
+
+    /// A supervisor's notice is the string of a forced erasure. The terminal's
+    /// leaves her MSISDN blank, and is no request.
+    #[test]
+    fn notices_that_read() {
+        let thirty = "0123456789ABCDEFGHIJKLMNOPQRS ";
+        for additional in ["", " ", "7", "CAB 7", "BUL", " BULK0", "ABULK0", thirty] {
+            for (msisdn, supervisor) in [
+                ("", None),
+                ("4915100001", Some(A)),
+                ("00000", Some(100_000)),
+                ("999999999999999", Some(1_999_999_999_999_999)),
+            ] {
+                let string = format!("##214*0492123401*88*{msisdn}*{additional}#");
+                let notice = Notice {
+                    number: F,
+                    supervisor,
+                };
+                assert_eq!(read_notice(&packed(&string)), Some(notice), "{string}");
+                assert_eq!(read(&string).is_some(), supervisor.is_some());
+            }
+        }
+    }
+
+    #[test]
+    fn notices_that_do_not_read() {
+        // Both forms, against the same rule; `_` is the MSISDN's place.
+        for string in [
+            "**214*0492123401*88*_*#",
+            "*#214*0492123401*88*_*#",
+            " ##214*0492123401*88*_*#",
+            "##213*0492123401*88*_*#",
+            "##2140492123401*88*_*#",
+            "##214**88*_*#",
+            "##214*0492*88*_*#",
+            "##214*1234567890123456*88*_*#",
+            "##214*04921A3401*88*_*#",
+            "##214*0492123401**_*#",
+            "##214*0492123401*8*_*#",
+            "##214*0492123401*89*_*#",
+            "##214*0492123401*888*_*#",
+            "##214*0492123401*88_*#",
+            "##214*0492123401*88*_#",
+            "##214*0492123401*88*_*",
+            "##214*0492123401*88*_**#",
+            "##214*0492123401*88*_*##",
+            "##214*0492123401*88*_*# ",
+            "##214*0492123401*88*_*a#",
+            "##214*0492123401*88*_*A-B#",
+            "##214*0492123401*88*_*0123456789ABCDEFGHIJKLMNOPQRSTU#",
+            "##214*0492123401*88*_*BULK#",
+            "##214*0492123401*88*_*BULK0#",
+            "##214*0492123401*88*_*BULK1 02#",
+            "##214*0492123401*88*_*BULKY GOODS#",
+        ] {
+            for msisdn in ["4915100001", ""] {
+                let string = string.replace('_', msisdn);
+                assert_eq!(read_notice(&packed(&string)), None, "{string}");
+            }
+        }
+        // An MSISDN that is neither a number nor blank.
+        for msisdn in ["0", "1234", "1234567890123456", " ", "4915A00001", "*", "#"] {
+            let string = format!("##214*0492123401*88*{msisdn}*#");
+            assert_eq!(read_notice(&packed(&string)), None, "{string}");
+        }
+        assert_eq!(read_notice(&[]), None);
+        // Twenty-two characters in twenty octets, six unused bits.
+        let mut octets = packed("##214*0492123401*88**#");
+        assert_eq!(octets.len(), 20);
+        for bit in 2..8 {
+            octets[19] ^= 1 << bit;
+            assert_eq!(read_notice(&octets), None);
+            octets[19] ^= 1 << bit;
+        }
+        assert!(read_notice(&octets).is_some());
+        assert_eq!(read_notice(&octets[..19]), None);
+        assert_eq!(read_notice(&[0xAA; 161]), None);
     }
 
     #[test]

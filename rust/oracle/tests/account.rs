@@ -5,12 +5,12 @@ mod common;
 
 use std::collections::BTreeMap;
 
-use common::ROW;
+use common::{packed, A, B, F, FORCE_B, ROW};
 use oracle::account::{forced_erasure, pending, Account};
 use oracle::generate::{Along, Call, Generator, Reply};
-use oracle::{add, compact, write_request, Answer, Fields, Operation};
+use oracle::{add, compact, Answer};
 
-/// Whom each number's notice tells, and of which supervisor.
+/// Whom each number's notice tells, and of which supervisor; 0 at the terminal.
 fn notified(table: &[u64]) -> BTreeMap<u64, (u64, u64)> {
     let (records, _): (&[[u64; ROW]], _) = table.as_chunks();
     records
@@ -19,21 +19,19 @@ fn notified(table: &[u64]) -> BTreeMap<u64, (u64, u64)> {
         .collect()
 }
 
+/// The digits of a number in stored form; nobody has none.
+fn digits(number: u64) -> String {
+    number.to_string()[1..].into()
+}
+
 /// Whether a sending's buffer holds the notice of a number that names a
 /// supervisor.
-fn holds(call: &Call, supervisor: u64) -> bool {
+fn holds(call: &Call, octets: usize, supervisor: u64) -> bool {
     let Call::Sending { buffer, number, .. } = call else {
         return false;
     };
-    let fields = Fields {
-        operation: Operation::Erase,
-        number: *number,
-        forced: Some(supervisor),
-        additional: Vec::new(),
-    };
-    let mut octets = [0; 160];
-    let count = write_request(&fields, &mut octets).unwrap();
-    buffer.starts_with(&octets[..count])
+    let text = format!("##214*{}*88*{}*#", digits(*number), digits(supervisor));
+    buffer[..octets] == packed(&text)
 }
 
 /// The number that a sending, a result or a forced erasure names.
@@ -72,7 +70,7 @@ fn next_timetable(along: &mut Along, number: u64) -> usize {
 fn every_notice_is_accounted_for() {
     let mut generator = Generator::new(108);
     let mut whole = Account::default();
-    let mut gone = 0;
+    let (mut gone, mut at_terminal, mut blank) = (0, 0, 0);
     for _ in 0..400 {
         let mut along = generator.along();
         let before = pending(&along.table);
@@ -90,10 +88,11 @@ fn every_notice_is_accounted_for() {
             let Reply::Answer(answer) = call.run() else {
                 unreachable!("{call:?}");
             };
-            if let Answer::Sent { addressee, .. } = answer {
+            if let Answer::Sent { addressee, octets } = answer {
                 let (holder, supervisor) = told[&named(&call).unwrap()];
                 assert_eq!(addressee, holder);
-                assert!(holds(&call, supervisor), "{call:?}");
+                assert!(holds(&call, octets, supervisor), "{call:?}");
+                blank += u64::from(supervisor == 0);
             }
             let one = {
                 let mut one = Account::default();
@@ -103,6 +102,7 @@ fn every_notice_is_accounted_for() {
             if one.erasures == 1 {
                 let erasure = forced_erasure(&call).unwrap();
                 told.insert(erasure.number, (erasure.holder, erasure.supervisor));
+                at_terminal += u64::from(erasure.supervisor == 0);
             }
             account.count(&call, answer);
             whole.count(&call, answer);
@@ -130,28 +130,62 @@ fn every_notice_is_accounted_for() {
         "{whole:?}"
     );
     assert!(gone > 100, "{gone}");
+    assert!(
+        at_terminal > 100 && at_terminal < whole.erasures,
+        "{at_terminal}"
+    );
+    assert!(blank > 100, "{blank}");
+}
+
+/// What one call counts.
+fn counted(mut call: Call) -> (Answer, Account) {
+    let Reply::Answer(answer) = call.run() else {
+        unreachable!("{call:?}");
+    };
+    let mut account = Account::default();
+    account.count(&call, answer);
+    (answer, account)
 }
 
 #[test]
 fn a_forced_erasure_by_the_holder_herself_makes_no_notice() {
-    let (f, b) = (10_492_123_401, 14_915_100_002);
-    let mut string = [0; 63];
-    let text = b"##214*0492123401*88*4915100002*#";
-    let octets = oracle::pack(text, &mut string).unwrap();
-    let mut call = Call::Request {
-        table: vec![f, b, 0, 0, 0, 0, 0],
+    let (answer, account) = counted(Call::Request {
+        table: vec![F, B, 0, 0, 0, 0, 0],
         figures: vec![1, 0, 0],
-        list: vec![b, 3],
+        list: vec![B, 3],
         reply: vec![0; 80],
-        requester: b,
+        requester: B,
         scheme: 0x0F,
-        string: string[..octets].to_vec(),
-    };
-    let Reply::Answer(answer) = call.run() else {
-        unreachable!("{call:?}");
-    };
+        string: packed(FORCE_B),
+    });
     assert!(matches!(answer, Answer::Outcome { number: 2, .. }));
-    let mut account = Account::default();
-    account.count(&call, answer);
     assert_eq!(account, Account::default());
+}
+
+/// Answered 02 it counts, whomever it names; answered otherwise it does not.
+#[test]
+fn an_erasure_at_the_terminal_counts_always() {
+    let ended = |row: [u64; ROW], number, holder| {
+        counted(Call::TerminalErasure {
+            figures: oracle::recount(&row).unwrap().to_vec(),
+            table: row.to_vec(),
+            reply: vec![0; 80],
+            number,
+            holder,
+        })
+    };
+    let one = Account {
+        erasures: 1,
+        ..Account::default()
+    };
+    for holder in [A, B, F] {
+        let (answer, account) = ended([F, holder, 0, 0, 0, 0, 0], F, holder);
+        assert!(matches!(answer, Answer::Outcome { number: 2, .. }));
+        assert_eq!(account, one);
+    }
+    let free = [F, 0, 0, 0, 0, 0, 0];
+    let pending = [F, A, 2, B, 0, 0, 0];
+    for (row, number, holder) in [(free, F, A), (pending, F, A), (pending, F, B), (free, 0, 0)] {
+        assert_eq!(ended(row, number, holder).1, Account::default());
+    }
 }

@@ -5,12 +5,12 @@ mod common;
 
 use std::collections::BTreeMap;
 
-use common::{register, release, ROW};
+use common::{packed, register, release, ROW};
 use oracle::generate::{changed_frames, Call, Generator, Reply};
 use oracle::{
     crew_codes, is_number, read_image, read_register, read_release, read_request, recount, request,
     run, run_calls, table_is_sound, unpack, write_image, write_request, Answer, Fields, Invoked,
-    Message, Released,
+    Message, Operation, Released,
 };
 
 const CALLS: usize = 280_000;
@@ -36,12 +36,8 @@ fn label(before: &Call, after: &Call, reply: &Reply) -> String {
                     Some(msisdn) if msisdn == *requester => ", forced, naming herself",
                     Some(_) => ", forced",
                 };
-                let table = |call: &Call| match call {
-                    Call::Request { table, .. } => table.clone(),
-                    _ => unreachable!(),
-                };
                 let stores = match number {
-                    1 | 11 | 12 if table(before) == table(after) => ", nothing changes",
+                    1 | 11 | 12 if rows(before) == rows(after) => ", nothing changes",
                     _ => "",
                 };
                 format!("request: {number:02}{who}{stores}")
@@ -52,7 +48,14 @@ fn label(before: &Call, after: &Call, reply: &Reply) -> String {
             Answer::Refusal(7) if is_number(*number) => "sending: Refusal(7), unknown".into(),
             Answer::Sent { .. } => {
                 assert!(changed);
-                "sending: sent".into()
+                let of = |row: &&[u64]| row[0] == *number;
+                let row = rows(before).chunks(ROW).find(of).unwrap();
+                let from = if row[4] == 0 {
+                    ", from the terminal"
+                } else {
+                    ""
+                };
+                format!("sending: sent{from}")
             }
             other => format!("sending: {other:?}"),
         },
@@ -148,8 +151,18 @@ fn label(before: &Call, after: &Call, reply: &Reply) -> String {
             Answer::Rows { .. } => "add: rows".into(),
             other => format!("add: {other:?}"),
         },
+        (Call::TerminalErasure { number, .. }, Reply::Answer(answer)) => match answer {
+            Answer::Refusal(7) if is_number(*number) => "terminal: Refusal(7), holder".into(),
+            Answer::Outcome { number, .. } => format!("terminal: {number:02}"),
+            other => format!("terminal: {other:?}"),
+        },
         _ => panic!("{reply:?} does not belong to {before:?}"),
     }
+}
+
+/// The table of a call that is lent one with its figures.
+fn rows(call: &Call) -> &[u64] {
+    counted(call, None).expect("a call with a table").0
 }
 
 /// The rows in use at the front of words, if there are so many.
@@ -158,7 +171,7 @@ fn used(words: &[u64], rows: usize) -> Option<&[u64]> {
 }
 
 /// What each call must come to at least a hundred times.
-const REACHED: [&str; 154] = [
+const REACHED: [&str; 165] = [
     "request: Refusal(1)",
     "request: Refusal(8)",
     "request: Refusal(2)",
@@ -215,6 +228,7 @@ const REACHED: [&str; 154] = [
     "sending: Refusal(4)",
     "sending: Refusal(5)",
     "sending: sent",
+    "sending: sent, from the terminal",
     "result: Refusal(2)",
     "result: Refusal(10)",
     "result: Refusal(7)",
@@ -313,6 +327,16 @@ const REACHED: [&str; 154] = [
     "add: Refusal(50)",
     "add: Refusal(50), full",
     "add: rows",
+    "terminal: Refusal(1)",
+    "terminal: Refusal(2)",
+    "terminal: Refusal(10)",
+    "terminal: Refusal(7)",
+    "terminal: Refusal(7), holder",
+    "terminal: 02",
+    "terminal: 41",
+    "terminal: 62",
+    "terminal: 63",
+    "terminal: 68",
 ];
 
 #[test]
@@ -637,6 +661,10 @@ fn check(before: &Call, after: &Call, reply: &Reply) {
             }
             _ => assert_eq!(before, after),
         },
+        (Call::TerminalErasure { .. }, _) => match reply {
+            Reply::Answer(Answer::Outcome { number, .. }) => check_terminal(before, after, *number),
+            _ => assert_eq!(before, after),
+        },
         (Call::ReadRequest { octets }, _) => {
             if let Reply::Fields(Some(fields)) = reply {
                 let mut out = [0; 160];
@@ -646,6 +674,58 @@ fn check(before: &Call, after: &Call, reply: &Reply) {
         }
         _ => assert_eq!(before, after),
     }
+}
+
+/// An erasure at the terminal is a forced erasure by nobody: a supervisor who is
+/// not the holder is answered the same, and her place in the record is blank.
+fn check_terminal(before: &Call, after: &Call, outcome: u8) {
+    let (
+        Call::TerminalErasure {
+            table,
+            figures,
+            reply: old,
+            number,
+            holder,
+        },
+        Call::TerminalErasure {
+            table: new_table,
+            figures: new_figures,
+            reply: new,
+            ..
+        },
+    ) = (before, after)
+    else {
+        unreachable!("an erasure at the terminal");
+    };
+    assert_eq!(new[..2], packed(&format!("{outcome:02}")));
+    check_beyond(old, new, 2);
+    check_table(table, new_table, |n| n == *number && outcome == 2);
+    let supervisor = if *holder == 100_000 { 100_001 } else { 100_000 };
+    let force = Fields {
+        operation: Operation::Erase,
+        number: *number,
+        forced: Some(*holder),
+        additional: b"",
+    };
+    let (mut string, mut reply) = ([0; 160], [0; 80]);
+    let count = write_request(&force, &mut string).unwrap();
+    let (mut table, mut figures) = (table.clone(), figures.clone());
+    let (list, string) = ([supervisor, 3], &string[..count]);
+    let (rows, lent) = (&mut table, &mut figures);
+    let answer = request(rows, lent, &list, &mut reply, supervisor, 0x0F, string);
+    let same = Answer::Outcome {
+        number: outcome,
+        octets: 2,
+        msisdn: 0,
+    };
+    assert_eq!((answer, &figures), (same, new_figures));
+    for row in table.chunks_mut(ROW).filter(|row| row[0] == *number) {
+        if outcome == 2 {
+            assert_eq!(row[4], supervisor);
+            row[4] = 0;
+        }
+    }
+    assert_eq!(table, *new_table);
 }
 
 /// A written image reads as what it was written from, and the rest stays.
@@ -714,7 +794,8 @@ fn counted(call: &Call, in_use: Option<usize>) -> Option<(&[u64], &[u64])> {
         | Call::FramedRequest { table, figures, .. }
         | Call::Sending { table, figures, .. }
         | Call::Result { table, figures, .. }
-        | Call::Close { table, figures, .. } => Some((table, figures)),
+        | Call::Close { table, figures, .. }
+        | Call::TerminalErasure { table, figures, .. } => Some((table, figures)),
         Call::Compact {
             words,
             rows,

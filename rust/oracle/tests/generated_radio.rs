@@ -10,7 +10,7 @@ use common::{packed, unpacked};
 use oracle::generate::radio::{case, RadioCall};
 use oracle::generate::Generator;
 use oracle::radio::{Doing, Entry, Radio, MAX_STORED};
-use oracle::{read_request, unpack};
+use oracle::{read_notice, read_request, unpack};
 
 const CALLS: usize = 200_000;
 
@@ -87,12 +87,44 @@ fn text(octets: &[u8]) -> Option<String> {
     Some(String::from_utf8(out).expect("seven bits each"))
 }
 
-/// The number of a forced erasure, cut out of its text.
-fn forced_off(string: &[u8]) -> Option<u64> {
-    read_request(string)?.forced?;
+/// Whether a text is the digits of a number.
+fn is_number(digits: &str) -> bool {
+    (5..=15).contains(&digits.len()) && digits.chars().all(|digit| digit.is_ascii_digit())
+}
+
+/// Whether a text may stand in the additional field of a notice.
+fn is_additional(text: &str) -> bool {
+    let allowed = |c: char| c.is_ascii_digit() || c.is_ascii_uppercase() || c == ' ';
+    text.len() <= 30 && text.chars().all(allowed) && !text.starts_with("BULK")
+}
+
+/// The number of a notice and the digits of its supervisor, which may be none,
+/// cut out of its text.
+fn parts(string: &[u8]) -> Option<(u64, String)> {
     let text = text(string)?;
-    let digits = text.split('*').nth(1)?;
-    format!("1{digits}").parse().ok()
+    let ["##214", number, "88", supervisor, rest] = text.split('*').collect::<Vec<_>>()[..] else {
+        return None;
+    };
+    let keeps_the_rules = is_number(number)
+        && (supervisor.is_empty() || is_number(supervisor))
+        && is_additional(rest.strip_suffix('#')?);
+    let number = format!("1{number}").parse().ok()?;
+    keeps_the_rules.then_some((number, supervisor.into()))
+}
+
+/// The number of a notice.
+fn forced_off(string: &[u8]) -> Option<u64> {
+    Some(parts(string)?.0)
+}
+
+/// Whether a string is a notice from the terminal.
+fn is_from_the_terminal(string: &[u8]) -> bool {
+    parts(string).is_some_and(|(_, supervisor)| supervisor.is_empty())
+}
+
+/// Whether the place of the supervisor is blank in a string that has one.
+fn is_blank(string: &[u8]) -> bool {
+    text(string).is_some_and(|text| text.contains("*88**"))
 }
 
 /// The first refusal that applies, or 0.
@@ -155,12 +187,9 @@ fn expected_entries(before: &Radio, call: &RadioCall) -> Vec<Entry> {
 fn told(string: &[u8], own: u64) -> &'static str {
     let own = digits(own).expect("a number");
     let text = text(string).unwrap_or_default();
-    let is_holder = |digits: &str| {
-        (5..=15).contains(&digits.len()) && digits.chars().all(|digit| digit.is_ascii_digit())
-    };
     match text.strip_prefix("03 ") {
         Some(digits) if digits == own => "keeps",
-        Some(digits) if is_holder(digits) => "drops",
+        Some(digits) if is_number(digits) => "drops",
         None if text == "62" => "drops",
         _ => "marks",
     }
@@ -184,6 +213,13 @@ fn check(case: &Case) {
         doing,
     } = case;
     assert_eq!(doing.refusal, expected_refusal(before, call));
+    if let RadioCall::Notice { string, .. } = call {
+        let read = read_notice(string).map(|notice| {
+            let supervisor = notice.supervisor.and_then(digits);
+            (notice.number, supervisor.unwrap_or_default())
+        });
+        assert_eq!(read, parts(string));
+    }
     if doing.refusal > 0 {
         assert_eq!((before, call), (after, ran));
         assert_eq!((doing.respond, doing.invoke, doing.octets), (0, 0, 0));
@@ -229,8 +265,12 @@ fn label(case: &Case) -> String {
             _ => format!("store: refused {refusal}"),
         },
         RadioCall::Notice { string, .. } => match refusal {
+            0 if is_from_the_terminal(string) => {
+                format!("{kind}: terminal's notice, {ends}{}", round())
+            }
             0 => format!("{kind}: notice, {ends}{}", round()),
             21 if text(string).is_none() => "notice: refused 21, unreadable".into(),
+            21 if is_blank(string) => "notice: refused 21, a blank place".into(),
             21 if read_request(string).is_none() => "notice: refused 21, no request".into(),
             21 => "notice: refused 21, another request".into(),
             _ => format!("notice: refused {refusal}"),
@@ -245,7 +285,7 @@ fn label(case: &Case) -> String {
 }
 
 /// What each call must come to at least a hundred times.
-const REACHED: [&str; 38] = [
+const REACHED: [&str; 46] = [
     "store: refused 24",
     "store: refused 23",
     "store: refused 20",
@@ -258,6 +298,7 @@ const REACHED: [&str; 38] = [
     "notice: refused 24",
     "notice: refused 1",
     "notice: refused 21, unreadable",
+    "notice: refused 21, a blank place",
     "notice: refused 21, no request",
     "notice: refused 21, another request",
     "cab: notice, question",
@@ -267,6 +308,13 @@ const REACHED: [&str; 38] = [
     "hand-held: notice, question",
     "hand-held: notice, question, in a round",
     "hand-held: notice, no question",
+    "cab: terminal's notice, question",
+    "cab: terminal's notice, question, in a round",
+    "cab: terminal's notice, no question",
+    "cab: terminal's notice, no question, in a round",
+    "hand-held: terminal's notice, question",
+    "hand-held: terminal's notice, question, in a round",
+    "hand-held: terminal's notice, no question",
     "reply: refused 24",
     "reply: refused 1",
     "reply: refused 22, none open",

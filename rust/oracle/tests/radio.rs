@@ -390,7 +390,6 @@ fn other_strings_than_a_forced_erasure_are_refused_21() {
         "**214*0492123401*88*4915100002*#",
         "*#214*0492123401*88*4915100002*#",
         "##214*0492123401*89*4915100002*#",
-        "##214*0492123401*88**#",
         "##214*0492123401*88*4915100002*",
         "##214*0492*88*4915100002*#",
         "##214*0492123401*88*4915*#",
@@ -398,6 +397,17 @@ fn other_strings_than_a_forced_erasure_are_refused_21() {
         // The additional field has 31 characters, or a crew's tag.
         "##214*0492123401*88*4915100002*0123456789012345678901234567890#",
         "##214*0492123401*88*4915100002*BULK0#",
+        // From the terminal, and against a rule.
+        "**214*0492123401*88**#",
+        "##214*0492123401*89**#",
+        "##214*0492123401***#",
+        "##214*0492123401*88*#",
+        "##214*0492123401*88***#",
+        "##214*0492123401*88**",
+        "##214*0492*88**#",
+        "##214*0492123401*88**a#",
+        "##214*0492123401*88**0123456789012345678901234567890#",
+        "##214*0492123401*88**BULK0#",
     ] {
         assert_eq!(notice_said(&mut radio, string), "refused 21", "{string}");
     }
@@ -426,10 +436,28 @@ fn the_additional_field_of_a_notice_does_not_matter() {
         " BULK0",
         "012345678901234567890123456789",
     ] {
-        let mut radio = cab(&[F]);
-        let string = format!("##214*0492123401*88*4915100002*{additional}#");
-        let said = notice_said(&mut radio, &string);
-        assert_eq!(said, about_f(1));
+        for supervisor in ["4915100002", ""] {
+            let mut radio = cab(&[F]);
+            let string = format!("##214*0492123401*88*{supervisor}*{additional}#");
+            let said = notice_said(&mut radio, &string);
+            assert_eq!(said, about_f(1));
+        }
+    }
+}
+
+/// A round begins as by a supervisor's notice, also in another round.
+#[test]
+fn a_notice_from_the_terminal() {
+    let from_the_terminal = "##214*0492123499*88**#";
+    for numbers in [&[][..], &[G, H], &[G, F, H, F2], &sixteen()] {
+        for fresh in [cab(numbers), hand_held(numbers)] {
+            let (mut first, mut second) = (fresh, fresh);
+            for _ in 0..2 {
+                let said = notice_said(&mut first, from_the_terminal);
+                assert_eq!(said, notice_said(&mut second, NOTICE));
+                assert_eq!(first, second);
+            }
+        }
     }
 }
 
@@ -771,11 +799,11 @@ fn round(radio: &mut Radio, table: &mut [u64], list: &[u64], string: &[u8]) -> u
     panic!("a round without an end");
 }
 
-/// The table after B forced A off F, and the notice that the node sends.
-fn forced_off_f(rows: &[(u64, u64)]) -> (Vec<u64>, Vec<u8>) {
+/// The table after A was forced off F, and the notice that the node sends.
+fn forced_off_f(rows: &[(u64, u64)], force: fn(&mut [u64]) -> String) -> (Vec<u64>, Vec<u8>) {
     let row = |&(number, holder)| [number, holder, 0, 0, 0, 0, 0];
     let mut table: Vec<u64> = rows.iter().flat_map(row).collect();
-    assert_eq!(ask(&mut table, &LIST, B, FORCE_A), "02");
+    assert_eq!(force(&mut table), "02");
     let mut string = vec![FILL; 80];
     match sending(&mut table, &mut string, F, 60, 0) {
         Answer::Sent { addressee, octets } => {
@@ -788,15 +816,20 @@ fn forced_off_f(rows: &[(u64, u64)]) -> (Vec<u64>, Vec<u8>) {
 }
 
 /// Of what is asked, A's radio keeps what the table gives to A, and what the
-/// table does not know, marked.
+/// table does not know, marked; whether B forced A off F or the terminal did.
 #[test]
 fn a_round_with_the_node() {
+    a_round_after(|table| ask(table, &LIST, B, FORCE_A));
+    a_round_after(|table| ask_terminal(table, F, A));
+}
+
+fn a_round_after(force: fn(&mut [u64]) -> String) {
     const HELD: u64 = F + 1;
     const FREE: u64 = F + 2;
     const OF_C: u64 = F + 3;
     const UNKNOWN: u64 = F + 4;
     let rows = [(F, A), (HELD, A), (FREE, 0), (OF_C, C), (G, C)];
-    let (mut table, sent) = forced_off_f(&rows);
+    let (mut table, sent) = forced_off_f(&rows, force);
     let stored = [UNKNOWN, F, G, HELD, FREE, OF_C];
     let mut radio = cab(&stored);
     assert_eq!(round(&mut radio, &mut table, &LIST, &sent), 5);

@@ -1,5 +1,5 @@
 use borrow.Author.Needs.{needs}
-use Rattle.rows.specs.Rows.{recordAt}
+use Rattle.rows.specs.Rows.{phaseAt, addresseeAt, supervisorAt, secondAt, recordAt}
 use Rattle.rows.proofs.Notices.{notice-bounds}
 use Rattle.rows.proofs.Rows.{sound-row}
 use Rattle.rows.proofs.load.Statement.{statement}
@@ -12,7 +12,9 @@ notice-of-requires : tie.Need-notice-of-requires
 notice-of-requires c κs =
     let start = c .before .before in
     let words = c .words-at .ensures in
-    let b = notice-bounds _ _ _ _ (sound-row (start .args .table .now) (start .args .row) (start .pre .1) .notice) in
+    let table = start .args .table .now in
+    let row = start .args .row in
+    let b = notice-bounds (phaseAt table row) (addresseeAt table row) (supervisorAt table row) (secondAt table row) (sound-row table row (start .pre .1) .notice) in
     (rw words (b .0), rw words (b .1))
 
 returns : tie.Need-returns

@@ -19,7 +19,8 @@ returns : tie.Need-returns
 unfolding restFrom
 returns c =
     let second = c .before in
-    rw (c .rest-by .ensures, second .is-number2 .ensures, second .before .is-number .ensures, second .before .before .words-at .ensures)
+    let first = second .before .before in
+    rw (c .rest-by .ensures, second .is-number2 .ensures, first .is-number .ensures, first .before .words-at .ensures)
 
 pub rest-sound-spec : {M : Type 1} → statement M
 rest-sound-spec =

@@ -1,24 +1,19 @@
 -- `strings::read_request` meets its contract, by the unpacker's answer. Assumes nothing.
-use mathlib.Core.Path.{_≡_, refl, sym, ap, _∙_}
-use mathlib.Core.Logic.{⊎-elim}
-use mathlib.Core.Bool.{Bool, true, false}
+use mathlib.Core.Path.{_≡_, sym, ap}
 use mathlib.Core.Option.{none}
-use mathlib.Core.List.{List, [], _∷_}
-use Prim.Native.Nat.{ℕ, _≤_}
+use mathlib.Core.List.{List}
+use Prim.Native.Nat.{ℕ}
 use lib.ListN.{length, drop, replicate}
 use lib.Seq.{length-take-le}
-use types.Run.{miss}
 use borrow.Author.Needs.{needs}
 use Rattle.answers.specs.Writing.{WriteOutcome}
-use Rattle.answers.specs.declared.Written.the-variants.{Count}
-use Rattle.answers.proofs.Tests.{less-or-not}
-use Rattle.answers.proofs.Writing.{made-one, Counted}
+use Rattle.answers.proofs.Writing.{Counted}
 use Rattle.packing.specs.Packing.{charsIn, readable, unpacked}
-use Rattle.packing.proofs.Outcomes.{unpacking-good, unpack-count}
+use Rattle.packing.proofs.Outcomes.{unpack-count}
 use Rattle.strings.specs.Text.{mostCharacters}
 use Rattle.strings.specs.Outcomes.{requestOf, textBeside}
-use Rattle.strings.proofs.Octets.{too-long}
-use Rattle.strings.proofs.Answered.{unread, unreadable, read}
+use Rattle.strings.proofs.Octets.{requests, uncounted}
+use Rattle.strings.proofs.Answered.{unread, read}
 use Rattle.strings.proofs.read_request.Statement.{statement}
 use Rattle.strings.proofs.read_request.Tie as tie
 
@@ -45,21 +40,10 @@ beside : (c : tie.After-unpack) → text c ≡ textBeside (octets c)
 unfolding textBeside
 beside c = ap (λ (x : WriteOutcome). x .buffer) (c .unpack .ensures)
 
--- ---- no count: too many characters, or unreadable bits
-
-counts : (c : tie.After-unpack) → charsIn (length (octets c)) ≤ mostCharacters → readable (octets c) ≡ true → c .unpack .result ≡ Count (length (unpacked (octets c)))
-counts c room bits =
-    made-one (c .unpack .result) (Count (length (unpacked (octets c)))) (text c) _ (c .unpack .ensures ∙ unpacking-good (octets c) zeros room bits) refl .0
-
+-- no count: too many characters, or unreadable bits
 unreads : (c : tie.At-match-keys2) → requestOf (octets (c .before .before)) ≡ none
-unreads c = ⊎-elim (too-long os) (λ room. go room (readable os) refl) (less-or-not mostCharacters (charsIn (length os)))
-  where
-    os : List ℕ
-    os = octets (c .before .before)
-
-    go : charsIn (length os) ≤ mostCharacters → (b : Bool) → readable os ≡ b → requestOf os ≡ none
-    go room true bits = absurd (miss (1 ∷ 2 ∷ []) 0 tt (rw (counts (c .before .before) room bits) at (c .match .keys2)))
-    go room false bits = unreadable os bits
+unfolding requestOf
+unreads c = let u = c .before .before in uncounted requests (octets u) (text u) (u .unpack .result) (u .unpack .ensures) (c .match .keys2)
 
 returns : tie.Need-returns
 returns c = let u = c .before .before in unread (octets u) (text u) (unreads c) (beside u)

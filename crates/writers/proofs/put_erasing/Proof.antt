@@ -5,9 +5,9 @@ use native.Mathlib.Omega.{arith}
 use lib.ListN.{length-append}
 use borrow.Author.Needs.{needs}
 use Rattle.answers.proofs.Parts.{stands-within, stands-room, stands-behind}
-use Rattle.numbers.specs.Numbers.{isNumber, digitsOf}
-use Rattle.numbers.proofs.Digits.{digits-most}
+use Rattle.numbers.specs.Numbers.{numberOrNobody, digitsOf}
 use Rattle.strings.specs.Text.{star}
+use Rattle.strings.proofs.Text.{supervisor-most}
 use Rattle.writers.proofs.put_erasing.Statement.{statement}
 use Rattle.writers.proofs.put_erasing.Tie as tie
 
@@ -29,23 +29,23 @@ slice-aggregate-put-2 c = search needs
 put-requires-2 : tie.Need-put-requires-2
 put-requires-2 c κs = search needs
 
--- the MSISDN is a number
-number : (c : tie.After-erasing) → isNumber (c .erasing .given .0 .0 .0) ≡ true
-number c = rw (c .erasing .given .1) at (c .before .before .before .pre .0)
+-- the MSISDN is a number, or nobody
+named : (c : tie.After-erasing) → numberOrNobody (c .erasing .given .0 .0 .0) ≡ true
+named c = rw (c .erasing .given .1) at (c .before .before .before .pre .0)
 
-sub-put-number : tie.Need-sub-put-number
-sub-put-number c = stands-within (c .before .before .put2 .ensures)
+sub-put-msisdn : tie.Need-sub-put-msisdn
+sub-put-msisdn c = stands-within (c .before .before .put2 .ensures)
 
-part-put-number-start : tie.Need-part-put-number-start
-part-put-number-start c = stands-within (c .before .before .put2 .ensures)
+part-put-msisdn-start : tie.Need-part-put-msisdn-start
+part-put-msisdn-start c = stands-within (c .before .before .put2 .ensures)
 
-part-put-number-end : tie.Need-part-put-number-end
-part-put-number-end c = search needs
+part-put-msisdn-end : tie.Need-part-put-msisdn-end
+part-put-msisdn-end c = search needs
 
-put-number-requires : tie.Need-put-number-requires
-put-number-requires c κs =
+put-msisdn-requires : tie.Need-put-msisdn-requires
+put-msisdn-requires c κs =
     let p = c .before .before .before in
-    (number (p .before .before .before .before), omega (arith, stands-room (p .put2 .ensures), p .put2 .ensures .count))
+    (named (p .before .before .before .before), omega (arith, stands-room (p .put2 .ensures), p .put2 .ensures .count))
 
 add-result : tie.Need-add-result
 add-result c =
@@ -53,7 +53,7 @@ add-result c =
     let p = q .before .before .before .before in
     let e = p .before .before .before .before in
     let w = e .erasing .given .0 .0 .0 in
-    omega (arith, p .put2 .ensures .count, q .put-number .ensures .count, length-append (digitsOf w) star, digits-most w (number e))
+    omega (arith, p .put2 .ensures .count, q .put-msisdn .ensures .count, length-append (digitsOf w) star, supervisor-most (e .erasing .given .0 .0) (named e))
 
 same-length : tie.Need-same-length
 same-length c = search needs
@@ -68,7 +68,7 @@ returns-2 : tie.Need-returns-2
 returns-2 c =
     let q = c .before .before in
     let p = q .before .before .before .before in
-    rw (p .before .before .before .before .erasing .given .1) (stands-behind (p .put2 .ensures) (q .put-number .ensures))
+    rw (p .before .before .before .before .erasing .given .1) (stands-behind (p .put2 .ensures) (q .put-msisdn .ensures))
 
 pub put-erasing-spec : {M : Type 1} → statement M
 put-erasing-spec =
@@ -80,10 +80,10 @@ put-erasing-spec =
     enum-known-erasing
     slice-aggregate-put-2
     put-requires-2
-    sub-put-number
-    part-put-number-start
-    part-put-number-end
-    put-number-requires
+    sub-put-msisdn
+    part-put-msisdn-start
+    part-put-msisdn-end
+    put-msisdn-requires
     add-result
     same-length
     returns

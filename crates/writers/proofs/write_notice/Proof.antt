@@ -1,8 +1,10 @@
--- `writers::write_notice` meets its contract. Assumes nothing.
+-- `writers::write_notice` meets its contract: a notice's text is a forced erasure's, nobody having no digits. Assumes nothing.
+use mathlib.Core.Path.{refl}
 use native.Mathlib.Omega.{arith}
 use borrow.Author.Needs.{needs}
-use Rattle.strings.specs.Text.{noticeFields}
-use Rattle.strings.proofs.Text.{notice-sound}
+use Rattle.answers.specs.Leading.{each}
+use Rattle.strings.specs.Notices.{noticeFields}
+use Rattle.strings.proofs.Notices.{forced-text}
 use Rattle.writers.proofs.write_notice.Statement.{statement}
 use Rattle.writers.proofs.write_notice.Tie as tie
 
@@ -10,17 +12,17 @@ slice-aggregate-write-packed : tie.Need-slice-aggregate-write-packed
 slice-aggregate-write-packed c = search needs
 
 write-packed-requires : tie.Need-write-packed-requires
-unfolding noticeFields
+unfolding each
 write-packed-requires c κs =
     let s = c .before .before .before in
-    (notice-sound (s .args .number) (s .args .supervisor) (s .pre .0 .0) (s .pre .0 .1), omega arith)
+    (record { number = s .pre .0 .0; msisdn = s .pre .0 .1; few = refl; additional = refl }, omega arith)
 
 same-length : tie.Need-same-length
 same-length c = search needs
 
 returns : tie.Need-returns
 unfolding noticeFields
-returns c = c .before .before .write-packed .ensures
+returns c = let w = c .before .before in rw (forced-text _) (w .write-packed .ensures)
 
 pub write-notice-spec : {M : Type 1} → statement M
 write-notice-spec =

@@ -1,4 +1,4 @@
--- `writers::write_packed` meets its contract: sound fields and room leave the packer nothing to refuse. Assumes nothing.
+-- `writers::write_packed` meets its contract: fields that can be written and room leave the packer nothing to refuse. Assumes nothing.
 use mathlib.Core.Path.{_≡_, sym}
 use mathlib.Core.List.{List, [], _∷_}
 use Prim.Native.Nat.{ℕ}
@@ -12,7 +12,7 @@ use Rattle.answers.proofs.Parts.{stands-front, stands-within}
 use Rattle.packing.specs.Packing.{octetsFor}
 use Rattle.packing.proofs.Outcomes.{pack-good, pack-count}
 use Rattle.strings.specs.Text.{Request, requestFrom, textOf}
-use Rattle.strings.proofs.Text.{text-taken, octets-short}
+use Rattle.strings.proofs.Text.{text-taken, writable-octets}
 use Rattle.writers.proofs.write_packed.Statement.{statement}
 use Rattle.writers.proofs.write_packed.Tie as tie
 
@@ -58,7 +58,7 @@ packs : (c : tie.After-pack) → c .pack .result ≡ Count (octetsFor (length (f
 packs c =
     let w = past-pack c in
     let s = start w in
-    let short = octets-short (fields s) (s .pre .0) in
+    let short = writable-octets (fields s) (s .pre .0) in
     pack-good (front w) (s .args .out .now) (c .pack .result) (c .pack .last .1 .0) (c .pack .ensures)
     (rw (is-text w) (omega arith)) (rw (is-text w) (text-taken (fields s) (s .pre .0))) .0
 

@@ -5,6 +5,7 @@ use native.Mathlib.Omega.{arith}
 use borrow.Author.Needs.{needs}
 use borrow.Author.Tests.{not-true, not-false}
 use Rattle.strings.specs.Text.{Request, requestFrom, requestSound}
+use Rattle.strings.proofs.Text.{sound-writable}
 use Rattle.strings.proofs.Answered.{short, unsound, written}
 use Rattle.writers.proofs.write_request.Statement.{statement}
 use Rattle.writers.proofs.write_request.Tie as tie
@@ -31,7 +32,7 @@ returns-2 c =
     unsound (fields s) (s .args .out .now) (omega arith) (broken c)
 
 write-packed-requires : tie.Need-write-packed-requires
-write-packed-requires c κs = (sound (c .before), omega arith)
+write-packed-requires c κs = (sound-writable _ (sound (c .before)), omega arith)
 
 same-length : tie.Need-same-length
 same-length c = search needs

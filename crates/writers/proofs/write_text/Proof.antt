@@ -9,7 +9,7 @@ use borrow.Rule.Slice.PartMut.{putMid}
 use Rattle.answers.specs.Writing.{Stands}
 use Rattle.answers.proofs.Parts.{stands-within, stands-room, stands-behind}
 use Rattle.strings.specs.Text.{Request, requestFrom, mostAdditional, hash}
-use Rattle.strings.proofs.Text.{Rules, sound-rules, sound-erasing, beforeErasing, beforeAdditional, text-grows, before-number, before-erasing, before-additional}
+use Rattle.strings.proofs.Text.{beforeErasing, beforeAdditional, text-grows, before-number, before-erasing, before-additional}
 use Rattle.writers.proofs.write_text.Statement.{statement}
 use Rattle.writers.proofs.write_text.Tie as tie
 
@@ -18,11 +18,8 @@ use Rattle.writers.proofs.write_text.Tie as tie
 abbrev fields : tie.Start → Request
 fields s = requestFrom (s .args .operation) (s .args .number) (s .args .erasing) (s .args .additional .now)
 
-rules : (s : tie.Start) → Rules (fields s)
-rules s = sound-rules (fields s) (s .pre .0)
-
 few : (s : tie.Start) → length (s .args .additional .now) ≤ mostAdditional
-few s = leb-true (length (s .args .additional .now)) mostAdditional (rules s .few)
+few s = leb-true (length (s .args .additional .now)) mostAdditional (s .pre .0 .few)
 
 abbrev past-number : tie.After-put-number → tie.After-put-operation
 past-number c = c .before .before .before .before
@@ -79,7 +76,7 @@ put-number-requires : tie.Need-put-number-requires
 put-number-requires c κs =
     let o = c .before .before .before in
     let one = o .put-operation .ensures in
-    (rules (start1 o) .number, omega (arith, stands-room one, one .count, before-number (fields (start1 o))))
+    (start1 o .pre .0 .number, omega (arith, stands-room one, one .count, before-number (fields (start1 o))))
 
 add-at : tie.Need-add-at
 add-at c = let n = c .before .before in omega (arith, two n .count, before-erasing (fields (start2 n)) (start2 n .pre .0))
@@ -96,10 +93,8 @@ part-put-erasing-end c = search needs
 put-erasing-requires : tie.Need-put-erasing-requires
 put-erasing-requires c κs =
     let n = c .before .before .before in
-    let s = start2 n in (
-      sound-erasing (s .args .operation) (s .args .erasing) (rules s .erasing),
-      omega (arith, stands-room (two n), two n .count, before-erasing (fields s) (s .pre .0)),
-    )
+    let s = start2 n in
+    (s .pre .0 .msisdn, omega (arith, stands-room (two n), two n .count, before-erasing (fields s) (s .pre .0)))
 
 add-at-2 : tie.Need-add-at-2
 add-at-2 c = let e = c .before .before in omega (arith, three e .count, before-additional (fields (start3 e)) (start3 e .pre .0))

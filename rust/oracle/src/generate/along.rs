@@ -1,5 +1,6 @@
 //! Calls one after the other over one table: requests, framed ones, crews,
-//! sendings, results and closings, most of them about its few numbers.
+//! erasures at the terminal, sendings, results and closings, most of them about
+//! its few numbers.
 
 use super::{Call, Generator};
 use crate::rows::{recount, Record, NOTICE, NUMBER};
@@ -49,14 +50,21 @@ impl Generator {
             0 => self.number(),
             _ => record[NUMBER],
         };
-        match self.random.below(64) {
+        match self.random.below(70) {
             0 => Call::Close {
                 table,
                 figures,
                 number,
             },
-            1..=31 => self.request_along(along),
-            32..=47 => Call::Sending {
+            1..=6 => Call::TerminalErasure {
+                table,
+                figures,
+                reply: self.buffer_along(80),
+                number,
+                holder: self.holder_to_name(record),
+            },
+            7..=37 => self.request_along(along),
+            38..=53 => Call::Sending {
                 table,
                 figures,
                 buffer: self.buffer_along(80),
@@ -126,7 +134,8 @@ impl Call {
             | Self::FramedRequest { table, figures, .. }
             | Self::Sending { table, figures, .. }
             | Self::Result { table, figures, .. }
-            | Self::Close { table, figures, .. } => Some((table, figures)),
+            | Self::Close { table, figures, .. }
+            | Self::TerminalErasure { table, figures, .. } => Some((table, figures)),
             _ => None,
         }
     }

@@ -3,7 +3,7 @@
 //! The numbers of a radio have a few roots, some of which differ in length
 //! alone, so that a notice is about some of them and not about others.
 
-use super::{pack_by_bits, Generator};
+use super::{pack_by_bits, Generator, MSISDN};
 use crate::number::{digit_count, is_number};
 use crate::radio::{notice, reply, store, Doing, Entry, Radio, MAX_STORED};
 use crate::string::{Fields, Operation};
@@ -330,7 +330,8 @@ impl Generator {
         }
     }
 
-    /// The string of a forced erasure mostly, often about a root that is stored.
+    /// The string of a forced erasure mostly, by a supervisor or at the terminal,
+    /// often about a root that is stored.
     fn notice_string(&mut self, radio: &Radio) -> Vec<u8> {
         let known = self.some_entry(radio).map(|entry| entry.number);
         let number = match (self.random.below(8), known) {
@@ -357,10 +358,17 @@ impl Generator {
                     .pick(&[Operation::Register, Operation::Interrogate]);
             }
             // A crew's field, which may not stand in a forced erasure.
-            2 => fields.additional = self.random.pick(&["BULK0", "BULK1 02", " BULK0"]).into(),
+            2 => {
+                let fields_of_crews = ["BULK0", "BULK1 02", "BULK", " BULK0"];
+                fields.additional = self.random.pick(&fields_of_crews).into();
+            }
             _ => {}
         }
-        self.string(&fields)
+        let mut pieces = Self::pieces(&fields);
+        if self.random.once_in(3) {
+            pieces[MSISDN].clear();
+        }
+        self.string_of(pieces)
     }
 
     /// The last question's invoke number mostly, or one close to it.

@@ -80,6 +80,12 @@ pub fn framed_request(
     })
 }
 
+pub fn terminal_erasure(table: &mut [u64], reply: &mut [u8], number: u64, holder: u64) -> Answer {
+    with_figures(table, |table, figures| {
+        oracle::terminal_erasure(table, figures, reply, number, holder)
+    })
+}
+
 pub fn sending(table: &mut [u64], buffer: &mut [u8], number: u64, delay: u32, now: u32) -> Answer {
     with_figures(table, |table, figures| {
         oracle::sending(table, figures, buffer, number, delay, now)
@@ -96,9 +102,22 @@ pub fn result(table: &mut [u64], number: u64, kind: u32, now: u32) -> Answer {
 /// or how the call ended without one. Checks that errors and refusals leave
 /// table and buffer, and that octets beyond the reply stay.
 pub fn ask(table: &mut [u64], list: &[u64], requester: u64, string: &str) -> String {
+    said(table, |table, reply| {
+        request(table, list, reply, requester, 0x0F, &packed(string))
+    })
+}
+
+/// The same of an erasure at the terminal.
+pub fn ask_terminal(table: &mut [u64], number: u64, holder: u64) -> String {
+    said(table, |table, reply| {
+        terminal_erasure(table, reply, number, holder)
+    })
+}
+
+fn said(table: &mut [u64], call: impl FnOnce(&mut [u64], &mut [u8]) -> Answer) -> String {
     let before = table.to_vec();
     let mut reply = [FILL; 100];
-    match request(table, list, &mut reply, requester, 0x0F, &packed(string)) {
+    match call(table, &mut reply) {
         Answer::Outcome {
             number,
             octets,
