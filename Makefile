@@ -1,6 +1,6 @@
-# run: the program on document 01's example. test: the gate. bench: the figures of docs/PERFORMANCE.md.
+# run: the program on document 01's example. test: the gate. wrong-programs: those that the gate leaves out. bench: the figures of docs/PERFORMANCE.md.
 # install: archives, headers and ffn.pc under PREFIX, for C builds.
-.PHONY: run test bench install
+.PHONY: run test wrong-programs bench install
 # Both archives are built in one target folder.
 .NOTPARALLEL:
 
@@ -19,6 +19,10 @@ run:
 
 test:
 	@.ci/run
+
+wrong-programs:
+	@$(need_rt)
+	@tests/wrong-programs
 
 bench:
 	@. tests/processor.sh; is_x86_64 || { echo "not measured: the library is x86-64 code, and a time on $$machine would say nothing" >&2; exit 1; }

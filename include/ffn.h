@@ -57,6 +57,11 @@
  * supervisor does; the notice to the holder then leaves the supervisor's place
  * blank.
  *
+ * Text messages. A message centre asks ffn_routing which MSISDN stands behind a
+ * functional number. The number's first three digits are its international code;
+ * one of another network is answered by that code alone. It is lent the table and
+ * characters, for reading only, and takes no figures and no list.
+ *
  * Withdrawn numbers. ffn_close closes a number, which keeps its holder and its
  * notice until they run out. ffn_compact then removes its row, and ffn_add uses
  * the row again. Both are lent a buffer of words with a table at its front, and
@@ -96,7 +101,10 @@ enum {
     FFN_COUNTED = 11, /* held, waiting, in_flight: the figures */
     /* Of withdrawn numbers. */
     FFN_CLOSED = 12, /* the number is closed */
-    FFN_ROWS = 13    /* count: the rows now in use; value: of ffn_compact how many went, otherwise 0 */
+    FFN_ROWS = 13,   /* count: the rows now in use; value: of ffn_compact how many went, otherwise 0 */
+    /* Of a routing. */
+    FFN_ASK_NETWORK = 14, /* code: the international code of the network to ask */
+    FFN_ROUTED = 15       /* msisdn: where the message goes; subaddress: with which subaddress */
 };
 
 /* The problems with which a framed request is rejected. */
@@ -138,7 +146,7 @@ enum {
  * one more; 51 the functional number is already in the table; 52 it is not in the
  * table.
  * Errors: 35 the requester is no MSISDN, or the string has 0 octets; 36 the
- * string does not read; 71 the data coding scheme is not 0x0F.
+ * string does not read, or a routing's code or digits are malformed; 71 the data coding scheme is not 0x0F.
  * Outcomes: 01 registered, 02 erased, 03 interrogated; 11 a crew's request to
  * register, 12 one to erase, whatever became of its numbers; 22, 41, 42, 61, 62,
  * 63, 67, 68 as in document 01's table (63 not for a plain erasure by the
@@ -148,7 +156,7 @@ enum {
 
 /* An answer. A field that its class does not name is 0. */
 struct ffn_answer {
-    uint32_t class_; /* any but FFN_READ and FFN_COUNTED (without its underscore a word of C++) */
+    uint32_t class_; /* any but FFN_READ, FFN_COUNTED, FFN_ASK_NETWORK and FFN_ROUTED (without its underscore a word of C++) */
     uint32_t number;
     size_t count;
     uint64_t value;
@@ -185,6 +193,16 @@ struct ffn_figures {
     uint64_t held;      /* numbers held */
     uint64_t waiting;   /* notices waiting */
     uint64_t in_flight; /* notices in flight */
+};
+
+/* Where a text message goes. A field that its class does not name is 0. */
+struct ffn_route {
+    uint32_t class_;           /* FFN_ROUTED, FFN_ASK_NETWORK, FFN_OUTCOME, FFN_ERROR, or FFN_REFUSAL */
+    uint32_t number;           /* of FFN_OUTCOME 41 or 62, of FFN_ERROR 36, of FFN_REFUSAL 2; otherwise 0 */
+    uint64_t msisdn;           /* of FFN_ROUTED the holder's MSISDN, in stored form */
+    uint8_t code[3];           /* of FFN_ASK_NETWORK the code's three characters, "033" */
+    uint8_t subaddress[3];     /* of FFN_ROUTED the octets of the subaddress, where it has one */
+    uint8_t subaddress_octets; /* how many these are: 3, or 0 where it has none */
 };
 
 /* What an image reads as. With FFN_REFUSAL all but number is 0. */
@@ -266,6 +284,22 @@ struct ffn_answer ffn_request(uint64_t *table, size_t table_words, uint64_t *fig
 struct ffn_answer ffn_terminal_erasure(uint64_t *table, size_t table_words, uint64_t *figures, size_t figure_words,
                                        uint8_t *reply, size_t reply_length,
                                        uint64_t functional_number, uint64_t holder);
+
+/*
+ * Where a text message goes: home is the node's own international code, digits are
+ * those of the number asked for, both as characters. coded is 0 where the digits have no
+ * code; then the node's own is put in front, whatever they begin with. Any other
+ * value says that they have one. Refused 2; then error 36 where the node's code is
+ * not exactly three digits, a character is no digit, or there are not 5 to 15
+ * digits with the code. Then FFN_ASK_NETWORK where the first three digits are not
+ * the node's own code, whether or not the number is in the table. Otherwise
+ * FFN_OUTCOME 41 (not in the table) or 62 (nobody holds it), or FFN_ROUTED with the
+ * holder's MSISDN. A number of type 2, 3 or 4, its fourth digit, has a subaddress
+ * too (document 000, table 2): 0x80, 0x48, then the last digit in the high half and
+ * the one before it in the low half, so branch 01 gives 0x10. It changes nothing.
+ */
+struct ffn_route ffn_routing(const uint64_t *table, size_t table_words, const uint8_t *home, size_t home_length,
+                             const uint8_t *digits, size_t digit_count, uint8_t coded);
 
 /*
  * Sends the notice of a number. FFN_SENT with the addressee, and the packed

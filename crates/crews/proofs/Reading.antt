@@ -9,9 +9,8 @@ use lib.ListN.{length, getD, drop, length-drop}
 use lib.Seq.{drop-cons}
 use borrow.Author.Tests.{eq-eqb, ne-eqb, lt-ltb}
 use Rattle.answers.specs.Leading.{each}
-use Rattle.answers.proofs.Leading.{each-at}
-use Rattle.numbers.specs.Numbers.{isDigit, areDigits}
-use Rattle.numbers.proofs.Digits.{digit-range}
+use Rattle.numbers.specs.Numbers.{areDigits}
+use Rattle.numbers.proofs.Digits.{digit-at}
 use Rattle.crews.specs.Crews.{leadCode, isCode, isIn, distinct, codesAllowed, codeAt, codesIn, codesAt}
 use Rattle.crews.proofs.Codes.{codes-only}
 
@@ -30,8 +29,8 @@ pub record Pair (s : List ℕ) (i : ℕ) : Type 0 where
 
 pub pair : (s : List ℕ) (i : ℕ) → areDigits s ≡ true → 2 * i + 1 < length s → Pair s i
 pair s i d h =
-    let tens = digit-range (getD s (2 * i) 0) (each-at isDigit s (2 * i) d (omega arith)) in
-    let ones = digit-range (getD s (2 * i + 1) 0) (each-at isDigit s (2 * i + 1) d h) in
+    let tens = digit-at s (2 * i) d (omega arith) in
+    let ones = digit-at s (2 * i + 1) d h in
     record { tens-low = tens .0; tens-high = tens .1; ones-low = ones .0; ones-high = ones .1 }
 
 -- the i-th code, and those behind it

@@ -20,7 +20,7 @@ use Rattle.frames.specs.Components.{Component, mostResultOctets}
 use Rattle.frames.specs.Messages.{frameRoom, version, Register, registerOf, release, inverted}
 use Rattle.frames.specs.Read.{lastOf, toldBody, toldRegister}
 use Rattle.frames.proofs.Inside.{asks-so, count-within, register-count, register-place}
-use Rattle.rules.specs.Answers.{Answer, refusal, error, outcome, holderIs, returnError, reject, sentTo, delivered, dropped, again, found, noneDue, Outcome, made, mostReplyOctets, numbersOf}
+use Rattle.rules.specs.Answers.{Answer, refusal, error, outcome, holderIs, returnError, reject, sentTo, delivered, dropped, again, found, noneDue, askNetwork, routedTo, Outcome, made, mostReplyOctets, numbersOf}
 use Rattle.rules.proofs.Short.{request-short}
 use Rattle.rules.proofs.Framed.{framed-short, framed-unread, framed-unlisted, framed-rejected, framed-bare}
 use Rattle.rules.specs.Crews.{requesting}
@@ -58,6 +58,8 @@ in-state first number frame t reply a {b} {new} e = ap (λ (o : Outcome). made (
     go again = refl
     go (found functional) = refl
     go noneDue = refl
+    go (askNetwork code) = refl
+    go (routedTo msisdn subaddress) = refl
 
 -- what was asked inside, with its answer in the frame
 pub answered-inside : (first number : ℕ) (frame : List ℕ) (asked : Outcome) (said b : Answer) (t : State) (reply new : List ℕ) → made said t reply ≡ asked

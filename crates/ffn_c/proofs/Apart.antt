@@ -1,12 +1,13 @@
--- The struct loses nothing: from its four numbers the answer in document 01's words can be read back. Assumes nothing.
+-- The structs lose nothing: from the four numbers the answer in document 01's words can be read back, and a routing's from its own. Assumes nothing.
 use mathlib.Core.Path.{_≡_, refl}
-use mathlib.Core.Bool.{Bool, true, not, cond, _||_}
+use mathlib.Core.Bool.{Bool, true, false, not, cond, _||_}
 use mathlib.Core.Option.{Option, none, some}
 use mathlib.Core.List.{List, [], _∷_}
 use Prim.Native.Nat.{ℕ, zero, suc, _<_}
+use lib.ListN.{getD}
 use lib.Dec.{eqb}
 use borrow.Author.Tests.{not-true}
-use Rattle.answers.proofs.Tests.{or-neither}
+use Rattle.answers.proofs.Tests.{no-path, or-neither}
 use Rattle.answers.proofs.Decide.{decide-each}
 use Rattle.numbers.specs.declared.FunctionalNumber.{FunctionalNumber}
 use Rattle.numbers.specs.declared.Msisdn.{Msisdn}
@@ -20,15 +21,22 @@ use Rattle.tables.specs.declared.Found.{Found}
 use Rattle.tables.specs.declared.Found.the-variants.{At, Nothing}
 use Rattle.tables.specs.Tables.{tableSound, rowsIn}
 use Rattle.states.specs.States.{State, figuresRight, rowFor, recordFor, recordIn}
-use Rattle.rules.specs.Answers.{Answer, refusal, error, outcome, holderIs, returnError, reject, sentTo, delivered, dropped, again, found, noneDue, Outcome, isNegativeNumber, refusing}
+use Rattle.rules.specs.Answers.{Answer, refusal, error, outcome, holderIs, returnError, reject, sentTo, delivered, dropped, again, found, noneDue, askNetwork, routedTo, Outcome, isNegativeNumber, refusing}
 use Rattle.rules.specs.Answers as class
 use Rattle.rules.specs.Requests.{saying}
 use Rattle.rules.specs.Crews.{crewNumber, Walk, crewOutcome, requesting}
 use Rattle.rules.specs.Frames.{framedChecks, answeredIn, inFrame, ownReply, bodied, registered, framedRequest}
 use Rattle.rules.specs.Notices as notices
-use Rattle.rules.proofs.Each.{request-each}
+use Rattle.rules.specs.Terminal.{terminalErasure}
+use Rattle.rules.proofs.Each.{request-each, terminal-each}
+use Rattle.routes.specs.declared.Subaddress.the-variants.{Absent, Octets}
+use Rattle.routes.specs.declared.RoutingAnswer.{RoutingAnswer}
+use Rattle.routes.specs.declared.RoutingAnswer.the-variants.{Refused, Error, Outcome as Answered, AskNetwork, Routed}
+use Rattle.routes.specs.Said.{saidRouting}
 use Rattle.structs.specs.declared.Answer as numbers
 use Rattle.structs.specs.Numbers.{ofAnswer}
+use Rattle.structs.specs.declared.Route.{Route}
+use Rattle.structs.specs.Routes.{ofRoute}
 
 -- the answer that four numbers stand for
 answerOf : ℕ → ℕ → ℕ → ℕ → Answer
@@ -42,7 +50,7 @@ answerOf c number count value =
     (cond (eqb c class.returnErrorClass) (returnError number count)
     (cond (eqb c class.rejectClass) (reject number count) noneDue)))))))
 
--- outcome 03 comes with the holder
+-- outcome 03 comes with the holder; a routing's answers have a struct of their own
 tells : Answer → Bool
 tells (refusal n) = true
 tells (error n) = true
@@ -56,6 +64,8 @@ tells dropped = true
 tells again = true
 tells (found number) = true
 tells noneDue = true
+tells (askNetwork code) = false
+tells (routedTo msisdn subaddress) = false
 
 IsTold : Answer → Type 0
 IsTold a = tells a ≡ true
@@ -81,6 +91,16 @@ back dropped t = refl
 back again t = refl
 back (found number) t = refl
 back noneDue t = refl
+back (askNetwork code) t = no-path t
+back (routedTo msisdn subaddress) t = no-path t
+
+-- a negative outcome is not 03
+denied : (state : State) (reply : List ℕ) (n : ℕ) → n < 100 → isNegativeNumber n ≡ true → Tells (saying n state reply)
+unfolding tells IsTold Tells
+denied state reply n l e =
+    let other = or-neither (eqb n 1 || eqb n 2 || eqb n class.interrogationNumber || eqb n class.crewRegistered) (eqb n class.crewErased) (not-true _ e) in
+    let third = or-neither (eqb n 1 || eqb n 2 || eqb n class.interrogationNumber) (eqb n class.crewRegistered) (other .0) in
+    rw (or-neither (eqb n 1 || eqb n 2) (eqb n class.interrogationNumber) (third .0) .1)
 
 -- ---- a request
 
@@ -88,15 +108,8 @@ request-tells :
     (state : State) (list reply : List ℕ) (requester : Msisdn) (scheme : ℕ) (string : List ℕ) → Tells (requesting state list reply requester scheme string)
 unfolding tells IsTold Tells
 request-tells state list reply requester scheme string =
-    request-each state reply Tells (λ n. refl) (λ n. refl) denied (λ new. refl) (λ new. refl) (λ msisdn. refl) (λ o w tallied. crew o w) list requester scheme string
+    request-each state reply Tells (λ n. refl) (λ n. refl) (denied state reply) (λ new. refl) (λ new. refl) (λ msisdn. refl) (λ o w tallied. crew o w) list requester scheme string
   where
-    -- a negative outcome is not 03
-    denied : (n : ℕ) → n < 100 → isNegativeNumber n ≡ true → Tells (saying n state reply)
-    denied n l e =
-        let other = or-neither (eqb n 1 || eqb n 2 || eqb n class.interrogationNumber || eqb n class.crewRegistered) (eqb n class.crewErased) (not-true _ e) in
-        let third = or-neither (eqb n 1 || eqb n 2 || eqb n class.interrogationNumber) (eqb n class.crewRegistered) (other .0) in
-        rw (or-neither (eqb n 1 || eqb n 2) (eqb n class.interrogationNumber) (third .0) .1)
-
     crew : (o : Operation) (w : Walk) → Tells (crewOutcome (crewNumber o) reply w)
     crew operation.Register w = refl
     crew operation.Erase w = refl
@@ -128,6 +141,8 @@ framed-tells first number frame o t = go (o .answer) t
     go again t = refl
     go (found number) t = refl
     go noneDue t = refl
+    go (askNetwork code) t = no-path t
+    go (routedTo msisdn subaddress) t = no-path t
 
 module _ (state : State) (list frame : List ℕ) (requester : Msisdn) where
   abbrev asked : ℕ → List ℕ → Outcome
@@ -149,6 +164,15 @@ module _ (state : State) (list frame : List ℕ) (requester : Msisdn) where
       back _
       (decide-each Tells (refusing state frame (framedChecks (tableSound (state .table)) (figuresRight state) list frame message)) (registered asked state frame (registerOf message))
       (refl, (refl, (refl, (refl, (refl, tt))))) (read-tells (registerOf message)))
+
+-- ---- an erasure at the terminal
+
+pub terminal-back :
+    (state : State) (reply : List ℕ) (number : FunctionalNumber) (holder : Msisdn)
+    → let a = terminalErasure state reply number holder .answer in readBack (ofAnswer a) ≡ a
+unfolding tells IsTold Tells
+terminal-back state reply number holder =
+    back _ (terminal-each state reply Tells (λ n. refl) (λ n. refl) (denied state reply) (λ new. refl) (λ new. refl) (λ msisdn. refl) number holder)
 
 -- ---- a sending
 
@@ -202,3 +226,24 @@ finding-back table delay clock =
     back _
     (decide-each IsTold ((not (tableSound table), refusal 2) ∷ (not (delayAllowed delay), refusal 6) ∷ []) (notices.firstDue table delay clock (rowsIn table) 0)
     (refl, (refl, tt)) (first-tells table delay clock (rowsIn table) 0))
+
+-- ---- a routing, whose struct is another
+
+-- the answer, read back
+pub routeBack : Route → RoutingAnswer
+routeBack r =
+    cond (eqb (r .class) class.refusalClass) (Refused (r .number))
+    (cond (eqb (r .class) class.errorClass) (Error (r .number))
+    (cond (eqb (r .class) class.outcomeClass) (Answered (r .number))
+    (cond (eqb (r .class) class.askNetworkClass) (AskNetwork (getD (r .code) 0 0) (getD (r .code) 1 0) (getD (r .code) 2 0))
+    (Routed (record { 0 = r .msisdn })
+    (cond (eqb (r .«subaddress_octets») 0) Absent (Octets (getD (r .subaddress) 0 0) (getD (r .subaddress) 1 0) (getD (r .subaddress) 2 0)))))))
+
+pub routing-back : (a : RoutingAnswer) → routeBack (ofRoute (saidRouting a)) ≡ a
+unfolding routeBack
+routing-back (Refused n) = refl
+routing-back (Error n) = refl
+routing-back (Answered n) = refl
+routing-back (AskNetwork x y z) = refl
+routing-back (Routed msisdn Absent) = refl
+routing-back (Routed msisdn (Octets x y z)) = refl

@@ -10,8 +10,11 @@ use structs::FrameRead;
 use structs::ImageCounts;
 use structs::Operating;
 use structs::RequestRead;
+use structs::Route;
 ghost use mathlib.Core.Path.{_≡_};
+ghost use mathlib.Core.Bool.{not};
 ghost use mathlib.Core.List.{[]};
+ghost use lib.Dec.{eqb};
 ghost use Rattle.packing.specs.Outcomes.{packing, unpacking};
 ghost use Rattle.frames.specs.Messages.{registerOf, releaseOf};
 ghost use Rattle.tables.specs.Figures.{recounted};
@@ -22,6 +25,8 @@ ghost use Rattle.rules.specs.Crews.{requesting};
 ghost use Rattle.rules.specs.Frames.{framedRequest};
 ghost use Rattle.rules.specs.Notices as notices;
 ghost use Rattle.rules.specs.Terminal.{terminalErasure};
+ghost use Rattle.rules.specs.Routing.{routing};
+ghost use Rattle.structs.specs.Routes.{ofRoute};
 ghost use Rattle.structs.specs.Numbers.{ofAnswer, operationOf, erasingOf};
 ghost use Rattle.structs.specs.Figures.{ofFigures};
 ghost use Rattle.structs.specs.Frames.{ofRegister, ofRelease};
@@ -114,6 +119,14 @@ pub extern "C" fn ffn_request(
     let requester = Msisdn(requester);
     let answer = node::request(table, figures, list, reply, requester, scheme, string);
     structs::of_request(answer)
+}
+
+// Where a text message to these digits goes; `coded` is 0 where they have no code.
+#[no_mangle]
+pub extern "C" fn ffn_routing(table: &[u64], home: &[u8], digits: &[u8], coded: u8) -> Route
+    ensures { λ r. ⌜ r ≡ ofRoute (routing (now (table .entry)) (now (home .entry)) (not (eqb coded 0)) (now (digits .entry))) ⌝ }
+{
+    structs::of_routing(routes::routing(table, home, coded != 0, digits))
 }
 
 // An erasure at the node's terminal: the number and its holder over the lent table and figures, with the reply.

@@ -17,7 +17,7 @@ use Rattle.packing.specs.Packing.{charsIn}
 use Rattle.numbers.specs.Numbers.{mostDigits, isNumber, digitsOf, pushed, storedForm}
 use Rattle.numbers.specs.declared.FunctionalNumber.{FunctionalNumber}
 use Rattle.numbers.proofs.Lengths.{number-some}
-use Rattle.rules.specs.Answers.{Answer, refusal, error, outcome, holderIs, returnError, reject, sentTo, delivered, dropped, again, found, noneDue, Outcome, isSent}
+use Rattle.rules.specs.Answers.{Answer, refusal, error, outcome, holderIs, returnError, reject, sentTo, delivered, dropped, again, found, noneDue, askNetwork, routedTo, Outcome, isSent}
 use Rattle.rules.specs.Notices as notices
 use Rattle.forms.specs.Lines as form
 use Rattle.forms.specs.Lines.{lineFeed, space, firstField, behindField, isDigits, isNumberLong, askedOf, valueBelow, Form, sendingForm, lettered, formOf}
@@ -53,6 +53,8 @@ said-most dropped b h = omega arith
 said-most again b h = omega arith
 said-most (found n) b h = omega arith
 said-most noneDue b h = omega arith
+said-most (askNetwork code) b h = omega arith
+said-most (routedTo msisdn subaddress) b h = omega arith
 
 pub said-room : (o : Outcome) → Printable (o .answer) (o .buffer) → length (behindLetter (o .answer) (o .buffer)) ≤ answerRoom
 said-room o h = go (isSent (o .answer)) (said-most (o .answer) (o .buffer) h)

@@ -5,12 +5,12 @@ use mathlib.Core.List.{List, [], _∷_, _++_, append-nil}
 use Prim.Native.Nat.{ℕ, zero, suc, _+_, _-_, _*_, _/_, _%_, _^_, _≤_, _<_}
 use native.Mathlib.Nat.{le-trans, le-of-eq, lt-of-lt-of-le, mul-le-mul-left, mul-le-mul-right, mul-one, mul-assoc, mul-comm, pow-suc, pow-zero, one-le-pow, add-zero}
 use native.Mathlib.Omega.{arith}
-use lib.ListN.{length, length-append}
+use lib.ListN.{length, getD, length-append}
 use lib.Seq.{append-snoc}
 use lib.Dec.{leb, lit<}
 use borrow.Author.Tests.{leb-true, le-leb, lt-ltb, le-ltb}
 use Rattle.answers.specs.Leading.{each}
-use Rattle.answers.proofs.Leading.{each-head, each-tail, each-append}
+use Rattle.answers.proofs.Leading.{each-head, each-tail, each-at, each-append}
 use Rattle.answers.proofs.Tests.{and-left, and-right, and-both}
 use Rattle.numbers.specs.Numbers.{fewestDigits, mostDigits, isDigit, areDigits, pushed, storedForm, isNumber, digitsUpTo, digitsOf}
 use Rattle.numbers.proofs.Lengths.{HasLength, length-of, is-number}
@@ -20,6 +20,10 @@ use Rattle.numbers.proofs.Lengths.{HasLength, length-of, is-number}
 pub digit-range : (c : ℕ) → isDigit c ≡ true → (48 ≤ c) × (c ≤ 57)
 unfolding isDigit
 digit-range c h = (leb-true 48 c (and-left (leb 48 c) (leb c 57) h), leb-true c 57 (and-right (leb 48 c) (leb c 57) h))
+
+-- the one at a place
+pub digit-at : (digits : List ℕ) (i : ℕ) → areDigits digits ≡ true → i < length digits → (48 ≤ getD digits i 0) × (getD digits i 0 ≤ 57)
+digit-at digits i h l = digit-range (getD digits i 0) (each-at isDigit digits i h l)
 
 pub digit-is : (c : ℕ) → 48 ≤ c → c ≤ 57 → isDigit c ≡ true
 unfolding isDigit

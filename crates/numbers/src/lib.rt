@@ -22,9 +22,9 @@ pub enum NumberRead {
 }
 
 // How many digits a number has.
-const FEWEST_DIGITS: usize = 5;
+pub const FEWEST_DIGITS: usize = 5;
 
-const MOST_DIGITS: usize = 15;
+pub const MOST_DIGITS: usize = 15;
 
 // The least number as long as a word below 10^10; 0 where it is below the least of all.
 fn least_short(word: u64) -> u64

@@ -7,7 +7,7 @@ use lib.ListN.{length, take}
 use Rattle.answers.specs.Ascii.{ascii}
 use Rattle.packing.specs.Packing.{readable, unpacked}
 use Rattle.numbers.specs.Numbers.{isNumber, digitsOf, numeral}
-use Rattle.rules.specs.Answers.{Answer, mostReplyOctets, refusal, error, outcome, holderIs, returnError, reject, sentTo, delivered, dropped, again, found, noneDue}
+use Rattle.rules.specs.Answers.{Answer, mostReplyOctets, refusal, error, outcome, holderIs, returnError, reject, sentTo, delivered, dropped, again, found, noneDue, askNetwork, routedTo}
 
 -- the characters that the first octets of a buffer are
 abbrev pub textIn : ℕ → List ℕ → List ℕ
@@ -27,6 +27,8 @@ behindLetter dropped buffer = ascii "dropped"
 behindLetter again buffer = ascii "again"
 behindLetter (found n) buffer = []
 behindLetter noneDue buffer = []
+behindLetter (askNetwork code) buffer = []
+behindLetter (routedTo msisdn subaddress) buffer = []
 
 -- an addressee's 15 digits, the space and the 42 characters of the longest notice
 abbrev pub answerRoom : ℕ
@@ -56,3 +58,5 @@ Printable dropped buffer = Unit {0}
 Printable again buffer = Unit {0}
 Printable (found n) buffer = Unit {0}
 Printable noneDue buffer = Unit {0}
+Printable (askNetwork code) buffer = Unit {0}
+Printable (routedTo msisdn subaddress) buffer = Unit {0}

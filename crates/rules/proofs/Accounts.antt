@@ -28,7 +28,7 @@ use Rattle.rules.specs.Requests.{holderIn}
 use Rattle.rules.specs.Crews.{memberOf, crewCodes}
 use Rattle.rules.specs.Run.{only, last, end, log}
 use Rattle.rules.specs.Notices.{noticeIn}
-use Rattle.rules.specs.Calls.{Call, request, framed, sending, result, terminal, Reply, call, readOf, codesRead, codesOf, nameOf, namesOne, singleCalls, stepsOf}
+use Rattle.rules.specs.Calls.{Call, request, framed, sending, result, terminal, routes, Reply, call, readOf, codesRead, codesOf, nameOf, namesOne, singleCalls, stepsOf}
 use Rattle.rules.specs.Visits.{Visited, visit, missed}
 use Rattle.rules.specs.Demand.{holderOf, gotBy}
 use Rattle.rules.specs.Pending.{noticeFor, holdsAt, Between, sendingDone, noticeCleared}
@@ -42,7 +42,7 @@ use Rattle.rules.proofs.Single.{call-single}
 use Rattle.rules.proofs.Crews.{Small, member-reads}
 use Rattle.rules.proofs.Steps.{own-step, forced-alone, Goes, goes-room, goes-shared, goes-small, View, own, stops, goes, view}
 use Rattle.rules.proofs.Calls.{calls-local, singly-end}
-use Rattle.rules.proofs.Along.{isRequest, Asked, negative, registration, erasure, herself, forced, Does, asks, unsent, sends, untaken, clears, goes-on, unmoved, removes, delivers, drops, gives-up, does, missed-negative, unnamed, missing, same-one}
+use Rattle.rules.proofs.Along.{isRequest, Asked, negative, registration, erasure, herself, forced, Does, asks, unsent, sends, untaken, clears, goes-on, unmoved, removes, looks, delivers, drops, gives-up, does, missed-negative, unnamed, missing, same-one}
 use Rattle.rules.proofs.NoticeEnds.{launched-flies, flies-pending, farther, passed-unsent, sent-flies, state-most}
 use Rattle.rules.proofs.Told.{sending-tells}
 
@@ -69,6 +69,7 @@ request-kindless (framed requester message frame) test i = refl
 request-kindless (sending now number buffer) test i = no-path i
 request-kindless (result now number kind) test i = no-path i
 request-kindless (terminal number holder reply) test i = no-path i
+request-kindless (routes home coded asked) test i = no-path i
 
 -- whom a request forces off and names is in its string
 request-forces : (c : Call) → isRequest c ≡ true → forcesOff c ≡ forcesAnother (askerOf c) (readOf c)
@@ -77,6 +78,7 @@ request-forces (framed requester message frame) i = refl
 request-forces (sending now number buffer) i = refl
 request-forces (result now number kind) i = refl
 request-forces (terminal number holder reply) i = no-path i
+request-forces (routes home coded asked) i = refl
 
 request-names : (c : Call) → isRequest c ≡ true → holderNamedBy c ≡ holderNamed (readOf c)
 request-names (request requester scheme string reply) i = refl
@@ -84,6 +86,7 @@ request-names (framed requester message frame) i = refl
 request-names (sending now number buffer) i = refl
 request-names (result now number kind) i = refl
 request-names (terminal number holder reply) i = no-path i
+request-names (routes home coded asked) i = refl
 
 -- the class of a kind that drops a notice: of one below 5, and of 5
 below-class : (kind : ℕ) → eqb kind 0 ≡ false → ltb kind lastKind ≡ true → (isZero kind ≡ false) × (isOneToFour kind ≡ true) × (isFive kind ≡ false)
@@ -153,6 +156,7 @@ by-visit {r = r} (goes-on {kind = kind} f p) =
     }
 by-visit {r = r} (unmoved p q) = record { made = q ∙ sym (never-both (isAbsent (r .notice))); ended = rw (neither-both (isAbsent (r .notice))) refl }
 by-visit (removes m x z) = record { made = rw x refl; ended = rw x refl }
+by-visit {r = r} (looks p q) = record { made = sym (never-both (isAbsent (r .notice))); ended = rw (neither-both (isAbsent (r .notice))) refl }
 
 -- a number that is not in the table: nothing is counted
 by-missing : (list : List ℕ) (c : Call) → ByVisit true true (c, missed list c)
@@ -164,6 +168,7 @@ by-missing list c = record { made = and-no (forcesOff c) _ (missed-negative list
     by-call (sending now number buffer) = refl
     by-call (result now number kind) = rw (and-no (isZero kind) false refl, and-no (isOneToFour kind) false refl, and-no (isFive kind) false refl) refl
     by-call (terminal number holder reply) = refl
+    by-call (routes home coded asked) = refl
 
 -- ---- a crew's request counts nothing, and leaves every notice as it is
 
@@ -197,6 +202,7 @@ visit-plain (clears f e) p = no-path (p .1)
 visit-plain (goes-on f e) p = no-path (p .1)
 visit-plain (unmoved m n) p = refl
 visit-plain (removes m x z) p = no-path (p .1)
+visit-plain (looks m n) p = refl
 
 module _ (list : List ℕ) (delay k : ℕ) where
   single-plain : (c : Call) (t : State) → stateSound t ≡ true → Plain c → butHolder (recordFor (single list delay c t .1) k) ≡ butHolder (recordFor t k)
@@ -234,6 +240,7 @@ crew-uncounted c {codes} crew a test = (rw (request-forces c (asked c crew), pla
     kindless (sending now number buffer) e = refl
     kindless (result now number kind) e = not-some e
     kindless (terminal number holder reply) e = refl
+    kindless (routes home coded asked) e = refl
 
     plain-fields : (f : Request) → readOf c ≡ some f → (e : Erasing) → f .erasing ≡ e → namesAnother (askerOf c) e ≡ false
     plain-fields f r Empty e = refl
@@ -249,6 +256,7 @@ crew-uncounted c {codes} crew a test = (rw (request-forces c (asked c crew), pla
     asked (sending now number buffer) e = not-some e
     asked (result now number kind) e = not-some e
     asked (terminal number holder reply) e = not-some e
+    asked (routes home coded digits) e = not-some e
 
 -- ---- a call, and the notice of one number
 
@@ -274,6 +282,7 @@ visit-notifies (clears f e) p = no-path (sym p)
 visit-notifies (goes-on f e) p = refl
 visit-notifies (unmoved m n) p = rw n refl
 visit-notifies {r = r} (removes {holder = holder} m x z) p = rw (same-one (r .holder) holder m) refl
+visit-notifies (looks m n) p = refl
 
 -- an erasure that makes a notice names the record's holder
 asked-holder : {list : List ℕ} {r next : Record} {requester : Msisdn} {read : Option Request} {one two : Bool} → Asked list r requester read one two next
@@ -293,6 +302,7 @@ visit-holder (clears f e) u = no-path u
 visit-holder (goes-on f e) u = no-path u
 visit-holder (unmoved m n) u = no-path (sym n ∙ u)
 visit-holder {r = r} (removes {holder = holder} m x z) u = same-one (r .holder) holder m
+visit-holder (looks m n) u = no-path u
 
 -- a notice that kind 5 drops had the most sendings done
 visit-last : {list : List ℕ} {r : Record} {c : Call} {v : Visited} → Does list r c v → isDroppedLast (c, v .reply) ≡ true → leb mostSendings (sendingsDone (r .notice)) ≡ true
@@ -306,6 +316,7 @@ visit-last (clears f (gives-up e l m)) u = m
 visit-last (goes-on {kind = kind} f p) u = no-path (and-right (isFive kind) false u)
 visit-last (unmoved m n) u = no-path u
 visit-last (removes m x z) u = no-path u
+visit-last (looks m n) u = no-path u
 
 but-absent : (o : Option Record) → isAbsent (noticeIn (butHolder o)) ≡ isAbsent (noticeIn o)
 but-absent none = refl
@@ -383,6 +394,7 @@ module _ (list : List ℕ) (delay k : ℕ) where
       crew-unsent (sending now number buffer) e = not-some e
       crew-unsent (result now number kind) e = refl
       crew-unsent (terminal number holder reply) e = refl
+      crew-unsent (routes home coded asked) e = refl
 
   by-view : {c : Call} → View list delay c → (t : State) → stateSound t ≡ true → ByCall c (call list delay c t .0) t (call list delay c t .1)
   by-view (own c e s) t sound = rw (call-single list delay c t e) (by-single c t sound)
@@ -479,6 +491,7 @@ module _ (list : List ℕ) (delay k : ℕ) where
   uncleared (framed requester message frame) a u = rw (and-no (namesOne list (framed requester message frame) k) false refl) refl
   uncleared (sending now number buffer) a u = rw (and-no (eqb (number .0) k) false refl) refl
   uncleared (terminal number holder reply) a u = rw (and-no (eqb (number .0) k) false refl) refl
+  uncleared (routes home coded asked) a u = rw (and-no (namesOne list (routes home coded asked) k) false refl) refl
   uncleared (result now number kind) a u = go (eqb (number .0) k) refl
     where
       no-return : (n : ℕ) → eqb againNumber n ≡ false → isClearing (a .answer) ≡ false → (isOf resultClass (a .answer) && eqb (numbersOf (a .answer) .number) n) ≡ false

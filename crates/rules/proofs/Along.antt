@@ -1,5 +1,6 @@
 -- A list of calls, seen from one number: its record before them, what each call got, its record after them; and what a call that visits a record may do to it. Assumes nothing.
 use mathlib.Core.Path.{_≡_, refl, sym, ap, _∙_}
+use mathlib.Core.Logic.{⊎-elim}
 use mathlib.Core.Bool.{Bool, true, false, cond, not, _&&_}
 use mathlib.Core.Option.{Option, none, some}
 use mathlib.Core.List.{List, [], _∷_, map}
@@ -35,13 +36,16 @@ use Rattle.rules.specs.Answers.{Answer, refusal, delivered, dropped, aga
 use Rattle.rules.specs.Requests.{hasFollowMe, isSupervisor, isForced, afterErasure, rightChecks}
 use Rattle.rules.specs.Frames.{Inside, insideOf, ownReply}
 use Rattle.rules.specs.Terminal.{terminalRequest, bothNumbers}
+use Rattle.rules.specs.Routing.{withCodeIn, byCode}
+use Rattle.rules.specs.Figures.{isRouting}
 use Rattle.rules.specs.Run.{end, log}
-use Rattle.rules.specs.Calls.{Call, request, framed, sending, result, terminal, Reply, readOf, clockReading, nameOf, namesOne}
+use Rattle.rules.specs.Calls.{Call, request, framed, sending, result, terminal, routes, Reply, readOf, clockReading, nameOf, namesOne}
 use Rattle.rules.specs.Visits.{Visited, visited, visitSaying, stepped, holderAnswered, decides, decided, sentStep, resultStep, visitRequest, visitInside, visit, replySaying, missedRequest, missedInside, missed}
 use Rattle.rules.specs.Pending.{never}
 use Rattle.rules.specs.Users.{askerOf}
 use Rattle.rules.proofs.Once.{single}
 use Rattle.rules.proofs.Inside.{outcome-kept}
+use Rattle.rules.proofs.Routes.{code-each}
 use Rattle.rules.proofs.Unsound.{unsound-single}
 use Rattle.rules.proofs.Visits.{recordChecks, sentChecks}
 use Rattle.rules.proofs.Sound.{single-own, single-absent, single-other}
@@ -54,6 +58,7 @@ isRequest (framed requester message frame) = true
 isRequest (sending now number buffer) = false
 isRequest (result now number kind) = false
 isRequest (terminal number holder reply) = false
+isRequest (routes home coded asked) = false
 
 -- ---- what a visit may do to the record r
 
@@ -101,6 +106,8 @@ pub data Does (list : List ℕ) (r : Record) : Call → Visited → Type 0 where
       → Does list r (terminal number holder reply) (visited a buffer r)
   removes : {number : FunctionalNumber} {holder : Msisdn} {reply : List ℕ} → same (r .holder) holder ≡ true → isAbsent (r .notice) ≡ true → isNobody (r .holder) ≡ false
       → Does list r (terminal number holder reply) (visitSaying 2 reply (forcedOff nobody r))
+  -- a routing is answered with neither, and leaves the record
+  looks : {home asked : List ℕ} {coded : Bool} {a : Answer} → isOutcome 1 a ≡ false → isOutcome 2 a ≡ false → Does list r (routes home coded asked) (visited a [] r)
 
 module _ (list : List ℕ) (r : Record) (requester : Msisdn) (reply : List ℕ) where
   abbrev flags : ℕ
@@ -152,6 +159,10 @@ by-inside list r requester frame (some i) =
     let v = visitRequest (flagsOf list (requester .0)) requester ownReply (requestOf (i .string)) r in
     rw (outcome-kept i frame (v .reply) 1, outcome-kept i frame (v .reply) 2) (by-reading list r requester ownReply (requestOf (i .string)))
 
+-- what a routing is answered, by the record
+code-quiet : (n : ℕ) → eqb 41 n ≡ false → eqb 62 n ≡ false → (home digits : List ℕ) (r : Option Record) → isOutcome n (byCode home digits r) ≡ false
+code-quiet n unknown free home digits r = code-each (λ a. isOutcome n a ≡ false) unknown free (λ code. refl) (λ m s. refl) home digits r
+
 -- a visit does one of these
 pub does : (list : List ℕ) (delay : ℕ) (c : Call) (r : Record) → Does list r c (visit list delay c r)
 unfolding steps.sent steps.resulted steps.forced decided
@@ -190,6 +201,8 @@ does list delay (terminal number holder reply) r =
     (λ p. decide-by (λ s. Does list r (terminal number holder reply) (stepped 2 reply r s)) (map (answering step.Stays) (recordChecks Erase (Forced holder) number nobody r))
     (step.Becomes (afterErasure nobody (Forced holder) r)) (unmoved refl refl, (unmoved refl refl, (unmoved refl refl, tt)))
     (λ a. rw (a .0) (removes (not-false _ (a .1 .0)) (not-false _ (rw (a .0) at a .1 .1 .0)) (a .0))))
+does list delay (routes home coded asked) r =
+    looks (code-quiet 1 refl refl home (withCodeIn home coded asked) (some r)) (code-quiet 2 refl refl home (withCodeIn home coded asked) (some r))
 
 -- ---- a list of calls, seen from the number k
 
@@ -200,6 +213,8 @@ pub data Passed (list : List ℕ) (k : ℕ) (c : Call) : Reply → Type 0 where
   missing : Passed list k c (missed list c)
   -- the state is unsound
   refused : {n : ℕ} {buffer : List ℕ} → Passed list k c (record { answer = refusal n; buffer = buffer })
+  -- or its figures are wrong, which a routing does not look at
+  looked : {a : Answer} → isRouting c ≡ true → isOutcome 1 a ≡ false → isOutcome 2 a ≡ false → Passed list k c (record { answer = a; buffer = [] })
 
 -- from k's record before the calls, by the log, to its record after them; none where k is not in the table
 pub data Along (list : List ℕ) (k : ℕ) : Option Record → List (Call × Reply) → Option Record → Type 0 where
@@ -226,8 +241,8 @@ module _ (list : List ℕ) (delay k : ℕ) where
       by-state : (b : Bool) → stateSound t ≡ b → Along list k (recordFor t k) ((c, (single list delay c t) .0) ∷ l) p
       by-state true e = by-record e (namesOne list c k) (recordFor t k) refl refl
       by-state false e =
-          let (n, buffer, m, early) = unsound-single t e list delay c in
-          rw m (passes refused (rw m at rest))
+          ⊎-elim (λ (n, buffer, m, early). rw m (passes refused (rw m at rest))) (λ (a, m, routing, quiet). rw m (passes (looked routing (quiet .0) (quiet .1)) (rw m at rest)))
+          (unsound-single t e list delay c)
 
   -- any list of calls over any state is such a walk
   pub along : (cs : List Call) (t : State) → Along list k (recordFor t k) (log (single list delay) cs t) (recordFor (end (single list delay) cs t) k)
@@ -257,6 +272,7 @@ missed-negative list (sending now number buffer) =
     decide-each Negative ((ltb (length buffer) bufferRoom, record { answer = refusal 1; buffer = buffer }) ∷ []) (record { answer = refusal 7; buffer = buffer })
     (refl, tt) refl
 missed-negative list (result now number kind) = refl
+missed-negative list (routes home coded asked) = code-quiet 2 refl refl home (withCodeIn home coded asked) none
 missed-negative list (terminal number holder reply) =
     decide-each Negative
     ((ltb (length reply) bufferRoom, record { answer = refusal 1; buffer = reply }) ∷ (not (bothNumbers number holder), record { answer = refusal 7; buffer = reply }) ∷ [])
@@ -267,6 +283,7 @@ pub answered-02 : {list : List ℕ} {k : ℕ} {o p : Option Record} {c : Call} {
 answered-02 (passes (unnamed n) ends) m u = no-path (sym n ∙ m)
 answered-02 {list} {c = c} (passes missing ends) m u = no-path (sym (missed-negative list c) ∙ u)
 answered-02 (passes refused ends) m u = no-path u
+answered-02 (passes (looked r p q) ends) m u = no-path (sym q ∙ u)
 answered-02 (visits {r = r} {v = v} n d ends) m u = (r, v, d, refl, u)
 
 -- ---- what the tests say

@@ -35,7 +35,7 @@ use Rattle.rules.specs.Answers.{bufferRoom}
 use Rattle.rules.specs.Requests.{hasFollowMe, isSupervisor, isForced}
 use Rattle.rules.specs.Frames.{Inside, insideOf, ownReply}
 use Rattle.rules.specs.Terminal.{terminalRequest, bothNumbers}
-use Rattle.rules.specs.Calls.{Call, request, framed, sending, result, terminal, call, nameOf, codesOf, clockReading}
+use Rattle.rules.specs.Calls.{Call, request, framed, sending, result, terminal, routes, call, nameOf, codesOf, clockReading}
 use Rattle.rules.specs.Demand.{registersAs, registers}
 use Rattle.rules.specs.Visits.{Visited, stepped, holderAnswered, decides, decided, sentStep, resultStep, visitRequest, enveloped, visitInside, visit}
 use Rattle.rules.proofs.Single.{call-single}
@@ -151,6 +151,7 @@ module _ (r : Record) where
   visit-as-open list delay (terminal number holder reply) other =
       chosen closedAfter (ltb (length reply) bufferRoom) refl
       (chosen closedAfter (not (bothNumbers number holder)) refl (decides-as-open (terminalRequest number holder) refl nobody reply))
+  visit-as-open list delay (routes home coded asked) other = refl
 
 -- of the calls: a closed number is answered as if it were open, and what is left is what would be left, closed
 pub as-open : (list : List ℕ) (delay : ℕ) (c : Call) (s u : State) (k : ℕ) (r : Record) → stateSound s ≡ true → stateSound u ≡ true

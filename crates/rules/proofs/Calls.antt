@@ -15,7 +15,7 @@ use Rattle.rules.specs.Calls.{Call, request, Reply, replied, call, nameO
 use Rattle.rules.specs.Singles.{succeeds, codesWhere}
 use Rattle.rules.proofs.Once.{single}
 use Rattle.rules.proofs.Inside.{Wraps}
-use Rattle.rules.proofs.Unsound.{unsound-call, unsound-end}
+use Rattle.rules.proofs.Unsound.{unsound-stays, unsound-end}
 use Rattle.rules.proofs.Rearrange.{end-inv}
 use Rattle.rules.proofs.Runs.{anyNames, runs-other, runs-log, runs-own}
 use Rattle.rules.proofs.Sound.{Kept, end-keeps}
@@ -207,7 +207,7 @@ module _ (list : List ℕ) (delay : ℕ) where
       by-state : (b : Bool) → stateSound t ≡ b → call list delay c t .1 ≡ end (call list delay) (stepsOf list c) t
       by-state true sound = step-end c t sound
       by-state false unsound =
-          let (n, buffer, e, early) = unsound-call t unsound list delay c in ap (λ r. r .1) e ∙ sym (unsound-end t unsound list delay (stepsOf list c))
+          unsound-stays t unsound list delay c ∙ sym (unsound-end t unsound list delay (stepsOf list c))
 
   log-behind : (cs ds : List Call) (t : State)
       → log (call list delay) (cs ++ ds) t ≡ log (call list delay) cs t ++ log (call list delay) ds (end (call list delay) cs t)

@@ -1,5 +1,6 @@
 -- Demand 1 holds of every call, over any words and octets: each check's answer and what is done where none holds. Assumes nothing.
 use mathlib.Core.Path.{_≡_, refl, sym, ap, _∙_}
+use mathlib.Core.Logic.{⊎-elim}
 use mathlib.Core.Bool.{Bool, true, false, _||_}
 use mathlib.Core.Option.{none, some}
 use mathlib.Core.List.{List, [], map}
@@ -26,17 +27,18 @@ use Rattle.rules.specs.Frames.{ownReply}
 use Rattle.rules.specs.Requests.{Verdict, says, tells, Stepping}
 use Rattle.rules.specs.Notices as notices
 use Rattle.rules.specs.Run.{end}
-use Rattle.rules.specs.Calls.{Call, request, framed, sending, result, terminal, clockReading, call, nameOf, codesRead, codesOf, stepsOf}
+use Rattle.rules.specs.Calls.{Call, request, framed, sending, result, terminal, routes, clockReading, call, nameOf, codesRead, codesOf, stepsOf}
 use Rattle.rules.specs.Demand.{isCrewOutcome, Demand1, registersAs, registers, requesterOf, holderOf}
 use Rattle.rules.proofs.Once.{requestingOnce, single}
 use Rattle.rules.proofs.Inside.{Opened, shut, carries, opened}
 use Rattle.rules.proofs.Visits.{found-back, naming}
 use Rattle.rules.proofs.Leaves.{leaves}
+use Rattle.rules.proofs.Routes.{routing-each}
 use Rattle.rules.proofs.Each.{returned-each, terminal-each, once-each}
 use Rattle.rules.proofs.Single.{call-single}
 use Rattle.rules.proofs.Steps.{goes-said, View, own, stops, goes, view}
 use Rattle.rules.proofs.Calls.{step-end}
-use Rattle.rules.proofs.Unsound.{unsound-single, unsound-call}
+use Rattle.rules.proofs.Unsound.{unsound-single, unsound-call, unsound-stays}
 
 -- ---- a holder who registers again
 
@@ -113,14 +115,15 @@ again list delay (framed requester message frame) state k named alone registrati
 
     by-state : (b : Bool) → stateSound state ≡ b → call list delay (framed requester message frame) state .1 ≡ state
     by-state true sound = by-frame sound (opened list frame message requester delay)
-    by-state false unsound = let (n, buffer, e, early) = unsound-call state unsound list delay (framed requester message frame) in ap (λ x. x .1) e
+    by-state false unsound = unsound-stays state unsound list delay (framed requester message frame)
 again list delay (sending now number buffer) state k named alone registration holds = no-path registration
 again list delay (result now number kind) state k named alone registration holds = no-path registration
 again list delay (terminal number holder reply) state k named alone registration holds = no-path registration
+again list delay (routes home coded asked) state k named alone registration holds = refl
 
 -- ---- a crew's request
 
--- a single request, a sending, a result and an erasure at the terminal are not answered 11 or 12
+-- only a crew's request is answered 11 or 12
 uncrewed : (state : State) (reply : List ℕ) (n : ℕ) → isNegativeNumber n ≡ true → isCrewOutcome (requests.saying n state reply .answer) ≡ false
 uncrewed state reply n e =
     let other = or-neither (eqb n 1 || eqb n 2 || eqb n interrogationNumber || eqb n crewRegistered) (eqb n crewErased) (not-true _ e) in
@@ -147,7 +150,8 @@ single-answered list delay (framed requester message frame) state = by-state (st
     by-state : (b : Bool) → stateSound state ≡ b → isCrewOutcome (single list delay (framed requester message frame) state .0 .answer) ≡ false
     by-state true sound = by-frame sound (opened list frame message requester delay)
     by-state false unsound =
-        let (n, buffer, e, early) = unsound-single state unsound list delay (framed requester message frame) in ap (λ x. isCrewOutcome (x .0 .answer)) e
+        ⊎-elim (λ (n, buffer, e, early). ap (λ x. isCrewOutcome (x .0 .answer)) e) (λ (a, e, looks, quiet). no-path looks)
+        (unsound-single state unsound list delay (framed requester message frame))
 single-answered list delay (sending now number buffer) state =
     decide-each (λ (o : Outcome). isCrewOutcome (o .answer) ≡ false)
     (refusing state buffer (notices.sendingChecks (tableSound (state .table)) (figuresRight state) buffer (number .0) (recordFor state (number .0)) delay (clockReading now))) _
@@ -156,6 +160,8 @@ single-answered list delay (sending now number buffer) state =
     at-place : (place : Found) → isCrewOutcome (notices.sentAt number place state buffer .answer) ≡ false
     at-place Nothing = refl
     at-place (At i) = refl
+single-answered list delay (routes home coded asked) state =
+    routing-each (λ a. isCrewOutcome a ≡ false) refl refl (λ code. refl) (λ m s. refl) refl refl (state .table) home coded asked
 single-answered list delay (terminal number holder reply) state =
     terminal-each state reply (λ (o : Outcome). isCrewOutcome (o .answer) ≡ false) (λ n. refl) (λ n. refl) (λ n l e. uncrewed state reply n e) (λ new. refl) (λ new. refl)
     (λ m. refl) number holder
@@ -176,8 +182,12 @@ module _ (list : List ℕ) (delay : ℕ) (c : Call) (state : State) where
   after = call list delay c state .1
 
   -- a crew's outcome comes over a sound state only
-  unsound-stays : stateSound state ≡ false → (isCrewOutcome answer ≡ false) × (after ≡ state)
-  unsound-stays s = let (n, buffer, refused, early) = unsound-call state s list delay c in (ap (λ r. isCrewOutcome (r .0 .answer)) refused, ap (λ r. r .1) refused)
+  unsound-idles : stateSound state ≡ false → (isCrewOutcome answer ≡ false) × (after ≡ state)
+  unsound-idles s = (
+    ⊎-elim (λ (n, buffer, e, early). ap (λ r. isCrewOutcome (r .0 .answer)) e) (λ (a, e, looks, quiet). ap (λ r. isCrewOutcome (r .0 .answer)) e ∙ quiet .2)
+        (unsound-call state s list delay c),
+    unsound-stays state s list delay c,
+  )
 
   -- a call that is its own step is not answered 11 or 12
   own-answered : codesOf c ≡ none → isCrewOutcome answer ≡ false
@@ -188,7 +198,7 @@ module _ (list : List ℕ) (delay : ℕ) (c : Call) (state : State) where
     where
       by-state : (b : Bool) → stateSound state ≡ b → after ≡ end (call list delay) (stepsOf list c) state
       by-state true sound = step-end list delay c state sound
-      by-state false s = no-path (sym (unsound-stays s .0) ∙ e)
+      by-state false s = no-path (sym (unsound-idles s .0) ∙ e)
 
   crew-stops : (codesOf c ≡ none → ⊥) → isCrewOutcome answer ≡ false → (after ≡ state) × (stateSound state ≡ true → stepsOf list c ≡ [])
   crew-stops crew e = (by-state (stateSound state) refl, λ sound. by-view sound (view list delay c) refl .1)
@@ -201,7 +211,7 @@ module _ (list : List ℕ) (delay : ℕ) (c : Call) (state : State) where
 
       by-state : (b : Bool) → stateSound state ≡ b → after ≡ state
       by-state true sound = by-view sound (view list delay c) refl .0
-      by-state false s = unsound-stays s .1
+      by-state false s = unsound-idles s .1
 
 pub demand1 : (list : List ℕ) (delay : ℕ) (c : Call) (state : State) → Demand1 list delay c state
 demand1 list delay c state =

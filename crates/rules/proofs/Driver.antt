@@ -20,7 +20,7 @@ use Rattle.rules.specs.Answers.{isOutcome}
 use Rattle.rules.specs.Frames.{ownReply}
 use Rattle.rules.specs.Run.{end, log}
 use Rattle.rules.specs.Requests.{refusalChecks, hasFollowMe, isSupervisor, holderIn, noNotice}
-use Rattle.rules.specs.Calls.{Call, Reply, request, framed, sending, result, terminal, call, readOf, nameOf, namesOne, codesOf, steps}
+use Rattle.rules.specs.Calls.{Call, Reply, request, framed, sending, result, terminal, routes, call, readOf, nameOf, namesOne, codesOf, steps}
 use Rattle.rules.specs.Visits.{Visited, visitSaying}
 use Rattle.rules.specs.Pending.{never}
 use Rattle.rules.specs.Users.{isOfNotice, bothFlags, askerOf, erasesHoldIn, clearsHold, mayEndHold, endsHold, beginsHold, Stood, HoldEnded, HoldBegun}
@@ -28,13 +28,13 @@ use Rattle.rules.specs.Demand.{isCrewOutcome, mayChange, registersAs, re
 use Rattle.tables.proofs.Stored.{flags-small}
 use Rattle.states.specs.States.{State, stateSound, recordFor}
 use Rattle.rules.proofs.Inside.{named-inside}
-use Rattle.rules.proofs.Unsound.{unsound-call}
+use Rattle.rules.proofs.Unsound.{unsound-stays}
 use Rattle.rules.proofs.Single.{call-single, singles-log}
 use Rattle.rules.proofs.Steps.{goes-said, View, own as alone-step, stops, goes, view}
 use Rattle.rules.proofs.Calls.{all-steps-single, singly-end}
 use Rattle.rules.proofs.Visits.{naming}
 use Rattle.rules.proofs.Local.{named-some}
-use Rattle.rules.proofs.Along.{isRequest, Asked, AskedIn, negative, registration, erasure, herself, forced, Does, asks, unsent, sends, untaken, clears, goes-on, unmoved, removes, Along, ends, passes, visits, along, word, one-msisdn, same-one, one-same, never-first}
+use Rattle.rules.proofs.Along.{isRequest, Asked, AskedIn, negative, registration, erasure, herself, forced, Does, asks, unsent, sends, untaken, clears, goes-on, unmoved, removes, looks, Along, ends, passes, visits, along, word, one-msisdn, same-one, one-same, never-first}
 
 -- ---- what the tests say
 
@@ -53,6 +53,7 @@ named-listed list k (framed requester message frame) e n =
 named-listed list k (sending now number buffer) e n = no-path e
 named-listed list k (result now number kind) e n = no-path e
 named-listed list k (terminal number holder reply) e n = no-path e
+named-listed list k (routes home coded asked) e n = no-path e
 
 -- "flags 0 to 3: 1 has Follow Me, 2 supervisor"
 both-flags : (list : List ℕ) (msisdn : ℕ) → listSound list ≡ true → hasFollowMe (flagsOf list msisdn) ≡ true → isSupervisor (flagsOf list msisdn) ≡ true
@@ -114,6 +115,7 @@ holding (clears f e) = keeping refl
 holding (goes-on f p) = keeping refl
 holding (unmoved p q) = keeping refl
 holding (removes m x z) = removing m x
+holding (looks p q) = keeping refl
 
 asks-no-notice : (c : Call) → isRequest c ≡ true → isOfNotice c ≡ false
 asks-no-notice (request requester scheme string reply) i = refl
@@ -121,6 +123,7 @@ asks-no-notice (framed requester message frame) i = refl
 asks-no-notice (sending now number buffer) i = no-path i
 asks-no-notice (result now number kind) i = no-path i
 asks-no-notice (terminal number holder reply) i = refl
+asks-no-notice (routes home coded asked) i = refl
 
 -- no sending and no result changes the holder, and no answer but 01 and 02
 notice-keeps : {list : List ℕ} {r : Record} {c : Call} {v : Visited} → Holding list r c v → isOfNotice c ≡ true → v .next .holder ≡ r .holder
@@ -244,6 +247,7 @@ module _ (list : List ℕ) (delay k : ℕ) (c : Call) (state : State) where
   notice-alone (sending now number buffer) n = refl
   notice-alone (result now number kind) n = refl
   notice-alone (terminal number holder reply) n = refl
+  notice-alone (routes home coded asked) n = refl
 
   -- a sending or a result changes no holder
   pub notices-change-no-holder : isOfNotice c ≡ true → holderOf after k ≡ holderOf state k
@@ -266,7 +270,7 @@ module _ (list : List ℕ) (delay k : ℕ) (c : Call) (state : State) where
 
       by-state : (b : Bool) → stateSound state ≡ b → holderOf after k ≡ holderOf state k
       by-state true sound = by-view (view list delay c) refl sound
-      by-state false unsound = let (n, buffer, r, early) = unsound-call state unsound list delay c in ap (λ x. holderOf (x .1) k) r
+      by-state false unsound = ap (λ t. holderOf t k) (unsound-stays state unsound list delay c)
 
 -- ---- the driver, over any list of calls, by their single steps
 

@@ -1,6 +1,6 @@
--- Document 01, "Examples": P1 to P15, and document 02's M-100, M-101, M-103, M-105, M-107 and M-111 (M-102 is P14), of the rules, computed from octets and words, as one list under one statement. Assumes nothing.
+-- Document 01, "Examples": P1 to P15, and document 02's M-100, M-101, M-103, M-105, M-107, M-111 and M-112 (M-102 is P14), of the rules, computed from octets and words, as one list under one statement. Assumes nothing.
 use mathlib.Core.Path.{_≡_, refl}
-use mathlib.Core.Bool.{Bool, true}
+use mathlib.Core.Bool.{Bool, true, false}
 use mathlib.Core.List.{List, [], _∷_, _++_, map}
 use Prim.Native.Nat.{ℕ, _+_, _-_}
 use lib.ListN.{replicate}
@@ -25,14 +25,15 @@ use Rattle.tables.specs.Tables.{tableUpTo, rowOf, recordOf, listSound, flagsOf}
 use Rattle.tables.specs.Figures as figures
 use Rattle.states.specs.States as states
 use Rattle.states.specs.States.{State, beside, counted}
-use Rattle.rules.specs.Answers.{Answer, refusal, error, outcome, returnError, reject, sentTo, delivered, dropped, again, found, noneDue}
+use Rattle.rules.specs.Answers.{Answer, refusal, error, outcome, returnError, reject, sentTo, delivered, dropped, again, found, noneDue, askNetwork, routedTo}
 use Rattle.rules.specs.Requests as requests
 use Rattle.rules.specs.Crews as crews
 use Rattle.rules.specs.Frames as frame
 use Rattle.rules.specs.Notices as notices
 use Rattle.rules.specs.Terminal.{terminalErasure}
+use Rattle.rules.specs.Routing.{routing, subaddressOf}
 use Rattle.rules.specs.Run.{end, log}
-use Rattle.rules.specs.Calls.{Call, request, framed, sending, result, terminal, bufferOf, Reply, call}
+use Rattle.rules.specs.Calls.{Call, request, framed, sending, result, terminal, routes, bufferOf, Reply, call}
 
 -- A = 4915100001 (flags 1), B = 4915100002 (flags 3), C = 4915100003 (flags 0), F = 0492123401, as stored
 abbrev pub A : ℕ
@@ -458,3 +459,63 @@ terminalExamples =
 pub m-111 : All terminalExamples
 unfolding countOf crewOf valueOf digits octetsFor charsIn padded packed characters readable filled kept unpacked isDigit pushed storedForm isNumber digitsUpTo digitsOf leading leadingNumber isAdditional textOf noticeText noticeFields begins operationAt serviceAt numberFieldAt forcedAt erasingAt additionalAt fieldsOf requestOf elapsed delayOf delayAllowed rows.noticeUpTo rows.rowUpTo rows.noticeOf rows.recordAt rows.stored placeOf tableUpTo rowOf recordOf figures.recount states.figuresRight states.moved listSound flagsOf requests.step crews.requesting notices.sendingNotice notices.takingResult notices.finding notices.firstDue terminalErasure
 m-111 = refl and refl and refl and refl and refl and refl and refl and refl and refl and refl and refl and refl and done
+
+-- ---- document 02, M-112
+
+-- asked by a message centre of the node whose code is 049
+abbrev pub routesTo : Bool → List ℕ → Call
+routesTo coded digits = routes (ascii "049") coded digits
+
+-- the subaddress of branch 01
+abbrev pub branch01 : List ℕ
+branch01 = 0x80 ∷ 0x48 ∷ 0x10 ∷ []
+
+abbrev pub routingExamples : List Example
+routingExamples =
+    -- with its code, and without
+    answers 112 (held A)
+    (gets (routesTo true (ascii "0492123401")) (routedTo A branch01) []
+    ∷ gets (routesTo false (ascii "2123401")) (routedTo A branch01) []
+    -- a foreign code, 41, and digits that begin with the node's code and are marked as having none
+    ∷ gets (routesTo true (ascii "0332123401")) (askNetwork (ascii "033")) []
+    ∷ gets (routesTo true (ascii "0492123402")) (outcome 41 0) []
+    ∷ gets (routesTo false (ascii "0492123401")) (outcome 41 0) []
+    ∷ [])
+    (held A)
+    ∷ answers 112 free (gets (routesTo true (ascii "0492123401")) (outcome 62 0) [] ∷ []) free
+    -- a foreign number that stands in the table is not looked at
+    ∷ answers 112 (rowOfNumber 10332123401 A) (gets (routesTo true (ascii "0332123401")) (askNetwork (ascii "033")) [] ∷ []) (rowOfNumber 10332123401 A)
+    -- 5 and 15 digits; marked as having no code, 2 and 12
+    ∷ answers 112 free
+    (gets (routesTo true (ascii "0492")) (error 36) []
+    ∷ gets (routesTo true (ascii "04921")) (outcome 41 0) []
+    ∷ gets (routesTo true (ascii "049212345678901")) (outcome 41 0) []
+    ∷ gets (routesTo true (ascii "0492123456789012")) (error 36) []
+    ∷ gets (routesTo false (ascii "2")) (error 36) []
+    ∷ gets (routesTo false (ascii "21")) (outcome 41 0) []
+    ∷ gets (routesTo false (ascii "212345678901")) (outcome 41 0) []
+    ∷ gets (routesTo false (ascii "2123456789012")) (error 36) []
+    -- a character that is no digit, and a node's code that is not three digits
+    ∷ gets (routesTo true (ascii "04921234A1")) (error 36) []
+    ∷ gets (routes (ascii "04") true (ascii "0492123401")) (error 36) []
+    ∷ gets (routes (ascii "0492") true (ascii "0492123401")) (error 36) []
+    ∷ gets (routes (ascii "04A") true (ascii "0492123401")) (error 36) []
+    ∷ [])
+    free
+    -- types 1 to 5
+    ∷ answers 112 (rowOfNumber 10491123401 A) (gets (routesTo true (ascii "0491123401")) (routedTo A []) [] ∷ []) (rowOfNumber 10491123401 A)
+    ∷ answers 112 (rowOfNumber 10493123457 A) (gets (routesTo true (ascii "0493123457")) (routedTo A (0x80 ∷ 0x48 ∷ 0x75 ∷ [])) [] ∷ []) (rowOfNumber 10493123457 A)
+    ∷ answers 112 (rowOfNumber 10494123490 A) (gets (routesTo true (ascii "0494123490")) (routedTo A (0x80 ∷ 0x48 ∷ 0x09 ∷ [])) [] ∷ []) (rowOfNumber 10494123490 A)
+    ∷ answers 112 (rowOfNumber 10495123401 A) (gets (routesTo true (ascii "0495123401")) (routedTo A []) [] ∷ []) (rowOfNumber 10495123401 A)
+    -- of five digits the type is the first of the branch
+    ∷ answers 112 (rowOfNumber 104921 A) (gets (routesTo false (ascii "21")) (routedTo A (0x80 ∷ 0x48 ∷ 0x12 ∷ [])) [] ∷ []) (rowOfNumber 104921 A)
+    -- 15, held
+    ∷ answers 112 (rowOfNumber 1049212345678901 A) (gets (routesTo true (ascii "049212345678901")) (routedTo A branch01) [] ∷ []) (rowOfNumber 1049212345678901 A)
+    -- wrong figures do not matter; an unsound table does, before all else
+    ∷ keeps 112 (beside (held A) []) (gets (routesTo true (ascii "0492123401")) (routedTo A branch01) [] ∷ []) (beside (held A) [])
+    ∷ answers 112 (F ∷ A ∷ []) (gets (routes [] true []) (refusal 2) [] ∷ []) (F ∷ A ∷ [])
+    ∷ []
+
+pub m-112 : All routingExamples
+unfolding countOf crewOf valueOf digits octetsFor charsIn padded packed characters readable filled kept unpacked isDigit pushed storedForm isNumber digitsUpTo digitsOf leading leadingNumber isAdditional textOf noticeText noticeFields begins operationAt serviceAt numberFieldAt forcedAt erasingAt additionalAt fieldsOf requestOf elapsed delayOf delayAllowed rows.noticeUpTo rows.rowUpTo rows.noticeOf rows.recordAt rows.stored placeOf tableUpTo rowOf recordOf figures.recount states.figuresRight states.moved listSound flagsOf requests.step crews.requesting notices.sendingNotice notices.takingResult notices.finding notices.firstDue terminalErasure each routing subaddressOf
+m-112 = refl and refl and refl and refl and refl and refl and refl and refl and refl and refl and refl and refl and done

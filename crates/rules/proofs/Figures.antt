@@ -1,5 +1,6 @@
 -- M-103: every call keeps the figures equal to a recount, and with right figures 10 is never answered. Assumes nothing.
 use mathlib.Core.Path.{_≡_, refl, sym, ap, _∙_, subst}
+use mathlib.Core.Logic.{⊎-elim}
 use mathlib.Core.Bool.{Bool, true, false, not, _||_}
 use mathlib.Core.Option.{Option, none, some}
 use mathlib.Core.List.{List, [], _∷_}
@@ -23,19 +24,20 @@ use Rattle.tables.specs.declared.Found.the-variants.{At, Nothing}
 use Rattle.tables.specs.Tables.{tableSound, listSound, flagsOf}
 use Rattle.states.specs.States.{State, figuresRight, stateSound, rowFor, recordFor, recordIn}
 use Rattle.states.proofs.States.{right-figures, sound-state}
-use Rattle.rules.specs.Answers.{Answer, refusal, error, outcome, holderIs, returnError, reject, sentTo, delivered, dropped, again, found, noneDue, Outcome, bufferRoom, outcomeClass, isOf, isError, isRefusedWith, refusing}
+use Rattle.rules.specs.Answers.{Answer, refusal, error, outcome, holderIs, returnError, reject, sentTo, delivered, dropped, again, found, noneDue, askNetwork, routedTo, Outcome, bufferRoom, outcomeClass, isOf, isError, isRefusedWith, refusing}
 use Rattle.rules.specs.Requests.{mostStringOctets, askingBy}
 use Rattle.rules.specs.Crews.{carriedOutFor, requesting}
 use Rattle.rules.specs.Frames.{answeredIn, inFrame, ownReply, bodied, registered, framedRequest}
 use Rattle.rules.specs.Notices as notices
 use Rattle.rules.specs.Terminal.{terminalRequest, bothNumbers, terminalErasure}
 use Rattle.rules.specs.Run.{end, log}
-use Rattle.rules.specs.Calls.{Call, request, framed, sending, result, terminal, Reply, call, clockReading}
-use Rattle.rules.specs.Figures.{isEarly, Right, KeepsCount}
+use Rattle.rules.specs.Calls.{Call, request, framed, sending, result, terminal, routes, Reply, call, clockReading}
+use Rattle.rules.specs.Figures.{isEarly, isRouting, Right, KeepsCount}
 use Rattle.rules.specs.Pending.{never}
+use Rattle.rules.proofs.Routes.{routing-each}
 use Rattle.rules.proofs.Each.{returned-each, step-each}
 use Rattle.rules.proofs.Framed.{heard-read, no-refusal}
-use Rattle.rules.proofs.Unsound.{unsound-call}
+use Rattle.rules.proofs.Unsound.{unsound-call, unsound-stays}
 use Rattle.rules.proofs.Calls.{calls-local}
 
 -- ---- with right figures no call is refused 10
@@ -64,6 +66,8 @@ ten-kept first number frame o e = go (o .answer) e
     go again e = refl
     go (found functional) e = refl
     go noneDue e = refl
+    go (askNetwork code) e = refl
+    go (routedTo msisdn subaddress) e = refl
 
 module _ (t : State) (right : figuresRight t ≡ true) where
   request-not-10 : (list reply : List ℕ) (requester : Msisdn) (scheme : ℕ) (string : List ℕ) → Not10 (requesting t list reply requester scheme string)
@@ -141,28 +145,30 @@ module _ (t : State) (right : figuresRight t ≡ true) where
   call-not-10 list delay (sending now number buffer) = sending-not-10 buffer number delay (clockReading now)
   call-not-10 list delay (result now number kind) = result-not-10 number kind (clockReading now)
   call-not-10 list delay (terminal number holder reply) = terminal-not-10 number holder reply
+  call-not-10 list delay (routes home coded asked) =
+      routing-each (λ a. isRefusedWith 10 a ≡ false) refl refl (λ code. refl) (λ m s. refl) refl refl (t .table) home coded asked
 
 -- ---- the figures
 
 module _ (list : List ℕ) (delay : ℕ) where
   -- over an unsound table nothing changes
-  one-call : (c : Call) (state : State) → (isEarly (call list delay c state .0 .answer) ≡ true → Right state) → Right (call list delay c state .1)
-  one-call c state early-right = by-state (stateSound state) refl
+  one-call : (c : Call) (state : State) → (isRouting c ≡ true → Right state) → (isEarly (call list delay c state .0 .answer) ≡ true → Right state) → Right (call list delay c state .1)
+  one-call c state looks-right early-right = by-state (stateSound state) refl
     where
       by-state : (b : Bool) → stateSound state ≡ b → Right (call list delay c state .1)
       by-state true sound = sound-state _ (calls-local list delay .keep c state sound) .figures
       by-state false unsound =
-          let (n, buffer, e, early) = unsound-call state unsound list delay c in
-          subst (λ (r : Reply × State). Right (r .1)) (sym e) (early-right (ap (λ r. isEarly (r .0 .answer)) e ∙ early))
+          subst Right (sym (unsound-stays state unsound list delay c))
+          (⊎-elim (λ (n, buffer, e, early). early-right (ap (λ r. isEarly (r .0 .answer)) e ∙ early)) (λ (a, e, looks, quiet). looks-right looks) (unsound-call state unsound list delay c))
 
   every-call : (cs : List Call) (state : State) → Right state → Right (end (call list delay) cs state)
   every-call [] state right = right
-  every-call (c ∷ cs) state right = every-call cs (call list delay c state .1) (one-call c state (λ e. right))
+  every-call (c ∷ cs) state right = every-call cs (call list delay c state .1) (one-call c state (λ e. right) (λ e. right))
 
   never-ten : (cs : List Call) (state : State) → Right state → never (λ entry. isRefusedWith 10 (entry .1 .answer)) (log (call list delay) cs state) ≡ true
   never-ten [] state right = refl
   never-ten (c ∷ cs) state right =
-      rw (call-not-10 state (right-figures state right) list delay c) (never-ten cs (call list delay c state .1) (one-call c state (λ e. right)))
+      rw (call-not-10 state (right-figures state right) list delay c) (never-ten cs (call list delay c state .1) (one-call c state (λ e. right) (λ e. right)))
 
   pub keeps-count : KeepsCount list delay
-  keeps-count = record { one-call = λ c state late. one-call c state (λ early. no-path (sym late ∙ early)); every-call = every-call; never-ten = never-ten }
+  keeps-count = record { one-call = λ c state other late. one-call c state (λ looks. no-path (sym other ∙ looks)) (λ early. no-path (sym late ∙ early)); every-call = every-call; never-ten = never-ten }

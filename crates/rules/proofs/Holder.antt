@@ -31,11 +31,13 @@ use Rattle.rules.specs.Requests.{holderIn, afterErasure, rightChecks}
 use Rattle.rules.specs.Frames.{Inside, insideOf, ownReply}
 use Rattle.rules.specs.Run.{only, last, end, log}
 use Rattle.rules.specs.Terminal.{terminalRequest, bothNumbers}
-use Rattle.rules.specs.Calls.{Call, request, framed, sending, result, terminal, Reply, clockReading, nameOf, namesOne}
+use Rattle.rules.specs.Routing.{withCodeIn}
+use Rattle.rules.specs.Calls.{Call, request, framed, sending, result, terminal, routes, Reply, clockReading, nameOf, namesOne}
 use Rattle.rules.specs.Visits.{Visited, visited, visitSaying, stepped, holderAnswered, decides, decided, sentStep, resultStep, visitRequest, enveloped, visitInside, visit, replySaying, missedRequest, missedInside, missed}
 use Rattle.rules.specs.Demand.{requesterOf, decidesHolder, holderAfter, holderOf}
 use Rattle.rules.proofs.Runs.{last-more}
 use Rattle.rules.proofs.Once.{single}
+use Rattle.rules.proofs.Routes.{code-each}
 use Rattle.rules.proofs.Inside.{outcome-kept}
 use Rattle.rules.proofs.Visits.{recordChecks, sentChecks}
 use Rattle.rules.proofs.Sound.{single-keeps, single-own, single-absent, single-other}
@@ -122,6 +124,8 @@ visit-says list delay (sending now number buffer) r =
     decide-each (Says 0 r) ((ltb (length buffer) bufferRoom, visited (refusal 1) buffer r) ∷ []) (sentStep number buffer r (steps.sent delay (clockReading now) r))
     (refl, tt) (sent-says r number buffer delay (clockReading now))
 visit-says list delay (result now number kind) r = result-says r kind (clockReading now)
+visit-says list delay (routes home coded asked) r =
+    code-each (λ a. r .holder .0 ≡ said a 0 (r .holder .0)) refl refl (λ code. refl) (λ m s. refl) home (withCodeIn home coded asked) (some r)
 visit-says list delay (terminal number holder reply) r =
     decide-each (Says 0 r) ((ltb (length reply) bufferRoom, visited (refusal 1) reply r) ∷ (not (bothNumbers number holder), visited (refusal 7) reply r) ∷ [])
     (decided (terminalRequest number holder) nobody reply r) (refl, (refl, tt)) (decides-says r reply nobody Erase (Forced holder) number)
@@ -149,6 +153,8 @@ missed-says list (sending now number buffer) q =
     decide-each (λ (r : Reply). said (r .answer) q 0 ≡ 0) ((ltb (length buffer) bufferRoom, record { answer = refusal 1; buffer = buffer }) ∷ [])
     (record { answer = refusal 7; buffer = buffer }) (refl, tt) refl
 missed-says list (result now number kind) q = refl
+missed-says list (routes home coded asked) q =
+    code-each (λ a. said a q 0 ≡ 0) refl refl (λ code. refl) (λ m s. refl) home (withCodeIn home coded asked) none
 missed-says list (terminal number holder reply) q =
     decide-each (λ (r : Reply). said (r .answer) q 0 ≡ 0)
     ((ltb (length reply) bufferRoom, record { answer = refusal 1; buffer = reply }) ∷ (not (bothNumbers number holder), record { answer = refusal 7; buffer = reply }) ∷ [])

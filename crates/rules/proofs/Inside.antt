@@ -18,7 +18,7 @@ use Rattle.frames.specs.Components as components
 use Rattle.frames.specs.Messages.{Register, registerOf}
 use Rattle.states.specs.States.{State, beside, stateSound}
 use Rattle.states.proofs.States.{state-table, state-right}
-use Rattle.rules.specs.Answers.{Answer, refusal, error, outcome, holderIs, returnError, reject, sentTo, delivered, dropped, again, found, noneDue, Outcome, made, outcomeClass, isOf, isRefusal, isOutcome, packedOver, octetCount, refusing}
+use Rattle.rules.specs.Answers.{Answer, refusal, error, outcome, holderIs, returnError, reject, sentTo, delivered, dropped, again, found, noneDue, askNetwork, routedTo, Outcome, made, outcomeClass, isOf, isRefusal, isOutcome, packedOver, octetCount, refusing}
 use Rattle.rules.specs.Crews.{requesting}
 use Rattle.rules.specs.Frames.{framedChecks, releasing, answeredIn, inFrame, Inside, insideOf, ownReply, registered, framedBy, framedRequest}
 use Rattle.rules.specs.Calls.{Call, request, framed, Reply, replied, call, readOf, nameOf}
@@ -67,6 +67,8 @@ module _ (first number : ℕ) (frame : List ℕ) (state : State) (reply : List �
   in-frame again = (refl, λ m. refl, refl)
   in-frame (found functional) = (refl, λ m. refl, refl)
   in-frame noneDue = (refl, λ m. refl, refl)
+  in-frame (askNetwork code) = (refl, λ m. refl, refl)
+  in-frame (routedTo msisdn subaddress) = (refl, λ m. refl, refl)
 
 -- what comes to an outcome in the frame is that outcome without it
 pub outcome-kept : (i : Inside) (frame : List ℕ) (r : Reply) (n : ℕ) → isOutcome n (enveloped i frame r .answer) ≡ isOutcome n (r .answer)

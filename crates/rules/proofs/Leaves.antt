@@ -1,6 +1,6 @@
 -- What each answer that a call can get says of the memory that it was lent: demand 1, answer by answer. Assumes nothing.
 use mathlib.Core.Path.{_≡_, refl, sym, _∙_}
-use mathlib.Core.Bool.{true, false, _||_}
+use mathlib.Core.Bool.{Bool, true, false, _||_}
 use mathlib.Core.Option.{Option, none, some}
 use mathlib.Core.List.{List, []}
 use Prim.Native.Nat.{ℕ}
@@ -27,9 +27,11 @@ use Rattle.rules.specs.Crews.{crewNumber, requesting}
 use Rattle.rules.specs.Frames.{framedChecks, inFrame, ownReply, bodied, registered, framedRequest}
 use Rattle.rules.specs.Notices as notices
 use Rattle.rules.specs.Terminal.{terminalErasure}
-use Rattle.rules.specs.Calls.{Call, request, framed, sending, result, terminal, bufferOf, clockReading, call}
+use Rattle.rules.specs.Routing.{routing}
+use Rattle.rules.specs.Calls.{Call, request, framed, sending, result, terminal, routes, bufferOf, clockReading, call}
 use Rattle.rules.specs.Demand.{mayChange, releaseOver, replyOver}
 use Rattle.rules.proofs.Inside.{string-written}
+use Rattle.rules.proofs.Routes.{routing-each}
 use Rattle.rules.proofs.Each.{returned-each, terminal-each, request-each}
 
 module _ (c : Call) (state : State) where
@@ -203,6 +205,14 @@ terminal-leaves number holder reply state =
     c : Call
     c = terminal number holder reply
 
+routing-leaves : (home : List ℕ) (coded : Bool) (asked : List ℕ) (state : State) → Leaves (routes home coded asked) state (made (routing (state .table) home coded asked) state [])
+routing-leaves home coded asked state =
+    routing-each (λ a. Leaves c state (made a state [])) (denies c state 41 0 [] refl) (denies c state 62 0 [] refl) (λ code. apart c state _ state [] refl refl refl)
+    (λ m s. apart c state _ state [] refl refl refl) (refuses c state 2) (errs c state 36) (state .table) home coded asked
+  where
+    c : Call
+    c = routes home coded asked
+
 -- ---- every call
 
 pub leaves : (list : List ℕ) (delay : ℕ) (c : Call) (state : State)
@@ -212,3 +222,4 @@ leaves list delay (framed requester message frame) state = framed-leaves list fr
 leaves list delay (sending now number buffer) state = sending-leaves now number buffer state delay (clockReading now)
 leaves list delay (result now number kind) state = result-leaves now number kind state (clockReading now)
 leaves list delay (terminal number holder reply) state = terminal-leaves number holder reply state
+leaves list delay (routes home coded asked) state = routing-leaves home coded asked state

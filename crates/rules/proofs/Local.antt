@@ -1,4 +1,4 @@
--- Single requests, sendings, results and erasures at the terminal over a sound state are local: each reads and writes the record of the number that it names, and no other. Assumes nothing.
+-- Single requests, sendings, results, erasures at the terminal and routings over a sound state are local: each reads and writes the record of the number that it names, and no other. Assumes nothing.
 use mathlib.Core.Path.{_≡_, refl, sym, ap, _∙_}
 use mathlib.Core.Bool.{true}
 use mathlib.Core.Option.{Option, none, some}

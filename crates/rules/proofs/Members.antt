@@ -6,9 +6,8 @@ use Prim.Native.Nat.{ℕ, suc, _+_, _-_, _*_, _/_, _%_, _≤_, _<_}
 use native.Mathlib.Omega.{arith}
 use lib.ListN.{length, take, drop, getD, take-append-drop}
 use lib.Seq.{drop-cons, drop-length}
-use Rattle.answers.proofs.Leading.{each-at}
-use Rattle.numbers.specs.Numbers.{fewestDigits, isDigit, pushed, storedForm, isNumber, digitsOf}
-use Rattle.numbers.proofs.Digits.{digit-range, digits-are, digits-fewest, stored-digits}
+use Rattle.numbers.specs.Numbers.{fewestDigits, pushed, storedForm, isNumber, digitsOf}
+use Rattle.numbers.proofs.Digits.{digit-at, digits-are, digits-fewest, stored-digits}
 use Rattle.rules.specs.Crews.{withCode}
 use Rattle.rules.specs.Singles.{replaced}
 
@@ -19,7 +18,7 @@ pushed-two w [] a b = omega arith
 pushed-two w (c ∷ cs) a b = pushed-two (10 * w + (c - 48)) cs a b
 
 -- the last two entries of a list
-last-two : (s : List ℕ) (n : ℕ) → length s ≡ suc (suc n) → drop n s ≡ getD s n 0 ∷ getD s (suc n) 0 ∷ []
+pub last-two : (s : List ℕ) (n : ℕ) → length s ≡ suc (suc n) → drop n s ≡ getD s n 0 ∷ getD s (suc n) 0 ∷ []
 last-two s n e = drop-cons s n 0 (omega arith) ∙ ap (λ l. getD s n 0 ∷ l) (drop-cons s (suc n) 0 (omega arith) ∙ ap (λ l. getD s (suc n) 0 ∷ l) (ap (λ m. drop m s) (sym e) ∙ drop-length s))
 
 module _ (w code : ℕ) (number : isNumber w ≡ true) (small : code < 100) where
@@ -45,8 +44,8 @@ module _ (w code : ℕ) (number : isNumber w ≡ true) (small : code < 100) wher
   pub replaced-code : replaced (record { 0 = w }) code ≡ record { 0 = withCode w code }
   unfolding storedForm withCode
   replaced-code =
-      let tens = digit-range (getD d n 0) (each-at isDigit d n (digits-are w number) (omega (arith, few))) in
-      let ones = digit-range (getD d (suc n) 0) (each-at isDigit d (suc n) (digits-are w number) (omega (arith, few))) in
+      let tens = digit-at d n (digits-are w number) (omega (arith, few)) in
+      let ones = digit-at d (suc n) (digits-are w number) (omega (arith, few)) in
       let pushes = pushed-two 1 (take n d) (48 + code / 10) (48 + code % 10) in
       let is = value in
       ap (λ x. record { 0 = x }) (pushes ∙ omega arith)

@@ -24,14 +24,15 @@ use Rattle.states.specs.States.{State, stateSound, rowFor, recordFor, recordIn}
 use Rattle.rules.specs.Answers.{refusal, bufferRoom, isSent}
 use Rattle.rules.specs.Run.{only, end, log}
 use Rattle.rules.specs.Notices.{noticeIn}
-use Rattle.rules.specs.Calls.{Call, Reply, request, framed, sending, result, terminal, call, namesOne, codesOf, steps}
+use Rattle.rules.specs.Calls.{Call, Reply, request, framed, sending, result, terminal, routes, call, namesOne, codesOf, steps}
 use Rattle.rules.specs.Visits.{Visited}
+use Rattle.rules.specs.Figures.{isRouting}
 use Rattle.rules.specs.Pending.{noticeFor, never, holdsAt, isSendingOf, isResultOf, sendingDone, resultTaken, Between, noticeCleared}
 use Rattle.rules.proofs.Once.{single}
 use Rattle.rules.proofs.Visits.{found-sound}
 use Rattle.rules.proofs.Single.{call-single, singles-log}
 use Rattle.rules.proofs.Calls.{all-steps-single, singly-end, calls-keep}
-use Rattle.rules.proofs.Along.{isRequest, Asked, negative, registration, erasure, herself, forced, Does, asks, unsent, sends, untaken, clears, goes-on, unmoved, removes, delivers, drops, gives-up, Passed, unnamed, missing, refused, Along, ends, passes, visits, along, never-first}
+use Rattle.rules.proofs.Along.{isRequest, Asked, negative, registration, erasure, herself, forced, Does, asks, unsent, sends, untaken, clears, goes-on, unmoved, removes, looks, delivers, drops, gives-up, Passed, unnamed, missing, refused, looked, Along, ends, passes, visits, along, never-first}
 
 -- ---- one visit
 
@@ -76,6 +77,7 @@ request-unsent k (framed requester message frame) a e = refl
 request-unsent k (sending now number buffer) a e = no-path e
 request-unsent k (result now number kind) a e = no-path e
 request-unsent k (terminal number holder reply) a e = no-path e
+request-unsent k (routes home coded asked) a e = no-path e
 
 request-untaken : (k : ℕ) (c : Call) (a : Reply) → isRequest c ≡ true → resultTaken k (c, a) ≡ false
 request-untaken k (request requester scheme string reply) a e = refl
@@ -83,6 +85,24 @@ request-untaken k (framed requester message frame) a e = refl
 request-untaken k (sending now number buffer) a e = no-path e
 request-untaken k (result now number kind) a e = no-path e
 request-untaken k (terminal number holder reply) a e = no-path e
+request-untaken k (routes home coded asked) a e = no-path e
+
+-- neither is a routing
+routing-unsent : (k : ℕ) (c : Call) → isRouting c ≡ true → isSendingOf k c ≡ false
+routing-unsent k (request requester scheme string reply) r = refl
+routing-unsent k (framed requester message frame) r = refl
+routing-unsent k (sending now number buffer) r = no-path r
+routing-unsent k (result now number kind) r = refl
+routing-unsent k (terminal number holder reply) r = refl
+routing-unsent k (routes home coded asked) r = refl
+
+routing-untaken : (k : ℕ) (c : Call) → isRouting c ≡ true → isResultOf k c ≡ false
+routing-untaken k (request requester scheme string reply) r = refl
+routing-untaken k (framed requester message frame) r = refl
+routing-untaken k (sending now number buffer) r = refl
+routing-untaken k (result now number kind) r = no-path r
+routing-untaken k (terminal number holder reply) r = refl
+routing-untaken k (routes home coded asked) r = refl
 
 -- behind one entry more
 pub farther : {X : Type 0} {test : X → Bool} {x : X} {l : List X} {i n j : ℕ} → n ≤ suc i → Between test l i j → Between test (x ∷ l) n (suc j)
@@ -99,11 +119,13 @@ module _ (list : List ℕ) (k : ℕ) where
   -- a call that does not come to a record of k is no sending of it that succeeds, and no result that is taken
   pub passed-unsent : (c : Call) {a : Reply} → Passed list k c a → sendingDone k (c, a) ≡ false
   passed-unsent c refused = and-no (isSendingOf k c) false refl
+  passed-unsent c (looked r p q) = rw (routing-unsent k c r) refl
   passed-unsent (request requester scheme string reply) (unnamed n) = refl
   passed-unsent (framed requester message frame) (unnamed n) = refl
   passed-unsent (sending now number buffer) (unnamed n) = rw n
   passed-unsent (result now number kind) (unnamed n) = refl
   passed-unsent (terminal number holder reply) (unnamed n) = refl
+  passed-unsent (routes home coded asked) (unnamed n) = refl
   passed-unsent (request requester scheme string reply) missing = refl
   passed-unsent (framed requester message frame) missing = refl
   passed-unsent (sending now number buffer) missing =
@@ -111,19 +133,23 @@ module _ (list : List ℕ) (k : ℕ) where
       ((ltb (length buffer) bufferRoom, record { answer = refusal 1; buffer = buffer }) ∷ []) (record { answer = refusal 7; buffer = buffer }) (refl, tt) refl)
   passed-unsent (result now number kind) missing = refl
   passed-unsent (terminal number holder reply) missing = refl
+  passed-unsent (routes home coded asked) missing = refl
 
   passed-untaken : (c : Call) {a : Reply} → Passed list k c a → resultTaken k (c, a) ≡ false
   passed-untaken c refused = and-no (isResultOf k c) false refl
+  passed-untaken c (looked r p q) = rw (routing-untaken k c r) refl
   passed-untaken (request requester scheme string reply) (unnamed n) = refl
   passed-untaken (framed requester message frame) (unnamed n) = refl
   passed-untaken (sending now number buffer) (unnamed n) = refl
   passed-untaken (result now number kind) (unnamed n) = rw n
   passed-untaken (terminal number holder reply) (unnamed n) = refl
+  passed-untaken (routes home coded asked) (unnamed n) = refl
   passed-untaken (request requester scheme string reply) missing = refl
   passed-untaken (framed requester message frame) missing = refl
   passed-untaken (sending now number buffer) missing = refl
   passed-untaken (result now number kind) missing = and-no (eqb (number .0) k) false refl
   passed-untaken (terminal number holder reply) missing = refl
+  passed-untaken (routes home coded asked) missing = refl
 
   -- a sending that succeeds finds the notice waiting and leaves it in flight
   pub sent-flies : {r : Record} {c : Call} {v : Visited} → Does list r c v → sendingDone k (c, v .reply) ≡ true
@@ -136,6 +162,7 @@ module _ (list : List ℕ) (k : ℕ) where
   sent-flies (goes-on w p) s = no-path s
   sent-flies (unmoved p q) s = no-path s
   sent-flies (removes m x z) s = no-path s
+  sent-flies (looks p q) s = no-path s
 
   -- a notice in flight stays in flight, up to a result that is not refused
   flying-on : {r : Record} {c : Call} {v : Visited} → namesOne list c k ≡ true → Does list r c v → isInFlight (r .notice) ≡ true
@@ -150,6 +177,7 @@ module _ (list : List ℕ) (k : ℕ) where
   flying-on n (goes-on w p) f u = no-path (sym (rw n at u))
   flying-on n (unmoved p q) f u = f
   flying-on {r} n (removes m x z) f u = no-path (sym (flies-pending (r .notice) f) ∙ x)
+  flying-on n (looks p q) f u = f
 
   -- a pending notice is pending still, up to the result that clears it
   pub still-pending : {r : Record} {c : Call} {v : Visited} → namesOne list c k ≡ true → Does list r c v → isAbsent (r .notice) ≡ false
@@ -166,6 +194,7 @@ module _ (list : List ℕ) (k : ℕ) where
   still-pending n (goes-on w p) a u = record { pending = refl; addressee = refl; supervisor = refl; done = omega arith }
   still-pending n (unmoved p q) a u = record { pending = a; addressee = refl; supervisor = refl; done = omega arith }
   still-pending n (removes m x z) a u = no-path (sym a ∙ x)
+  still-pending n (looks p q) a u = record { pending = a; addressee = refl; supervisor = refl; done = omega arith }
 
   -- a result that is taken after the last sending clears the notice
   last-clears : {r : Record} {c : Call} {v : Visited} → Does list r c v → sendingsDone (r .notice) ≡ mostSendings → resultTaken k (c, v .reply) ≡ true
@@ -178,6 +207,7 @@ module _ (list : List ℕ) (k : ℕ) where
   last-clears (goes-on w p) m u = no-path (sym (rw m at p))
   last-clears (unmoved p q) m u = no-path u
   last-clears (removes n x z) m u = no-path u
+  last-clears (looks p q) m u = no-path u
 
   -- ---- the walk along the calls
 
@@ -236,6 +266,7 @@ result-single k (framed requester message frame, a) u = no-path u
 result-single k (sending now number buffer, a) u = no-path u
 result-single k (result now number kind, a) u = refl
 result-single k (terminal number holder reply, a) u = no-path u
+result-single k (routes home coded asked, a) u = no-path u
 
 -- a result naming k that is not refused, with the most sendings done, of whatever kind, leaves k's phase 0
 pub last-result-ends : (list : List ℕ) (delay k : ℕ) (c : Call) (state : State) → sendingsDone (noticeFor state k) ≡ mostSendings

@@ -1,6 +1,6 @@
 -- M-110: a table of six-word rows with numbers in it, lent whole, is refused 2 by every call of the rules that gets past what is tested before the table. Assumes nothing.
 use mathlib.Core.Path.{_≡_, refl}
-use mathlib.Core.Bool.{true}
+use mathlib.Core.Bool.{Bool, true}
 use mathlib.Core.Option.{some}
 use mathlib.Core.List.{List, []}
 use Prim.Native.Nat.{ℕ, _*_, _≤_, _<_}
@@ -18,6 +18,7 @@ use Rattle.rules.specs.Crews.{requesting}
 use Rattle.rules.specs.Frames.{framedRequest}
 use Rattle.rules.specs.Notices.{sendingNotice, takingResult, finding}
 use Rattle.rules.specs.Terminal.{terminalErasure}
+use Rattle.rules.specs.Routing.{routing}
 
 module _ (n : ℕ) (words figures : List ℕ) (numbers : 0 < n) (old : OldTable n words) (whole : length words ≡ oldRowWords * n) where
   abbrev oldState : State
@@ -46,6 +47,10 @@ module _ (n : ℕ) (words figures : List ℕ) (numbers : 0 < n) (old : OldTable 
       → terminalErasure oldState reply number holder ≡ made (refusal 2) oldState reply
   unfolding terminalErasure
   old-terminal reply number holder room = rw (le-ltb (length reply) bufferRoom room, old-unsound n words numbers old whole) refl
+
+  pub old-routing : (home : List ℕ) (coded : Bool) (asked : List ℕ) → routing words home coded asked ≡ refusal 2
+  unfolding routing
+  old-routing home coded asked = rw (old-unsound n words numbers old whole) refl
 
   pub old-finding : (delay clock : ℕ) → finding words delay clock ≡ refusal 2
   unfolding finding

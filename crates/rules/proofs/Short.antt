@@ -17,7 +17,7 @@ use Rattle.frames.specs.Messages.{Register, registerOf, release, inverted}
 use Rattle.frames.proofs.Lengths.{release-length, result-length, error-length, reject-length}
 use Rattle.tables.specs.Tables.{tableSound}
 use Rattle.states.specs.States.{State, figuresRight}
-use Rattle.rules.specs.Answers.{Answer, refusal, error, outcome, holderIs, returnError, reject, sentTo, delivered, dropped, again, found, noneDue, numbersOf, Outcome, mostReplyOctets, holderText, octetCount, refusing}
+use Rattle.rules.specs.Answers.{Answer, refusal, error, outcome, holderIs, returnError, reject, sentTo, delivered, dropped, again, found, noneDue, askNetwork, routedTo, numbersOf, Outcome, mostReplyOctets, holderText, octetCount, refusing}
 use Rattle.rules.specs.Crews.{crewNumber, crewReply, requesting}
 use Rattle.rules.specs.Frames.{framedChecks, answeredIn, ownReply, bodied, registered, framedRequest}
 use Rattle.rules.proofs.Tallied.{reply-short}
@@ -81,6 +81,8 @@ module _ (first number : ℕ) (frame : List ℕ) (state : State) (reply : List �
   answered-short again h = zero-le
   answered-short (found functional) h = zero-le
   answered-short noneDue h = zero-le
+  answered-short (askNetwork code) h = zero-le
+  answered-short (routedTo msisdn subaddress) h = omega (arith, h)
 
 module _ (state : State) (list frame : List ℕ) (requester : Msisdn) (message : List ℕ) where
   body-short : (first number : ℕ) (b : Body) → FrameShort (bodied (requesting state list ownReply requester) state frame first number b)

@@ -15,7 +15,7 @@ use Rattle.rules.specs.Answers.{refusing}
 use Rattle.rules.specs.Crews.{requesting}
 use Rattle.rules.specs.Frames.{framedChecks, inFrame, ownReply, bodied, registered, framedRequest}
 use Rattle.rules.specs.Run.{end, log}
-use Rattle.rules.specs.Calls.{Call, request, framed, sending, result, terminal, Reply, replied, call, codesRead, codesOf}
+use Rattle.rules.specs.Calls.{Call, request, framed, sending, result, terminal, routes, Reply, replied, call, codesRead, codesOf}
 use Rattle.rules.proofs.Once.{requestingOnce, framedOnce, single}
 
 request-single : (t : State) (list reply : List ℕ) (requester : Msisdn) (scheme : ℕ) (string : List ℕ) → codesRead (requestOf string) ≡ none
@@ -48,6 +48,7 @@ call-single list delay (framed requester message frame) t e =
 call-single list delay (sending now number buffer) t e = refl
 call-single list delay (result now number kind) t e = refl
 call-single list delay (terminal number holder reply) t e = refl
+call-single list delay (routes home coded asked) t e = refl
 
 -- a list of such calls
 abbrev pub AllSingle : List Call → Type 0

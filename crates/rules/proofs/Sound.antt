@@ -45,7 +45,7 @@ use Rattle.rules.specs.Requests.{rightChecks}
 use Rattle.rules.specs.Frames.{ownReply}
 use Rattle.rules.specs.Run.{end}
 use Rattle.rules.specs.Terminal.{bothNumbers}
-use Rattle.rules.specs.Calls.{Call, request, framed, sending, result, terminal, Reply, clockReading, nameOf, isNamed, namesOne}
+use Rattle.rules.specs.Calls.{Call, request, framed, sending, result, terminal, routes, Reply, clockReading, nameOf, isNamed, namesOne}
 use Rattle.rules.specs.Visits.{Visited, visited, visitSaying, stepped, holderAnswered, stepAt, tellAt, decidesAt, decides, decided, sentStep, resultStep, visitRequest, visit, missed}
 use Rattle.rules.proofs.Once.{single}
 use Rattle.rules.proofs.Inside.{named-inside}
@@ -109,6 +109,7 @@ module _ (r : Record) (sound : recordSound r ≡ true) where
       decide-each SoundVisit
       ((ltb (length reply) bufferRoom, visited (refusal 1) reply r) ∷ (not (bothNumbers number holder), visited (refusal 7) reply r) ∷ []) _ (sound, (sound, tt))
       (stepped-sound 2 reply (steps.forced nobody holder r) (forced-sound r sound nobody holder refl))
+  visit-sound list delay (routes home coded asked) k e = sound
 
 -- ---- a call leaves a sound state
 

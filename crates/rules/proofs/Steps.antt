@@ -35,7 +35,7 @@ use Rattle.rules.specs.Answers.{crewRegistered, crewErased, Outcome, buf
 use Rattle.rules.specs.Requests.{isForced, hasFollowMe, refusalChecks, rightChecks, negative, saying}
 use Rattle.rules.specs.Crews.{withCode, memberOf, crewCodes, crewNumber, Walk, walked, setOut, crewOutcome, carriedOutFor, requesting}
 use Rattle.rules.specs.Frames.{framedChecks, Inside, insideOf, ownReply}
-use Rattle.rules.specs.Calls.{Call, request, framed, sending, result, terminal, Reply, replied, call, readOf, codesRead, codesOf, namesOne, singleCalls, stopsCrew, stepsOf, steps}
+use Rattle.rules.specs.Calls.{Call, request, framed, sending, result, terminal, routes, Reply, replied, call, readOf, codesRead, codesOf, namesOne, singleCalls, stopsCrew, stepsOf, steps}
 use Rattle.rules.specs.Visits.{enveloped}
 use Rattle.rules.specs.Singles.{Roomy}
 use Rattle.rules.specs.Demand.{isCrewOutcome}
@@ -68,6 +68,7 @@ own-step list (framed requester message frame) e = by-inside (insideOf message) 
 own-step list (sending now number buffer) e = refl
 own-step list (result now number kind) e = refl
 own-step list (terminal number holder reply) e = refl
+own-step list (routes home coded asked) e = refl
 
 -- a crew's request that its frame stops has none
 no-steps : (list : List ℕ) (requester : Msisdn) (message frame : List ℕ) {codes : List ℕ} → anyHolds (framedChecks true true list frame message) ≡ true
@@ -136,6 +137,7 @@ read-from (framed requester message frame) {f} e = bind-some (insideOf message) 
 read-from (sending now number buffer) e = not-some e
 read-from (result now number kind) e = not-some e
 read-from (terminal number holder reply) e = not-some e
+read-from (routes home coded asked) e = not-some e
 
 -- a forced erasure is no crew's: a supervisor clears no crew
 pub forced-alone : (c : Call) (f : Request) {named : Msisdn} → readOf c ≡ some f → f .erasing ≡ Forced named → codesOf c ≡ none
@@ -283,6 +285,7 @@ view list delay (framed requester message frame) = go (opened list frame message
 view list delay (sending now number buffer) = own (sending now number buffer) refl refl
 view list delay (result now number kind) = own (result now number kind) refl refl
 view list delay (terminal number holder reply) = own (terminal number holder reply) refl refl
+view list delay (routes home coded asked) = own (routes home coded asked) refl refl
 
 -- a crew's request that goes is answered 11 or 12, in its frame too
 pub goes-said : (list : List ℕ) (delay : ℕ) {c : Call} {turn : Reply → Reply} (requester : Msisdn) (scheme : ℕ) (string reply : List ℕ)

@@ -20,7 +20,7 @@ use Rattle.records.specs.Steps.{same, isAbsent}
 use Rattle.states.specs.States.{State, recordFor}
 use Rattle.rules.specs.Answers.{isOutcome}
 use Rattle.rules.specs.Run.{log}
-use Rattle.rules.specs.Calls.{Call, Reply, request, framed, sending, result, terminal, readOf, namesOne, call, steps}
+use Rattle.rules.specs.Calls.{Call, Reply, request, framed, sending, result, terminal, routes, readOf, namesOne, call, steps}
 use Rattle.rules.specs.Visits.{Visited}
 use Rattle.rules.specs.Pending.{never, holdsOf, sendingDone, noticeCleared}
 use Rattle.rules.specs.Users.{askerOf, telling}
@@ -28,7 +28,7 @@ use Rattle.rules.proofs.Once.{single}
 use Rattle.rules.proofs.Single.{call-single, singles-log}
 use Rattle.rules.proofs.Steps.{forced-alone}
 use Rattle.rules.proofs.Calls.{all-steps-single}
-use Rattle.rules.proofs.Along.{Asked, negative, registration, erasure, herself, forced, Does, asks, unsent, sends, untaken, clears, goes-on, unmoved, removes, Along, ends, passes, visits, along, answered-02, same-one, not-same, never-first}
+use Rattle.rules.proofs.Along.{Asked, negative, registration, erasure, herself, forced, Does, asks, unsent, sends, untaken, clears, goes-on, unmoved, removes, looks, Along, ends, passes, visits, along, answered-02, same-one, not-same, never-first}
 use Rattle.rules.proofs.NoticeEnds.{request-unsent, passed-unsent, still-pending}
 
 -- a notice to h from s is pending
@@ -44,6 +44,7 @@ Tells h s (framed requester message frame, a) = ⊥
 Tells h s (sending now number buffer, a) = a ≡ telling number h s buffer
 Tells h s (result now number kind, a) = ⊥
 Tells h s (terminal number holder reply, a) = ⊥
+Tells h s (routes home coded asked, a) = ⊥
 
 module _ (list : List ℕ) (k : ℕ) where
   -- a sending that succeeds tells the record's addressee of its supervisor
@@ -56,6 +57,7 @@ module _ (list : List ℕ) (k : ℕ) where
   sending-tells (goes-on w p) u = no-path u
   sending-tells (unmoved p q) u = no-path u
   sending-tells (removes m x z) u = no-path u
+  sending-tells (looks p q) u = no-path u
 
   -- a forced erasure naming h, by another, answered 02, leaves a notice to h from her
   forced-tells : {r next : Record} {h s : Msisdn} {read : Option Request} {one two : Bool} {f : Request} → Asked list r s read one two next
@@ -79,6 +81,7 @@ module _ (list : List ℕ) (k : ℕ) where
   call-tells (goes-on w p) t e o u = not-some t
   call-tells (unmoved p q) t e o u = not-some t
   call-tells (removes m x z) t e o u = not-some t
+  call-tells (looks p q) t e o u = not-some t
 
   -- at the terminal
   terminal-tells : {r : Record} {number : FunctionalNumber} {h : Msisdn} {reply : List ℕ} {v : Visited} → Does list r (terminal number h reply) v

@@ -23,7 +23,8 @@ use Rattle.states.proofs.States.{state-table, sound-state}
 use Rattle.rules.specs.Answers.{refusal, resultClass, deliveredNumber, droppedNumber, numbersOf, isOf, isOutcome}
 use Rattle.rules.specs.Run.{only, end, log}
 use Rattle.rules.specs.Notices.{noticeIn}
-use Rattle.rules.specs.Calls.{Call, request, framed, sending, result, terminal, Reply, call, codesOf, nameOf, namesOne, isNamed}
+use Rattle.rules.specs.Figures.{isRouting}
+use Rattle.rules.specs.Calls.{Call, request, framed, sending, result, terminal, routes, Reply, call, codesOf, nameOf, namesOne, isNamed}
 use Rattle.rules.specs.Visits.{missed}
 use Rattle.rules.specs.Demand.{gotBy}
 use Rattle.rules.specs.Accounts.{ofNumber, forcesOff, makesNotice, hasKind, returns, isZero, isOneToFour, isFive, isDelivery, isDroppedByKind, isDroppedLast, howOften, erasures, deliveries, droppedByKind, droppedLast, pendingFor, pendingIn, Balanced, sumTo, overNumbers, waitingFigure, inFlightFigure, notifiedIn, Accounted}
@@ -67,6 +68,7 @@ kind-any test (framed requester message frame) h = h
 kind-any test (sending now number buffer) h = h
 kind-any test (result now number kind) h = refl
 kind-any test (terminal number holder reply) h = h
+kind-any test (routes home coded asked) h = h
 
 returned-counts : (n : ℕ) (test : ℕ → Bool) (e : Call × Reply) → returns n test e ≡ true → mayCount e ≡ true
 returned-counts n test e r =
@@ -93,6 +95,7 @@ module _ (list : List ℕ) (delay : ℕ) where
       by-call (sending now number buffer) = refl
       by-call (result now number kind) = refl
       by-call (terminal number holder reply) = refl
+      by-call (routes home coded asked) = refl
 
   nameless-counts : (c : Call) (a : Reply) → nameOf list c ≡ none → isOutcome 2 (a .answer) ≡ false → mayCount (c, a) ≡ false
   nameless-counts c a n u = unsaid-counts c a u (by-call c n)
@@ -103,6 +106,7 @@ module _ (list : List ℕ) (delay : ℕ) where
       by-call (sending now number buffer) n = refl
       by-call (result now number kind) n = not-some (sym n)
       by-call (terminal number holder reply) n = refl
+      by-call (routes home coded asked) n = refl
 
   single-placed : (c : Call) (t : State) → stateSound t ≡ true → Placed list t (c, single list delay c t .0)
   single-placed c t sound u = by-name (nameOf list c) refl
@@ -199,24 +203,44 @@ pending-sum start t kept =
 pub pending-figures : (t : State) → stateSound t ≡ true → pendingIn t ≡ waitingFigure t + inFlightFigure t
 pending-figures t sound = sym (recount-notices (t .table)) ∙ rw (sound-state t sound .figures) refl
 
--- ---- from a table that is unsound, or with figures that are not right: every call is refused
+-- a routing forces nobody off, and has no kind
+routing-forces : (c : Call) → isRouting c ≡ true → forcesOff c ≡ false
+routing-forces (request requester scheme string reply) r = no-path r
+routing-forces (framed requester message frame) r = no-path r
+routing-forces (sending now number buffer) r = refl
+routing-forces (result now number kind) r = refl
+routing-forces (terminal number holder reply) r = no-path r
+routing-forces (routes home coded asked) r = refl
+
+routing-kindless : (test : ℕ → Bool) (c : Call) → isRouting c ≡ true → hasKind test c ≡ false
+routing-kindless test (request requester scheme string reply) r = refl
+routing-kindless test (framed requester message frame) r = refl
+routing-kindless test (sending now number buffer) r = refl
+routing-kindless test (result now number kind) r = no-path r
+routing-kindless test (terminal number holder reply) r = refl
+routing-kindless test (routes home coded asked) r = refl
+
+-- ---- from a table that is unsound, or with figures that are not right: every call but a routing is refused
 
 module _ (list : List ℕ) (delay : ℕ) (t : State) (unsound : stateSound t ≡ false) where
-  -- a test that no refusal passes
+  -- a test that no refusal passes, and no routing
   abbrev Unrefused : (Call × Reply → Bool) → Type 0
-  Unrefused test = (c : Call) (n : ℕ) (buffer : List ℕ) → test (c, record { answer = refusal n; buffer = buffer }) ≡ false
+  Unrefused test =
+      ((c : Call) (n : ℕ) (buffer : List ℕ) → test (c, record { answer = refusal n; buffer = buffer }) ≡ false)
+      × ((c : Call) (a : Reply) → isRouting c ≡ true → test (c, a) ≡ false)
 
   none-passes : (test : Call × Reply → Bool) → Unrefused test → (cs : List Call) → howOften test (log (call list delay) cs t) ≡ 0
   none-passes test unrefused [] = refl
   none-passes test unrefused (c ∷ cs) =
-      let (n, buffer, e, early) = unsound-call t unsound list delay c in
-      rw e (rw (unrefused c n buffer) (none-passes test unrefused cs))
+      ⊎-elim (λ (n, buffer, e, early). rw e (rw (unrefused .0 c n buffer) (none-passes test unrefused cs)))
+      (λ (a, e, looks, quiet). rw e (rw (unrefused .1 c (record { answer = a; buffer = [] }) looks) (none-passes test unrefused cs)))
+      (unsound-call t unsound list delay c)
 
   none-made : Unrefused makesNotice
-  none-made c n buffer = and-no (forcesOff c) false refl
+  none-made = (λ c n buffer. and-no (forcesOff c) false refl, λ c a looks. rw (routing-forces c looks) refl)
 
   none-returned : (m : ℕ) (test : ℕ → Bool) → Unrefused (returns m test)
-  none-returned m test c n buffer = and-no (hasKind test c) false refl
+  none-returned m test = (λ c n buffer. and-no (hasKind test c) false refl, λ c a looks. rw (routing-kindless test c looks) refl)
 
   -- of one number there are at most as many
   fewer : (k : ℕ) (test : Call × Reply → Bool) (es : List (Call × Reply)) → howOften test (gotBy list k es) ≤ howOften test es

@@ -1,5 +1,6 @@
--- Over an unsound table or wrong figures every call is refused, and leaves both. Assumes nothing.
+-- Over an unsound table or wrong figures every call but a routing is refused, and every call leaves both. Assumes nothing.
 use mathlib.Core.Path.{_≡_, refl, sym, ap, _∙_}
+use mathlib.Core.Logic.{_⊎_, inl, inr, ⊎-elim}
 use mathlib.Core.Bool.{Bool, true, false, not, _&&_}
 use mathlib.Core.List.{List, [], _∷_, _++_, map}
 use Prim.Native.Nat.{ℕ}
@@ -15,15 +16,18 @@ use Rattle.strings.specs.Outcomes.{requestOf}
 use Rattle.frames.specs.Messages.{frameRoom, unreadMessage, registerOf}
 use Rattle.tables.specs.Tables.{tableSound, listSound, flagsOf}
 use Rattle.states.specs.States.{State, figuresRight, stateSound, rowFor, recordFor}
-use Rattle.rules.specs.Answers.{refusal, Outcome, made, bufferRoom, refusing}
+use Rattle.rules.specs.Answers.{Answer, refusal, Outcome, made, isOutcome, bufferRoom, refusing}
 use Rattle.rules.specs.Requests.{refusalChecks, once, askingBy, requestingBy}
 use Rattle.rules.specs.Crews.{requesting}
 use Rattle.rules.specs.Frames.{registered, framedBy, framedRequest}
 use Rattle.rules.specs.Notices.{sendingChecks, sentAt, sendingNotice, resultChecks, resultAt, takingResult}
 use Rattle.rules.specs.Terminal.{terminalRequest, terminalChecks, terminalErasure}
 use Rattle.rules.specs.Run.{end}
-use Rattle.rules.specs.Figures.{isEarly}
-use Rattle.rules.specs.Calls.{Call, request, framed, sending, result, terminal, Reply, replied, clockReading, call}
+use Rattle.rules.specs.Routing.{routing}
+use Rattle.rules.specs.Demand.{isCrewOutcome}
+use Rattle.rules.specs.Figures.{isEarly, isRouting}
+use Rattle.rules.specs.Calls.{Call, request, framed, sending, result, terminal, routes, Reply, replied, clockReading, call}
+use Rattle.rules.proofs.Routes.{routing-each}
 use Rattle.rules.proofs.Once.{requestingOnce, framedOnce, single}
 
 module _ (t : State) (unsound : stateSound t ≡ false) where
@@ -32,6 +36,14 @@ module _ (t : State) (unsound : stateSound t ≡ false) where
 
   abbrev RefusedAt : Outcome → Type 0
   RefusedAt o = RefusedWith (replied o)
+
+  -- what a routing gets, whatever the state
+  abbrev Quiet : Answer → Type 0
+  Quiet a = (isOutcome 1 a ≡ false) × (isOutcome 2 a ≡ false) × (isCrewOutcome a ≡ false)
+
+  -- refused, or a routing, which does not look at the figures
+  abbrev Idle : Call → Reply × State → Type 0
+  Idle c r = RefusedWith r ⊎ ((a : Answer) × (r ≡ (record { answer = a; buffer = [] }, t)) × (isRouting c ≡ true) × Quiet a)
 
   abbrev AllEarly : List (Bool × ℕ) → Type 0
   AllEarly [] = Unit {0}
@@ -76,23 +88,37 @@ module _ (t : State) (unsound : stateSound t ≡ false) where
       let checks = refusing t reply (terminalChecks (tableSound (t .table)) (figuresRight t) reply number holder) in
       refused-by reply ((ltb (length reply) bufferRoom, 1) ∷ []) (refl, tt) (drop 3 checks) (once t reply nobody (terminalRequest number holder)) (tableSound (t .table)) (figuresRight t) unsound
 
-  pub unsound-single : (list : List ℕ) (delay : ℕ) (c : Call) → RefusedWith (single list delay c t)
-  unfolding requestingOnce framedOnce
-  unsound-single list delay (request requester scheme string reply) = request-refused _ list reply requester scheme string
-  unsound-single list delay (framed requester message frame) = framed-refused _ list frame message
-  unsound-single list delay (sending now number buffer) = sending-refused buffer number delay (clockReading now)
-  unsound-single list delay (result now number kind) = result-refused number kind (clockReading now)
-  unsound-single list delay (terminal number holder reply) = terminal-refused reply number holder
+  routing-idles : (home : List ℕ) (coded : Bool) (asked : List ℕ) → Idle (routes home coded asked) (record { answer = routing (t .table) home coded asked; buffer = [] }, t)
+  routing-idles home coded asked =
+      inr (
+        routing (t .table) home coded asked,
+        refl,
+        refl,
+        routing-each Quiet (refl, refl, refl) (refl, refl, refl) (λ code. (refl, refl, refl)) (λ m s. (refl, refl, refl)) (refl, refl, refl) (refl, refl, refl) (t .table) home coded asked,
+      )
 
-  pub unsound-call : (list : List ℕ) (delay : ℕ) (c : Call) → RefusedWith (call list delay c t)
+  pub unsound-single : (list : List ℕ) (delay : ℕ) (c : Call) → Idle c (single list delay c t)
+  unfolding requestingOnce framedOnce
+  unsound-single list delay (request requester scheme string reply) = inl (request-refused _ list reply requester scheme string)
+  unsound-single list delay (framed requester message frame) = inl (framed-refused _ list frame message)
+  unsound-single list delay (sending now number buffer) = inl (sending-refused buffer number delay (clockReading now))
+  unsound-single list delay (result now number kind) = inl (result-refused number kind (clockReading now))
+  unsound-single list delay (terminal number holder reply) = inl (terminal-refused reply number holder)
+  unsound-single list delay (routes home coded asked) = routing-idles home coded asked
+
+  pub unsound-call : (list : List ℕ) (delay : ℕ) (c : Call) → Idle c (call list delay c t)
   unfolding requesting framedRequest
-  unsound-call list delay (request requester scheme string reply) = request-refused _ list reply requester scheme string
-  unsound-call list delay (framed requester message frame) = framed-refused _ list frame message
-  unsound-call list delay (sending now number buffer) = sending-refused buffer number delay (clockReading now)
-  unsound-call list delay (result now number kind) = result-refused number kind (clockReading now)
-  unsound-call list delay (terminal number holder reply) = terminal-refused reply number holder
+  unsound-call list delay (request requester scheme string reply) = inl (request-refused _ list reply requester scheme string)
+  unsound-call list delay (framed requester message frame) = inl (framed-refused _ list frame message)
+  unsound-call list delay (sending now number buffer) = inl (sending-refused buffer number delay (clockReading now))
+  unsound-call list delay (result now number kind) = inl (result-refused number kind (clockReading now))
+  unsound-call list delay (terminal number holder reply) = inl (terminal-refused reply number holder)
+  unsound-call list delay (routes home coded asked) = routing-idles home coded asked
+
+  -- either leaves the state
+  pub unsound-stays : (list : List ℕ) (delay : ℕ) (c : Call) → call list delay c t .1 ≡ t
+  unsound-stays list delay c = ⊎-elim (λ (n, buffer, e, early). ap (λ r. r .1) e) (λ (a, e, looks, quiet). ap (λ r. r .1) e) (unsound-call list delay c)
 
   pub unsound-end : (list : List ℕ) (delay : ℕ) (cs : List Call) → end (call list delay) cs t ≡ t
   unsound-end list delay [] = refl
-  unsound-end list delay (c ∷ cs) =
-      let (n, buffer, e, early) = unsound-call list delay c in ap (λ r. end (call list delay) cs (r .1)) e ∙ unsound-end list delay cs
+  unsound-end list delay (c ∷ cs) = ap (end (call list delay) cs) (unsound-stays list delay c) ∙ unsound-end list delay cs

@@ -12,7 +12,7 @@ use Rattle.answers.proofs.Tests.{no-path, and-right, or-neither, or-right}
 use Rattle.answers.proofs.Checks.{not-some}
 use Rattle.answers.proofs.Decide.{chosen, answering, decide-of, decide-each, all-pass, any-answering, none-holds, one-holds}
 use Rattle.packing.specs.Packing.{unpacked}
-use Rattle.numbers.specs.Numbers.{isNumber, nobody, isNobody}
+use Rattle.numbers.specs.Numbers.{isNumber, storedForm, nobody, isNobody}
 use Rattle.numbers.specs.declared.FunctionalNumber.{FunctionalNumber}
 use Rattle.numbers.specs.declared.Msisdn.{Msisdn}
 use Rattle.strings.specs.declared.Operation.{Operation}
@@ -39,8 +39,8 @@ use Rattle.tables.specs.declared.Found.{Found}
 use Rattle.tables.specs.declared.Found.the-variants.{At, Nothing}
 use Rattle.tables.specs.Tables.{recordOf, flagsOf}
 use Rattle.tables.proofs.Sound.{table-row}
-use Rattle.tables.proofs.Stored.{row-found}
-use Rattle.states.specs.States.{State, stateSound, rowFor, recordWhere, recordIn, storedIn}
+use Rattle.tables.proofs.Stored.{row-found, record-found, record-missing}
+use Rattle.states.specs.States.{State, stateSound, rowFor, recordFor, recordWhere, recordIn, storedIn}
 use Rattle.states.proofs.States.{state-table, state-right, stored-back}
 use Rattle.rules.specs.Answers.{Answer, refusal, error, delivered, dropped, again, Outcome, made, bufferRoom, isOutcome, refusing}
 use Rattle.rules.specs.Requests as requests
@@ -48,7 +48,9 @@ use Rattle.rules.specs.Requests.{Stepping, comesTo, says}
 use Rattle.rules.specs.Frames.{ownReply}
 use Rattle.rules.specs.Notices as notices
 use Rattle.rules.specs.Terminal.{terminalRequest, bothNumbers, terminalErasure}
-use Rattle.rules.specs.Calls.{Call, request, framed, sending, result, terminal, Reply, replied, clockReading, numberRead, nameOf}
+use Rattle.rules.specs.Routing.{withCodeIn, routingChecks, byCode}
+use Rattle.rules.proofs.Routes.{routing-looks, routing-stops}
+use Rattle.rules.specs.Calls.{Call, request, framed, sending, result, terminal, routes, Reply, replied, clockReading, numberRead, nameOf}
 use Rattle.rules.specs.Visits.{stepAt, tellAt, decidesAt, visited, storing, leaving, visitSaying, stepped, holderAnswered, erases, decides, decided, sentStep, resultStep, visitSending, visitResult, visitRequest, visitTerminal, visit, replySaying, missedSending, missedResult, missedRequest, missedTerminal, missed, enveloped}
 use Rattle.rules.proofs.Once.{requestingOnce, single}
 use Rattle.rules.proofs.Inside.{turned, outcome-kept, Opened, shut, carries, opened}
@@ -383,6 +385,31 @@ module _ (t : State) (reply : List ℕ) (number : FunctionalNumber) (holder : Ms
       ∙ chosen (leaving t) (ltb (length reply) bufferRoom) refl
       (chosen (leaving t) (not (bothNumbers number holder)) refl (ap (requests.replying reply) (step-misses t nobody erasure e)))
 
+-- ---- routings
+
+module _ (list home : List ℕ) (coded : Bool) (asked : List ℕ) where
+  abbrev digits : List ℕ
+  digits = withCodeIn home coded asked
+
+  abbrev unread : Bool
+  unread = anyHolds (routingChecks true home coded asked)
+
+  -- one that names k: no check holds, and k is the number with its code in front
+  pub routing-names : (k : ℕ) → nameOf list (routes home coded asked) ≡ some k → (unread ≡ false) × (storedForm digits ≡ k)
+  routing-names k e = go unread refl e
+    where
+      go : (b : Bool) → unread ≡ b → cond b none (some (storedForm digits)) ≡ some k → (unread ≡ false) × (storedForm digits ≡ k)
+      go true h e = not-some e
+      go false h e = (h, cc)
+
+  -- one that names none: a check holds
+  routing-nameless : nameOf list (routes home coded asked) ≡ none → unread ≡ true
+  routing-nameless e = go unread e
+    where
+      go : (b : Bool) → cond b none (some (storedForm digits)) ≡ none → b ≡ true
+      go true e = refl
+      go false e = not-some (sym e)
+
 -- ---- calls
 
 module _ (list : List ℕ) (delay : ℕ) (t : State) (sound : stateSound t ≡ true) where
@@ -407,6 +434,10 @@ module _ (list : List ℕ) (delay : ℕ) (t : State) (sound : stateSound t ≡ t
   single-visits (sending now number buffer) k i n e = ap replied (sending-visits t buffer number delay (clockReading now) sound i (cc))
   single-visits (result now number kind) k i n e = ap replied (result-visits t number kind (clockReading now) sound i (cc))
   single-visits (terminal number holder reply) k i n e = ap replied (terminal-visits t reply number holder sound i (cc))
+  single-visits (routes home coded asked) k i n e =
+      let (reads, number) = routing-names list home coded asked k n in
+      let looks = routing-looks (t .table) home coded asked (state-table t sound) reads ∙ ap (byCode home (withCodeIn home coded asked)) (ap (recordFor t) number ∙ record-found (t .table) k i e) in
+      λ j. (record { answer = looks j; buffer = [] }, sym (found-back t k i sound e) j)
 
   -- it is not in the table
   bare-misses : (requester : Msisdn) (scheme : ℕ) (string reply : List ℕ) (k : ℕ) → nameOf list (request requester scheme string reply) ≡ some k
@@ -426,6 +457,10 @@ module _ (list : List ℕ) (delay : ℕ) (t : State) (sound : stateSound t ≡ t
   single-misses (sending now number buffer) k n e = ap replied (sending-misses t buffer number delay (clockReading now) sound (cc))
   single-misses (result now number kind) k n e = ap replied (result-misses t number kind (clockReading now) sound (cc))
   single-misses (terminal number holder reply) k n e = ap replied (terminal-misses t reply number holder sound (cc))
+  single-misses (routes home coded asked) k n e =
+      let (reads, number) = routing-names list home coded asked k n in
+      let looks = routing-looks (t .table) home coded asked (state-table t sound) reads ∙ ap (byCode home (withCodeIn home coded asked)) (ap (recordFor t) number ∙ record-missing (t .table) k e) in
+      ap (λ a. (record { answer = a; buffer = [] }, t)) looks
 
 -- the call names none: it gets the same over every sound state, no outcome, and the state stays
 module _ (list : List ℕ) (delay : ℕ) where
@@ -453,3 +488,8 @@ module _ (list : List ℕ) (delay : ℕ) where
   single-stops (sending now number buffer) n = not-some (sym n)
   single-stops (result now number kind) n = not-some (sym n)
   single-stops (terminal number holder reply) n = not-some (sym n)
+  single-stops (routes home coded asked) n = (
+    record { answer = decide (routingChecks true home coded asked) (error 36); buffer = [] },
+    λ m. decide-each (λ a. isOutcome m a ≡ false) (routingChecks true home coded asked) (error 36) (refl, (refl, (refl, (refl, tt)))) refl,
+    λ t sound. ap (λ a. (record { answer = a; buffer = [] }, t)) (routing-stops (t .table) home coded asked (state-table t sound) (routing-nameless list home coded asked n)),
+  )

@@ -20,7 +20,7 @@ use Rattle.rules.specs.Visits.{Visited}
 use Rattle.rules.specs.Withdrawn.{runOut, Withdrawn}
 use Rattle.rules.proofs.Single.{singles-log}
 use Rattle.rules.proofs.Calls.{all-steps-single, singly-end}
-use Rattle.rules.proofs.Along.{Asked, negative, registration, erasure, herself, forced, Does, asks, unsent, sends, untaken, clears, goes-on, unmoved, removes, Along, ends, passes, visits, along, same-one}
+use Rattle.rules.proofs.Along.{Asked, negative, registration, erasure, herself, forced, Does, asks, unsent, sends, untaken, clears, goes-on, unmoved, removes, looks, Along, ends, passes, visits, along, same-one}
 
 -- ---- one visit
 
@@ -40,6 +40,7 @@ visit-closed (clears f e) = refl
 visit-closed (goes-on f p) = refl
 visit-closed (unmoved p q) = refl
 visit-closed (removes m x z) = refl
+visit-closed (looks p q) = refl
 
 -- the holder stays or goes
 asked-holds : {list : List ℕ} {r next : Record} {requester : Msisdn} {read : Option Request} {one two : Bool} → Asked list r requester read one two next → r .closed ≡ true
@@ -59,6 +60,7 @@ visit-holds (clears f e) c = inl refl
 visit-holds (goes-on f p) c = inl refl
 visit-holds (unmoved p q) c = inl refl
 visit-holds (removes m x z) c = inr refl
+visit-holds (looks p q) c = inl refl
 
 -- nobody again is nobody
 held-again : (r : Record) → isNobody (r .holder) ≡ true → heldBy nobody r ≡ r
@@ -81,6 +83,7 @@ module _ (r : Record) (c : r .closed ≡ true) (n : isNobody (r .holder) ≡ tru
   visit-stays (goes-on f p) = no-path (sym (absent-still (r .notice) a .1) ∙ f)
   visit-stays (unmoved p q) = refl
   visit-stays (removes m x z) = no-path (sym z ∙ n)
+  visit-stays (looks p q) = refl
 
 -- ---- along the calls
 

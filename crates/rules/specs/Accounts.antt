@@ -20,7 +20,7 @@ use Rattle.tables.specs.Figures.{howMany, hasNoticeAt}
 use Rattle.states.specs.States.{State, recordFor}
 use Rattle.rules.specs.Answers.{deliveredNumber, droppedNumber, isOutcome, isResult, isSent}
 use Rattle.rules.specs.Run.{only, last, end, log}
-use Rattle.rules.specs.Calls.{Call, request, framed, sending, result, terminal, Reply, call, readOf, namesOne}
+use Rattle.rules.specs.Calls.{Call, request, framed, sending, result, terminal, routes, Reply, call, readOf, namesOne}
 use Rattle.rules.specs.Demand.{holderOf, gotBy}
 use Rattle.rules.specs.Pending.{noticeFor, holdsAt, Between, sendingDone, noticeCleared}
 use Rattle.rules.specs.Users.{askerOf, telling}
@@ -43,6 +43,7 @@ forcesOff (framed requester message frame) = forcesAnother requester (readOf (fr
 forcesOff (sending now number buffer) = false
 forcesOff (result now number kind) = false
 forcesOff (terminal number holder reply) = true
+forcesOff (routes home coded asked) = false
 
 -- "forced erasures answered 02 where supervisor and holder differ"
 abbrev pub makesNotice : Call × Reply → Bool
@@ -55,6 +56,7 @@ hasKind test (framed requester message frame) = false
 hasKind test (sending now number buffer) = false
 hasKind test (result now number kind) = test kind
 hasKind test (terminal number holder reply) = false
+hasKind test (routes home coded asked) = false
 
 -- a result of such a kind that returned the number n
 abbrev pub returns : ℕ → (ℕ → Bool) → Call × Reply → Bool
@@ -156,6 +158,7 @@ holderNamedBy (framed requester message frame) = holderNamed (readOf (framed req
 holderNamedBy (sending now number buffer) = nobody
 holderNamedBy (result now number kind) = nobody
 holderNamedBy (terminal number holder reply) = holder
+holderNamedBy (routes home coded asked) = nobody
 
 -- by an erasure: the MSISDN that it names, and who asks for it; at the terminal, nobody
 abbrev pub notifiedBy : Call × Reply → Notified
@@ -171,7 +174,7 @@ abbrev pub notifiedAfter : Option (Call × Reply) → Notified → Notified
 notifiedAfter none before = before
 notifiedAfter (some entry) before = notifiedBy entry
 
--- what is proved of every list of calls, accepted and refused: requests (bare, framed, crews), sendings, results and erasures at the terminal, with one list and one delay, from a sound table with right figures; the equations from any table
+-- what is proved of every list of calls, accepted and refused: requests (bare, framed, crews), sendings, results, erasures at the terminal and routings, with one list and one delay, from a sound table with right figures; the equations from any table
 module _ (list : List ℕ) (delay : ℕ) (calls : List Call) (state : State) where
   abbrev got : List (Call × Reply)
   got = log (call list delay) calls state

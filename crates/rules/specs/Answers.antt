@@ -29,6 +29,9 @@ pub data Answer : Type 0 where
   -- what finding returns: the lowest due number, or none
   found : ℕ → Answer
   noneDue : Answer
+  -- M-112: "ask that network", with the code's three characters; the MSISDN that a text message goes to, with the subaddress octets
+  askNetwork : List ℕ → Answer
+  routedTo : ℕ → List ℕ → Answer
 
 -- ---- the paper's class, number and values of every answer
 
@@ -53,6 +56,12 @@ foundClass = 6
 
 abbrev pub noneDueClass : ℕ
 noneDueClass = 7
+
+abbrev pub askNetworkClass : ℕ
+askNetworkClass = 14
+
+abbrev pub routedClass : ℕ
+routedClass = 15
 
 abbrev pub returnErrorClass : ℕ
 returnErrorClass = 9
@@ -104,6 +113,9 @@ numbersOf dropped = four resultClass droppedNumber 0 0
 numbersOf again = four resultClass againNumber 0 0
 numbersOf (found number) = four foundClass 0 0 number
 numbersOf noneDue = four noneDueClass 0 0 0
+-- code, MSISDN and subaddress go with the class as they stand
+numbersOf (askNetwork code) = four askNetworkClass 0 0 0
+numbersOf (routedTo msisdn subaddress) = four routedClass 0 0 0
 
 -- the answer is of a class
 abbrev pub isOf : ℕ → Answer → Bool

@@ -1,4 +1,4 @@
--- Requests, framed ones, sendings, results and erasures at the terminal as calls over one table and its figures, with one subscriber list and one delay; the numbers that a call names; and its single steps. Assumes nothing.
+-- Requests, framed ones, sendings, results, erasures at the terminal and routings as calls over one table and its figures, with one subscriber list and one delay; the numbers that a call names; and its single steps. Assumes nothing.
 use Prim.Native.Nat.{ℕ, _*_, _%_, _^_}
 use mathlib.Core.Bool.{Bool, true, false, cond, not, _||_}
 use mathlib.Core.Option.{Option, none, some}
@@ -7,6 +7,7 @@ use lib.ListN.{take, drop}
 use lib.Dec.{eqb}
 use Rattle.answers.specs.Checks.{anyHolds, _>>=_}
 use Rattle.packing.specs.Packing.{packed}
+use Rattle.numbers.specs.Numbers.{storedForm}
 use Rattle.numbers.specs.declared.FunctionalNumber.{FunctionalNumber}
 use Rattle.numbers.specs.declared.Msisdn.{Msisdn}
 use Rattle.crews.specs.Crews.{isIn, crewOf}
@@ -23,6 +24,7 @@ use Rattle.rules.specs.Crews.{withCode, memberOf, crewCodes, requesting}
 use Rattle.rules.specs.Frames.{framedChecks, Inside, insideOf, ownReply, framedRequest}
 use Rattle.rules.specs.Notices as notices
 use Rattle.rules.specs.Terminal.{terminalErasure}
+use Rattle.rules.specs.Routing.{withCodeIn, routingChecks, routing}
 
 -- a call, with its own clock and buffer
 pub data Call : Type 0 where
@@ -36,14 +38,17 @@ pub data Call : Type 0 where
   result : ℕ → FunctionalNumber → ℕ → Call
   -- functional number, holder, reply buffer: at the node's terminal (M-111)
   terminal : FunctionalNumber → Msisdn → List ℕ → Call
+  -- the node's own code, whether the digits have a code, and the digits: where a text message goes (M-112)
+  routes : List ℕ → Bool → List ℕ → Call
 
--- the buffer that a call is lent; a result is lent none
+-- the buffer that a call is lent; a result and a routing are lent none
 abbrev pub bufferOf : Call → List ℕ
 bufferOf (request requester scheme string reply) = reply
 bufferOf (framed requester message frame) = frame
 bufferOf (sending now number buffer) = buffer
 bufferOf (result now number kind) = []
 bufferOf (terminal number holder reply) = reply
+bufferOf (routes home coded asked) = []
 
 -- what a caller gets: the answer, and the buffer afterwards
 pub record Reply : Type 0 where
@@ -64,14 +69,16 @@ call list delay (framed requester message frame) state = replied (framedRequest 
 call list delay (sending now number buffer) state = replied (notices.sendingNotice state buffer number delay (clockReading now))
 call list delay (result now number kind) state = replied (notices.takingResult state number kind (clockReading now))
 call list delay (terminal number holder reply) state = replied (terminalErasure state reply number holder)
+call list delay (routes home coded asked) state = (record { answer = routing (state .table) home coded asked; buffer = [] }, state)
 
--- what the string of a request reads as; a framed one's stands inside it, and at the terminal there is none
+-- what the string of a request reads as; a framed one's stands inside it, and at the terminal and in a routing there is none
 abbrev pub readOf : Call → Option Request
 readOf (request requester scheme string reply) = requestOf string
 readOf (framed requester message frame) = insideOf message >>= λ i. requestOf (i .string)
 readOf (sending now number buffer) = none
 readOf (result now number kind) = none
 readOf (terminal number holder reply) = none
+readOf (routes home coded asked) = none
 
 abbrev pub numberRead : Option Request → Option ℕ
 numberRead none = none
@@ -83,7 +90,7 @@ abbrev pub requestName : List ℕ → Msisdn → ℕ → List ℕ → List ℕ �
 requestName list requester scheme string reply =
     cond (anyHolds (refusalChecks true true list reply requester scheme string)) none (numberRead (requestOf string))
 
--- a framed request names what the request inside names; one that is refused or rejected has none inside. A sending, a result or the terminal names the number that it is given
+-- a framed request names what the request inside names; one that is refused or rejected has none inside. A sending, a result or the terminal names the number that it is given. M-112: a routing names "the number with its code in front", a foreign one too
 abbrev pub nameOf : List ℕ → Call → Option ℕ
 nameOf list (request requester scheme string reply) = requestName list requester scheme string reply
 nameOf list (framed requester message frame) =
@@ -91,6 +98,7 @@ nameOf list (framed requester message frame) =
 nameOf list (sending now number buffer) = some (number .0)
 nameOf list (result now number kind) = some (number .0)
 nameOf list (terminal number holder reply) = some (number .0)
+nameOf list (routes home coded asked) = cond (anyHolds (routingChecks true home coded asked)) none (some (storedForm (withCodeIn home coded asked)))
 
 abbrev pub isNamed : Option ℕ → ℕ → Bool
 isNamed none k = false
@@ -151,6 +159,7 @@ stepsOf list (framed requester message frame) =
 stepsOf list (sending now number buffer) = sending now number buffer ∷ []
 stepsOf list (result now number kind) = result now number kind ∷ []
 stepsOf list (terminal number holder reply) = terminal number holder reply ∷ []
+stepsOf list (routes home coded asked) = routes home coded asked ∷ []
 
 -- the single steps of a list of calls, in their order
 abbrev pub steps : List ℕ → List Call → List Call

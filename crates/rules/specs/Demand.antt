@@ -17,17 +17,18 @@ use Rattle.rules.specs.Answers.{Answer, numbersOf, outcomeClass, crewReg
 use Rattle.rules.specs.Requests.{isRegister, holderIn}
 use Rattle.rules.specs.Frames.{released}
 use Rattle.rules.specs.Run.{only, last, end, log, Rearranged}
-use Rattle.rules.specs.Calls.{Call, request, framed, sending, result, terminal, bufferOf, Reply, call, readOf, nameOf, namesOne, codesOf, names, stepsOf, steps, alone}
+use Rattle.rules.specs.Calls.{Call, request, framed, sending, result, terminal, routes, bufferOf, Reply, call, readOf, nameOf, namesOne, codesOf, names, stepsOf, steps, alone}
 
 -- ---- who holds a number
 
--- the requester of a call; nobody requests a sending or a result, and nobody listed an erasure at the terminal
+-- the requester of a call; nobody requests a sending or a result, and nobody listed an erasure at the terminal or a routing
 abbrev pub requesterOf : Call → ℕ
 requesterOf (request requester scheme string reply) = requester .0
 requesterOf (framed requester message frame) = requester .0
 requesterOf (sending now number buffer) = 0
 requesterOf (result now number kind) = 0
 requesterOf (terminal number holder reply) = 0
+requesterOf (routes home coded asked) = 0
 
 -- a step that names k and was answered 01 or 02
 abbrev pub decidesHolder : List ℕ → ℕ → Call × Reply → Bool
@@ -71,6 +72,7 @@ releaseOver (framed requester message frame) answer = releasedTo frame answer (r
 releaseOver (sending now number buffer) answer = buffer
 releaseOver (result now number kind) answer = []
 releaseOver (terminal number holder reply) answer = reply
+releaseOver (routes home coded asked) answer = []
 
 -- a packed string over the front of the buffer; of a framed call, in a Return Result
 abbrev pub replyOver : Call → List ℕ → List ℕ
@@ -79,6 +81,7 @@ replyOver (framed requester message frame) octets = releaseOver (framed requeste
 replyOver (sending now number buffer) octets = over octets buffer
 replyOver (result now number kind) octets = []
 replyOver (terminal number holder reply) octets = over octets reply
+replyOver (routes home coded asked) octets = []
 
 module _ (list : List ℕ) (delay : ℕ) (c : Call) (state : State) where
   abbrev got : Reply
@@ -87,11 +90,11 @@ module _ (list : List ℕ) (delay : ℕ) (c : Call) (state : State) where
   abbrev after : State
   after = call list delay c state .1
 
-  -- of any request, framed or not, sending, result or erasure at the terminal, on any words and octets. A finding has an answer and nothing else: it is lent nothing that it may change
+  -- of any request, framed or not, sending, result, erasure at the terminal or routing, on any words and octets. A finding has an answer and nothing else: it is lent nothing that it may change
   pub record Demand1 : Type 0 where
     -- each refusal and each error changes no table, no figures and no buffer
     pub refused : (isRefusal (got .answer) || isError (got .answer)) ≡ true → (after ≡ state) × (got .buffer ≡ bufferOf c)
-    -- a negative outcome writes its two characters and changes no table and no figures
+    -- a negative outcome writes its two characters, where a buffer is lent, and changes no table and no figures
     pub negative :
         isNegative (got .answer) ≡ true → (after ≡ state) × (got .buffer ≡ replyOver c (packed (twoDigits (numbersOf (got .answer) .number))))
     -- "Return Error and Reject fill the frame buffer, demand 1's one exception, and change no table", and no figures
@@ -109,7 +112,7 @@ module _ (list : List ℕ) (delay : ℕ) (c : Call) (state : State) where
     -- 01 is "no change if already so": a holder who registers again changes nothing
     pub registered-again : (k : ℕ) → nameOf list c ≡ some k → codesOf c ≡ none → registers c ≡ true → holderOf state k ≡ requesterOf c → after ≡ state
 
--- ---- demand 3: for one sound table with right figures, list and permitted delay, any list of requests, framed or not, sendings, results and erasures at the terminal, each with its own clock and buffer
+-- ---- demand 3: for one sound table with right figures, list and permitted delay, any list of requests, framed or not, sendings, results, erasures at the terminal and routings, each with its own clock and buffer
 
 -- the steps that name k, and what steps that name k got, in their order
 abbrev pub callsOf : List ℕ → ℕ → List Call → List Call

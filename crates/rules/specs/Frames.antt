@@ -13,7 +13,7 @@ use Rattle.frames.specs.Components as components
 use Rattle.frames.specs.Messages.{frameRoom, unreadMessage, Register, registerOf, release, inverted}
 use Rattle.tables.specs.Tables.{tableSound, listSound}
 use Rattle.states.specs.States.{State, figuresRight}
-use Rattle.rules.specs.Answers.{Answer, refusal, error, outcome, holderIs, returnError, reject, sentTo, delivered, dropped, again, found, noneDue, Outcome, made, bufferRoom, refusing}
+use Rattle.rules.specs.Answers.{Answer, refusal, error, outcome, holderIs, returnError, reject, sentTo, delivered, dropped, again, found, noneDue, askNetwork, routedTo, Outcome, made, bufferRoom, refusing}
 use Rattle.rules.specs.Crews.{requesting}
 
 -- "Refusals: 1 for a frame buffer under 120 octets; then 11 for a message wrong anywhere up to its invoke number, 8, 2, and only then a Reject"; M-103: 10 "directly after 2"
@@ -54,6 +54,8 @@ answeredIn first number frame state reply dropped = made dropped state frame
 answeredIn first number frame state reply again = made again state frame
 answeredIn first number frame state reply (found functional) = made (found functional) state frame
 answeredIn first number frame state reply noneDue = made noneDue state frame
+answeredIn first number frame state reply (askNetwork code) = made (askNetwork code) state frame
+answeredIn first number frame state reply (routedTo msisdn subaddress) = made (routedTo msisdn subaddress) state frame
 
 abbrev pub inFrame : ℕ → ℕ → List ℕ → Outcome → Outcome
 inFrame first number frame o = answeredIn first number frame (o .state) (o .buffer) (o .answer)

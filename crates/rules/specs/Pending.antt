@@ -10,7 +10,7 @@ use Rattle.records.specs.declared.Notice.{Notice}
 use Rattle.states.specs.States.{State, recordFor}
 use Rattle.rules.specs.Answers.{isRefusal, isSent, isClearing}
 use Rattle.rules.specs.Notices.{noticeIn}
-use Rattle.rules.specs.Calls.{Call, request, framed, sending, result, terminal, Reply}
+use Rattle.rules.specs.Calls.{Call, request, framed, sending, result, terminal, routes, Reply}
 
 -- the notice that the table keeps for the number k: none, as at phase 0, where k is not in it
 abbrev pub noticeFor : State → ℕ → Notice
@@ -49,6 +49,7 @@ isSendingOf k (framed requester message frame) = false
 isSendingOf k (sending now number buffer) = eqb (number .0) k
 isSendingOf k (result now number kind) = false
 isSendingOf k (terminal number holder reply) = false
+isSendingOf k (routes home coded asked) = false
 
 -- a result that names the number k
 abbrev pub isResultOf : ℕ → Call → Bool
@@ -57,6 +58,7 @@ isResultOf k (framed requester message frame) = false
 isResultOf k (sending now number buffer) = false
 isResultOf k (result now number kind) = eqb (number .0) k
 isResultOf k (terminal number holder reply) = false
+isResultOf k (routes home coded asked) = false
 
 -- a sending of k that succeeded
 abbrev pub sendingDone : ℕ → Call × Reply → Bool

@@ -19,7 +19,7 @@ use Rattle.tables.specs.Tables.{listSound, flagsOf}
 use Rattle.states.specs.States.{State, recordFor}
 use Rattle.rules.specs.Answers.{sentTo, isOutcome, bufferRoom, packedOver, octetCount}
 use Rattle.rules.specs.Requests.{hasFollowMe, isErase, noNotice, mostStringOctets}
-use Rattle.rules.specs.Calls.{Call, request, framed, sending, result, terminal, Reply, readOf, namesOne}
+use Rattle.rules.specs.Calls.{Call, request, framed, sending, result, terminal, routes, Reply, readOf, namesOne}
 use Rattle.rules.specs.Demand.{registers, requesterOf, holderOf}
 
 -- ---- the driver
@@ -48,6 +48,7 @@ clearsHold h phase0 (framed requester message frame) = false
 clearsHold h phase0 (sending now number buffer) = false
 clearsHold h phase0 (result now number kind) = false
 clearsHold h phase0 (terminal number holder reply) = same holder h && phase0
+clearsHold h phase0 (routes home coded asked) = false
 
 -- the call is a request, framed or not, whose string reads as such an erasure, or the terminal's
 abbrev pub mayEndHold : List ℕ → Msisdn → Bool → Call → Bool
@@ -60,6 +61,7 @@ isOfNotice (framed requester message frame) = false
 isOfNotice (sending now number buffer) = true
 isOfNotice (result now number kind) = true
 isOfNotice (terminal number holder reply) = false
+isOfNotice (routes home coded asked) = false
 
 -- of a single call c over a state, that got the reply a and left the state `after`: it has ended h's hold of k
 pub record HoldEnded (list : List ℕ) (h : Msisdn) (k : ℕ) (c : Call) (state : State) (a : Reply) (after : State) : Type 0 where

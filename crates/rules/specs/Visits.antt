@@ -1,4 +1,4 @@
--- A helper: a second form of the rules, for the theorems and the code, proved equal to `Requests`, `Notices` and `Terminal` (proofs/Visits). Once a request's string reads, and for every sending, result and erasure at the terminal, a single call visits the record of one number, and a step of that record decides. Assumes nothing.
+-- A helper: a second form of the rules, for the theorems and the code, proved equal to `Requests`, `Notices`, `Terminal` and `Routing` (proofs/Visits). Once a request's string or a routing's digits read, and for every sending, result and erasure at the terminal, a single call visits the record of one number, and a step of that record decides. Assumes nothing.
 use Prim.Native.Nat.{ℕ}
 use mathlib.Core.Bool.{not, _&&_}
 use mathlib.Core.Option.{Option, none, some}
@@ -33,7 +33,8 @@ use Rattle.rules.specs.Answers.{Answer, refusal, error, outcome, holderI
 use Rattle.rules.specs.Requests.{hasFollowMe, isSupervisor, isForced, Stepping, comesTo, says, tells}
 use Rattle.rules.specs.Frames.{answeredIn, Inside, insideOf, ownReply}
 use Rattle.rules.specs.Terminal.{terminalRequest, bothNumbers}
-use Rattle.rules.specs.Calls.{Call, request, framed, sending, result, terminal, Reply, replied, clockReading}
+use Rattle.rules.specs.Routing.{withCodeIn, byCode}
+use Rattle.rules.specs.Calls.{Call, request, framed, sending, result, terminal, routes, Reply, replied, clockReading}
 
 -- what a call gets, and the record that it leaves
 pub record Visited : Type 0 where
@@ -147,6 +148,7 @@ visit list delay (framed requester message frame) r = visitInside (flagsOf list 
 visit list delay (sending now number buffer) r = visitSending delay (clockReading now) number buffer r
 visit list delay (result now number kind) r = visitResult kind (clockReading now) r
 visit list delay (terminal number holder reply) r = visitTerminal number holder reply r
+visit list delay (routes home coded asked) r = visited (byCode home (withCodeIn home coded asked) (some r)) [] r
 
 -- ---- a number that is not in the table
 
@@ -183,3 +185,4 @@ missed list (framed requester message frame) = missedInside (flagsOf list (reque
 missed list (sending now number buffer) = missedSending buffer
 missed list (result now number kind) = missedResult
 missed list (terminal number holder reply) = missedTerminal number holder reply
+missed list (routes home coded asked) = record { answer = byCode home (withCodeIn home coded asked) none; buffer = [] }

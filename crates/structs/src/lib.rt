@@ -9,6 +9,8 @@ use frames::VERSION;
 use image::ImageRead;
 use image::ImageWritten;
 use numbers::Msisdn;
+use routes::RoutingAnswer;
+use routes::Subaddress;
 use strings::CODING_SCHEME;
 use strings::Erasing;
 use strings::Fields;
@@ -30,10 +32,13 @@ ghost use Rattle.image.specs.Images.{saidWrite, saidRead};
 ghost use Rattle.timetable.specs.Timetable.{saidClose, saidCompact, saidAdd};
 ghost use Rattle.visits.specs.Said.{saidRequest, saidSending, saidResult, saidFinding};
 ghost use Rattle.exchange.specs.Said.{saidFramed};
+ghost use Rattle.rules.specs.Answers.{routedTo};
+ghost use Rattle.routes.specs.Said.{octetsIn, saidRouting};
 ghost use Rattle.structs.specs.Numbers.{ofSaid, ofAnswer, ofOperation, ofErasing, ofCrew, codeCount, ofFields, structOf, operationOf, erasingOf};
 ghost use Rattle.structs.specs.Figures.{ofFigures};
 ghost use Rattle.structs.specs.Images.{ofImage};
 ghost use Rattle.structs.specs.Changes.{ofChange};
+ghost use Rattle.structs.specs.Routes.{noOctets, ofRoute};
 ghost use Rattle.structs.specs.Frames.{stringless, stringAt, ofRegister, ofRelease};
 
 // The classes of an answer.
@@ -64,6 +69,10 @@ const COUNTED: u32 = 11;
 const CLOSED: u32 = 12;
 
 const ROWS: u32 = 13;
+
+const ASK_NETWORK: u32 = 14;
+
+const ROUTED: u32 = 15;
 
 // The refusal of an unsound table.
 const UNSOUND_TABLE: u32 = 2;
@@ -132,6 +141,18 @@ pub struct ImageCounts {
 pub enum Operating {
     Known(Operation),
     Unknown,
+}
+
+// What a routing answers: the class; the number of a refusal, an error or an outcome; the MSISDN; the three characters of another network's code; the octets of the
+// subaddress, and how many there are. What an answer does not have is 0.
+#[repr(C)]
+pub struct Route {
+    pub class: u32,
+    pub number: u32,
+    pub msisdn: u64,
+    pub code: [u8; 3],
+    pub subaddress: [u8; 3],
+    pub subaddress_octets: u8,
 }
 
 // An answer that is only a number of its class.
@@ -323,6 +344,64 @@ pub fn of_image_read(read: ImageRead) -> ImageCounts
             numbers,
             subscribers,
         },
+    }
+}
+
+// A routing's answer that is only a number of its class.
+fn plain_route(class: u32, number: u8) -> Route
+    ensures { λ r. ⌜ r ≡ record { class = class; number = number; msisdn = 0; code = noOctets; subaddress = noOctets; «subaddress_octets» = 0 } ⌝ }
+{
+    Route {
+        class,
+        number: number as u32,
+        msisdn: 0,
+        code: [0, 0, 0],
+        subaddress: [0, 0, 0],
+        subaddress_octets: 0,
+    }
+}
+
+// Where a text message goes: the MSISDN and its subaddress.
+fn routed(msisdn: Msisdn, subaddress: Subaddress) -> Route
+    ensures { λ r. ⌜ r ≡ ofRoute (routedTo (msisdn .0) (octetsIn subaddress)) ⌝ }
+{
+    match subaddress {
+        Subaddress::Absent => Route {
+            class: ROUTED,
+            number: 0,
+            msisdn: msisdn.0,
+            code: [0, 0, 0],
+            subaddress: [0, 0, 0],
+            subaddress_octets: 0,
+        },
+        Subaddress::Octets(kind, format, branch) => Route {
+            class: ROUTED,
+            number: 0,
+            msisdn: msisdn.0,
+            code: [0, 0, 0],
+            subaddress: [kind, format, branch],
+            subaddress_octets: 3,
+        },
+    }
+}
+
+// A routing's answer.
+pub fn of_routing(answer: RoutingAnswer) -> Route
+    ensures { λ r. ⌜ r ≡ ofRoute (saidRouting answer) ⌝ }
+{
+    match answer {
+        RoutingAnswer::Refused(n) => plain_route(REFUSAL, n),
+        RoutingAnswer::Error(n) => plain_route(ERROR, n),
+        RoutingAnswer::Outcome(n) => plain_route(OUTCOME, n),
+        RoutingAnswer::AskNetwork(first, second, third) => Route {
+            class: ASK_NETWORK,
+            number: 0,
+            msisdn: 0,
+            code: [first, second, third],
+            subaddress: [0, 0, 0],
+            subaddress_octets: 0,
+        },
+        RoutingAnswer::Routed(msisdn, subaddress) => routed(msisdn, subaddress),
     }
 }
 

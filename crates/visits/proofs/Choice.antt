@@ -3,7 +3,7 @@ use mathlib.Core.Path.{_≡_, refl, sym, ap, _∙_}
 use mathlib.Core.List.{List}
 use Prim.Native.Nat.{ℕ}
 use Rattle.states.specs.States.{State}
-use Rattle.rules.specs.Answers.{Answer, refusal, error, outcome, holderIs, returnError, reject, sentTo, delivered, dropped, again, found, noneDue, Outcome, made}
+use Rattle.rules.specs.Answers.{Answer, refusal, error, outcome, holderIs, returnError, reject, sentTo, delivered, dropped, again, found, noneDue, askNetwork, routedTo, Outcome, made}
 use Rattle.visits.specs.Said.{saidRequest, saidSending, saidResult, saidFinding}
 use Rattle.visits.specs.declared.RequestAnswer.{RequestAnswer}
 use Rattle.visits.specs.declared.RequestAnswer.the-variants as request
@@ -28,7 +28,7 @@ module _ {X : Type 0} (said : X → Answer) (unsaid : Answer → X) (back : (x :
         ap (λ (x : Outcome). x .buffer) e,
       )
 
--- one value for each case of an answer
+-- one value for each case of an answer; no visit is answered as a routing is
 module _ {X : Type 0} (onRefusal onError : ℕ → X) (onOutcome onHolder onReturnError onReject onSent : ℕ → ℕ → X) (onDelivered onDropped onAgain : X) (onFound : ℕ → X) (onNoneDue : X) where
   unfoldable pub byCase : Answer → X
   byCase (refusal n) = onRefusal n
@@ -43,6 +43,8 @@ module _ {X : Type 0} (onRefusal onError : ℕ → X) (onOutcome onHolder onRetu
   byCase again = onAgain
   byCase (found number) = onFound number
   byCase noneDue = onNoneDue
+  byCase (askNetwork code) = onNoneDue
+  byCase (routedTo msisdn subaddress) = onNoneDue
 
 -- ---- a request
 

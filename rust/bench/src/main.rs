@@ -157,6 +157,9 @@ fn packing() {
 const NUMBERS: u64 = 10_492_000_000;
 const SUBSCRIBERS: u64 = 14_915_100_000;
 
+/// The digits of a number's international code, its first.
+const CODE_DIGITS: usize = 3;
+
 /// Numbers held by subscribers, none with a notice.
 fn table(rows: usize) -> Vec<u64> {
     (0..rows as u64)
@@ -173,6 +176,11 @@ fn list(rows: usize) -> Vec<u64> {
 /// The figures of a table that is sound.
 fn figures(table: &[u64]) -> [u64; 3] {
     oracle::recount(table).unwrap()
+}
+
+/// The digits of a number in stored form, as characters.
+fn digits(number: u64) -> Vec<u8> {
+    number.to_string().split_off(1).into_bytes()
 }
 
 fn sum(words: &[u64]) -> u64 {
@@ -296,6 +304,30 @@ fn calls(lines: &mut Vec<Line>, numbers: usize, subscribers: usize) {
                     let (t, mut lent) = (&mut theirs, held);
                     let said = oracle::terminal_erasure(t, &mut lent, &mut b, number, SUBSCRIBERS);
                     black_box(said);
+                },
+                &mut || {
+                    black_box(sum(black_box(&words)));
+                },
+            ],
+        ),
+    );
+    set(&mut ours, 0);
+    set(&mut theirs, 0);
+    let digits = digits(number);
+    let (code, _) = digits.split_at(CODE_DIGITS);
+    line(
+        lines,
+        "routing",
+        numbers,
+        0,
+        best(
+            turns,
+            &mut [
+                &mut || {
+                    black_box(c::routing(black_box(&ours), code, &digits, 1));
+                },
+                &mut || {
+                    black_box(oracle::routing(black_box(&theirs), code, &digits, true));
                 },
                 &mut || {
                     black_box(sum(black_box(&words)));
@@ -734,7 +766,9 @@ fn growth(lines: &[Line]) {
         println!("{what:32} {:6.2} {:6.2} {:6.2}", more[0], more[1], more[2]);
     };
     println!("\na row more (ns)                     ours   Rust   bare");
-    for call in ["request", "terminal", "sending", "result", "finding"] {
+    for call in [
+        "request", "terminal", "routing", "sending", "result", "finding",
+    ] {
         let what = format!("{call}, a number");
         show(&what, 960.0, at(call, 64, 0), at(call, 1024, 0));
     }

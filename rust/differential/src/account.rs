@@ -46,7 +46,7 @@ fn along(generator: &mut Generator, whole: &mut Account) -> Result<(), String> {
                  the library: {by_library:?}\nleaves {right:?}"
             ));
         }
-        let Some((table, figures)) = right.call.left() else {
+        let Some((table, figures)) = right.call.left(&along) else {
             return Err(format!("{lent:?} keeps no table"));
         };
         let Said::Answer(answer) = by_library else {
@@ -60,8 +60,7 @@ fn along(generator: &mut Generator, whole: &mut Account) -> Result<(), String> {
                 "{lent:?}: {account:?}, {before} pending before, {after} after"
             ));
         }
-        along.table = table.to_vec();
-        along.figures = figures.to_vec();
+        (along.table, along.figures) = (table.to_vec(), figures.to_vec());
     }
     Ok(())
 }

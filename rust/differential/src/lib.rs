@@ -220,6 +220,12 @@ fn ask_library(lent: &mut Lent) -> Said {
             number,
             holder,
         } => answer(c::terminal_erasure(table, figures, reply, *number, *holder)),
+        Call::Routing {
+            table,
+            code,
+            digits,
+            coded,
+        } => route(c::routing(table, code, digits, (*coded).into())),
     }
 }
 
@@ -402,6 +408,32 @@ fn answer(answer: c::Answer) -> Said {
     })
 }
 
+/// Where a text message goes; a field that the answer's class does not name is 0.
+fn route(route: c::Route) -> Said {
+    const NONE: [u8; 3] = [0; 3];
+    let (number, octets) = (octet(route.number), route.subaddress_octets);
+    let named = (route.msisdn, route.code, route.subaddress, octets);
+    Said::Answer(match (route.class, number, named) {
+        (c::REFUSAL, _, (0, NONE, NONE, 0)) => Answer::Refusal(number),
+        (c::ERROR, _, (0, NONE, NONE, 0)) => Answer::Error(number),
+        (c::OUTCOME, _, (0, NONE, NONE, 0)) => Answer::Outcome {
+            number,
+            octets: 0,
+            msisdn: 0,
+        },
+        (c::ASK_NETWORK, 0, (0, code, NONE, 0)) => Answer::AskNetwork(code),
+        (c::ROUTED, 0, (msisdn, NONE, NONE, 0)) => Answer::Routed {
+            msisdn,
+            subaddress: None,
+        },
+        (c::ROUTED, 0, (msisdn, NONE, subaddress, 3)) => Answer::Routed {
+            msisdn,
+            subaddress: Some(subaddress),
+        },
+        _ => panic!("{route:?}"),
+    })
+}
+
 /// What a recount says; all but the number of a refusal is 0.
 fn figures(counted: c::Figures) -> Option<[u64; 3]> {
     let words = [counted.held, counted.waiting, counted.in_flight];
@@ -448,6 +480,8 @@ fn kind(call: &Call, said: &Said) -> String {
         Call::Compact { .. } => "compact",
         Call::Add { .. } => "add",
         Call::TerminalErasure { .. } => "terminal erasure",
+        Call::Routing { coded: true, .. } => "routing with code",
+        Call::Routing { coded: false, .. } => "routing without code",
     };
     let said = match said {
         Said::Answer(Answer::Refusal(n)) | Said::Count(Err(n)) => format!("refused {n}"),
@@ -459,6 +493,11 @@ fn kind(call: &Call, said: &Said) -> String {
         Said::Answer(Answer::Found(_)) => "found".into(),
         Said::Answer(Answer::Rows { gone: 0, .. }) => "rows".into(),
         Said::Answer(Answer::Rows { .. }) => "fewer rows".into(),
+        Said::Answer(Answer::AskNetwork(_)) => "ask network".into(),
+        Said::Answer(Answer::Routed { subaddress, .. }) => match subaddress {
+            Some(_) => "MSISDN and subaddress".into(),
+            None => "MSISDN".into(),
+        },
         Said::Answer(answer) => format!("{answer:?}").to_lowercase(),
         Said::Figures(Some(_)) => "counted".into(),
         Said::Figures(None) => "refused 2".into(),
@@ -542,5 +581,10 @@ mod tests {
         expected("add", "refused 50, rows");
         expected("terminal erasure", "refused 1, refused 2, refused 10");
         expected("terminal erasure", "refused 7, 02, 41, 62, 63, 68");
+        for call in ["routing with code", "routing without code"] {
+            expected(call, "refused 2, error 36, 41, 62, MSISDN");
+            expected(call, "MSISDN and subaddress");
+        }
+        expected("routing with code", "ask network");
     }
 }

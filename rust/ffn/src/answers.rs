@@ -79,10 +79,10 @@ reason! {
 }
 
 reason! {
-    /// Why a request is in error, by the codes of TS 29.002.
+    /// Why a request or a routing is in error, by the codes of TS 29.002.
     RequestError: "error" {
         DataMissing = 35: "the requester's MSISDN is not 5 to 15 digits, or the string has 0 octets",
-        UnexpectedDataValue = 36: "the string has over 160 octets or unreadable bits, or breaks its rules",
+        UnexpectedDataValue = 36: "the string has over 160 octets or unreadable bits, or breaks its rules; or a routing's code or digits are malformed",
         UnknownAlphabet = 71: "the data coding scheme is not 0x0F",
     }
 }
@@ -95,7 +95,7 @@ reason! {
     }
 }
 
-/// A request that has no outcome.
+/// A request that has no outcome, or a routing without an answer.
 #[derive(Clone, Copy, Debug, PartialEq, Eq)]
 pub enum Failure {
     Refused(Refusal),
@@ -212,6 +212,24 @@ impl Outcome {
 pub struct Reply {
     pub outcome: Outcome,
     pub octets: usize,
+}
+
+/// Where a text message goes.
+#[derive(Clone, Copy, Debug, PartialEq, Eq)]
+pub enum Route {
+    /// To the holder of the number.
+    Msisdn {
+        msisdn: Msisdn,
+        /// Of a number of type 2, 3 or 4: 80 48, and the branch, its right-hand
+        /// digit in the high half.
+        subaddress: Option<[u8; 3]>,
+    },
+    /// Another network knows: this is its international code, as characters.
+    AskNetwork([u8; 3]),
+    /// 41: the functional number is not in the table.
+    UnknownNumber,
+    /// 62: nobody holds the number.
+    NoHolder,
 }
 
 /// What a framed request was answered, by the cases of a Release Complete.

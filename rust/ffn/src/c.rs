@@ -24,6 +24,9 @@ pub const COUNTED: u32 = 11;
 /// Of [`close`], and of [`compact`] and [`add`].
 pub const CLOSED: u32 = 12;
 pub const ROWS: u32 = 13;
+/// Of [`routing`].
+pub const ASK_NETWORK: u32 = 14;
+pub const ROUTED: u32 = 15;
 
 /// `struct ffn_answer`. A field that its class does not name is 0.
 #[repr(C)]
@@ -100,6 +103,23 @@ pub struct ImageRead {
     pub subscribers: usize,
 }
 
+/// `struct ffn_route`. A field that its class does not name is 0.
+#[repr(C)]
+#[derive(Clone, Copy, Debug, Default, PartialEq, Eq)]
+pub struct Route {
+    pub class: u32,
+    /// Of a refusal, an error or an outcome.
+    pub number: u32,
+    /// The holder's, in stored form.
+    pub msisdn: u64,
+    /// Of the network to ask, as characters.
+    pub code: [u8; 3],
+    /// With an MSISDN, where the number's type has one.
+    pub subaddress: [u8; 3],
+    /// 3, or 0 where there is none.
+    pub subaddress_octets: u8,
+}
+
 /// `struct ffn_radio_entry`.
 #[repr(C)]
 #[derive(Clone, Copy, Debug, Default, PartialEq, Eq)]
@@ -142,7 +162,7 @@ pub struct RadioDoing {
 }
 
 mod linked {
-    use super::{Answer, Figures, FrameRead, ImageRead, Radio, RadioDoing, RequestRead};
+    use super::{Answer, Figures, FrameRead, ImageRead, Radio, RadioDoing, RequestRead, Route};
 
     extern "C" {
         pub fn ffn_pack(
@@ -196,6 +216,15 @@ mod linked {
             functional_number: u64,
             holder: u64,
         ) -> Answer;
+        pub fn ffn_routing(
+            table: *const u64,
+            table_words: usize,
+            home: *const u8,
+            home_length: usize,
+            digits: *const u8,
+            digit_count: usize,
+            coded: u8,
+        ) -> Route;
         pub fn ffn_sending(
             table: *mut u64,
             table_words: usize,
@@ -387,6 +416,20 @@ pub fn terminal_erasure(
             reply.len(),
             functional_number,
             holder,
+        )
+    }
+}
+
+pub fn routing(table: &[u64], home: &[u8], digits: &[u8], coded: u8) -> Route {
+    unsafe {
+        linked::ffn_routing(
+            table.as_ptr(),
+            table.len(),
+            home.as_ptr(),
+            home.len(),
+            digits.as_ptr(),
+            digits.len(),
+            coded,
         )
     }
 }

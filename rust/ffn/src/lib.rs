@@ -18,6 +18,9 @@
 //! (`terminal_erasure`): they name its holder, who is told by a notice whose
 //! supervisor is nobody: that word of its row is 0.
 //!
+//! A message centre asks which MSISDN stands behind a functional number
+//! (`routing`); that changes nothing.
+//!
 //! Table and list move to new hardware as one image, whose figures are recounted
 //! where it is read.
 //!
@@ -43,11 +46,13 @@ mod image;
 mod number;
 pub mod radio;
 #[cfg(feature = "archive")]
+mod routing;
+#[cfg(feature = "archive")]
 mod withdrawal;
 
 pub use answers::{
     Answered, Failure, FramedReply, Kind, Message, Operation, Outcome, Problem, Refusal, Register,
-    Release, Reply, RequestError, Resulted, Sent,
+    Release, Reply, RequestError, Resulted, Route, Sent,
 };
 #[cfg(feature = "archive")]
 pub use calls::{
@@ -64,5 +69,7 @@ pub use image::{
 #[cfg(feature = "archive")]
 pub use image::{read_image, write_image};
 pub use number::{FunctionalNumber, Msisdn, NumberError};
+#[cfg(feature = "archive")]
+pub use routing::routing;
 #[cfg(feature = "archive")]
 pub use withdrawal::{add, close, compact, Compacted};

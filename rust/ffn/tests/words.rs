@@ -167,7 +167,8 @@ fn every_error_has_its_number_and_words() {
         said,
         [
             "error 35: the requester's MSISDN is not 5 to 15 digits, or the string has 0 octets",
-            "error 36: the string has over 160 octets or unreadable bits, or breaks its rules",
+            "error 36: the string has over 160 octets or unreadable bits, or breaks its \
+             rules; or a routing's code or digits are malformed",
             "error 71: the data coding scheme is not 0x0F",
         ]
     );

@@ -401,6 +401,9 @@ fn said(answer: Answer) -> String {
         Answer::Closed | Answer::Rows { .. } => {
             unreachable!("the program withdraws no numbers")
         }
+        Answer::AskNetwork(_) | Answer::Routed { .. } => {
+            unreachable!("the program routes no messages")
+        }
     }
 }
 

@@ -20,6 +20,7 @@ use crate::image::{read_image, write_image};
 use crate::node::{finding, framed_request, request, result, sending, terminal_erasure, Answer};
 use crate::number::{digit_count, is_number};
 use crate::packing::{pack, unpack};
+use crate::routing::routing;
 use crate::rows::{
     figures_of, free_record, recount, Record, ADDRESSEE, CLOSED, FAILURE, FIGURES, HOLDER,
     LAST_PHASE, MAX_RECORDS, MAX_SUBSCRIBERS, NOBODY, NOTICE, NUMBER, PHASE, RECORD_WORDS,
@@ -33,6 +34,7 @@ mod along;
 mod frames;
 mod images;
 pub mod radio;
+mod routings;
 mod terminal;
 mod withdrawals;
 
@@ -320,13 +322,19 @@ pub enum Call {
         number: u64,
         holder: u64,
     },
+    Routing {
+        table: Vec<u64>,
+        code: Vec<u8>,
+        digits: Vec<u8>,
+        coded: bool,
+    },
 }
 
 /// What a call returns.
 #[derive(Clone, Copy, Debug, PartialEq, Eq)]
 pub enum Reply {
     /// Of a request, framed or not, a sending, result or finding, of closing,
-    /// compacting or adding, of an erasure at the terminal.
+    /// compacting or adding, of an erasure at the terminal, of a routing.
     Answer(Answer),
     /// Of a recount.
     Figures(Option<[u64; FIGURES]>),
@@ -434,6 +442,12 @@ impl Call {
                 number,
                 holder,
             } => Reply::Answer(terminal_erasure(table, figures, reply, *number, *holder)),
+            Self::Routing {
+                table,
+                code,
+                digits,
+                coded,
+            } => Reply::Answer(routing(table, code, digits, *coded)),
         }
     }
 }
@@ -1148,19 +1162,20 @@ fn crew_numbers(fields: &Fields<Vec<u8>>) -> Vec<u64> {
 impl Generator {
     /// Any call.
     pub fn call(&mut self) -> Call {
-        match self.random.below(36) {
+        match self.random.below(38) {
             0 => self.writing_image(),
             1 => self.reading_image(),
             2 => self.closing(),
             3 => self.compacting(),
             4 => self.adding(),
             5 | 6 => self.erasing_at_the_terminal(),
+            7 | 8 => self.routing(),
             _ => self.line_call(),
         }
     }
 
     /// Any call that the program `calls` makes: it makes none of images,
-    /// withdraws no numbers, and has no terminal.
+    /// withdraws no numbers, has no terminal, and routes no messages.
     fn line_call(&mut self) -> Call {
         match self.random.below(29) {
             0..=8 => self.request(),
@@ -1290,8 +1305,8 @@ impl Generator {
     }
 
     /// A table, damaged now and then, with a record of it before the damage
-    /// and the number that a sending, a result, a closing or the terminal names:
-    /// mostly that record's.
+    /// and the number that a sending, a result, a closing, the terminal or a routing
+    /// names: mostly that record's.
     fn table_and_number(&mut self) -> (Vec<u64>, Record, u64) {
         let list = self.list(4);
         let mut table = self.some_table(&list);
@@ -1800,6 +1815,7 @@ impl Generator {
                 unreachable!("the program withdraws no numbers")
             }
             Call::TerminalErasure { .. } => unreachable!("the program has no terminal"),
+            Call::Routing { .. } => unreachable!("the program routes no messages"),
         };
         self.put_line(input, line, 48);
     }

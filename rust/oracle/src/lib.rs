@@ -24,6 +24,7 @@ mod number;
 mod packing;
 mod program;
 pub mod radio;
+mod routing;
 mod rows;
 mod string;
 mod text;
@@ -37,6 +38,7 @@ pub use node::{finding, framed_request, request, result, sending, terminal_erasu
 pub use number::{is_number, number_from_digits};
 pub use packing::{pack, unpack};
 pub use program::{run, INPUT_LIMIT};
+pub use routing::{routing, NetworkCode, Subaddress};
 pub use rows::{list_is_sound, recount, table_is_sound};
 pub use string::{read_notice, read_request, write_request, Additional, Fields, Notice, Operation};
 pub use withdrawal::{add, close, compact};

@@ -4,6 +4,7 @@
 use crate::crew::{crew_codes, member, Code, Steps, LEAD};
 use crate::frame::{read_register, write_release, Invoked, Message, Released, FRAME_ROOM, SCHEME};
 use crate::number::is_number;
+use crate::routing::{NetworkCode, Subaddress};
 use crate::rows::{
     figures_of, find_flags, find_record, list_is_sound, sound_records, sound_records_mut, Record,
     ADDRESSEE, CLOSED, FAILURE, HAS_FOLLOW_ME, HOLDER, IS_SUPERVISOR, LAST_PHASE, NOBODY, NOTICE,
@@ -20,11 +21,11 @@ const ROOM: usize = 80;
 pub enum Answer {
     /// The call is refused; no memory was touched.
     Refusal(u8),
-    /// The request is in error; no memory was touched.
+    /// The request or the routing is in error; no memory was touched.
     Error(u8),
-    /// The request, or the erasure at the terminal, has an outcome. Its text,
-    /// packed, is in the first `octets` octets of the reply buffer. `msisdn` is
-    /// that of outcome 03, else 0.
+    /// The request, the erasure at the terminal or the routing has an outcome. Its
+    /// text, packed, is in the first `octets` octets of the reply buffer; a routing
+    /// has none. `msisdn` is that of outcome 03, else 0.
     Outcome {
         number: u8,
         octets: usize,
@@ -61,6 +62,14 @@ pub enum Answer {
     Rows {
         in_use: usize,
         gone: usize,
+    },
+    /// The number is another network's: this is its code.
+    AskNetwork(NetworkCode),
+    /// The message goes to `msisdn`, with a subaddress where the number's type has
+    /// one.
+    Routed {
+        msisdn: u64,
+        subaddress: Option<Subaddress>,
     },
 }
 

@@ -2,7 +2,7 @@
 
 /// The fewest and the most digits of a number.
 const MIN_DIGITS: usize = 5;
-const MAX_DIGITS: usize = 15;
+pub(crate) const MAX_DIGITS: usize = 15;
 
 /// The stored words of one count of digits: `low` up to but not including
 /// `2 * low`, where `low` is ten to the power `digits`.

@@ -155,6 +155,9 @@ impl Program {
             Answer::Closed | Answer::Rows { .. } => {
                 unreachable!("the program withdraws no numbers")
             }
+            Answer::AskNetwork(_) | Answer::Routed { .. } => {
+                unreachable!("the program routes no messages")
+            }
             Answer::ReturnError { .. } | Answer::Reject { .. } => {
                 unreachable!("the program's requests are not framed")
             }

@@ -109,11 +109,10 @@ fn every_notice_is_accounted_for() {
             if let Some(number) = named(&call) {
                 each.entry(number).or_default().count(&call, answer);
             }
-            let (table, figures) = call.left().unwrap();
+            let (table, figures) = call.left(&along).unwrap();
             assert!(account.is_balanced(before, pending(table)), "{call:?}");
             assert_eq!(figures[1] + figures[2], pending(table));
-            along.table = table.to_vec();
-            along.figures = figures.to_vec();
+            (along.table, along.figures) = (table.to_vec(), figures.to_vec());
         }
         // Of every number by itself, those that went and those that came among them.
         let (first, last) = (pending_of(&start), pending_of(&along.table));
@@ -187,5 +186,29 @@ fn an_erasure_at_the_terminal_counts_always() {
     let pending = [F, A, 2, B, 0, 0, 0];
     for (row, number, holder) in [(free, F, A), (pending, F, A), (pending, F, B), (free, 0, 0)] {
         assert_eq!(ended(row, number, holder).1, Account::default());
+    }
+}
+
+/// Whatever it is answered, it makes and ends no notice.
+#[test]
+fn a_routing_counts_nothing() {
+    for (row, code, outcome) in [
+        ([F, A, 2, B, 0, 0, 0], b"049", None),
+        ([F, 0, 1, A, B, 0, 0], b"049", Some(62)),
+        ([F + 1, A, 0, 0, 0, 0, 0], b"049", Some(41)),
+        ([F, A, 0, 0, 0, 0, 0], b"033", None),
+    ] {
+        let (answer, account) = counted(Call::Routing {
+            table: row.to_vec(),
+            code: code.to_vec(),
+            digits: b"0492123401".to_vec(),
+            coded: true,
+        });
+        let said = match answer {
+            Answer::Outcome { number, .. } => Some(number),
+            Answer::Routed { .. } | Answer::AskNetwork(_) => None,
+            other => panic!("{other:?}"),
+        };
+        assert_eq!((said, account), (outcome, Account::default()));
     }
 }

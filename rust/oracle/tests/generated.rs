@@ -5,7 +5,7 @@ mod common;
 
 use std::collections::BTreeMap;
 
-use common::{packed, register, release, ROW};
+use common::{packed, register, release, routed, ROW};
 use oracle::generate::{changed_frames, Call, Generator, Reply};
 use oracle::{
     crew_codes, is_number, read_image, read_register, read_release, read_request, recount, request,
@@ -156,6 +156,26 @@ fn label(before: &Call, after: &Call, reply: &Reply) -> String {
             Answer::Outcome { number, .. } => format!("terminal: {number:02}"),
             other => format!("terminal: {other:?}"),
         },
+        (Call::Routing { code, coded, .. }, Reply::Answer(answer)) => {
+            let asked = if *coded { "with" } else { "without" };
+            match answer {
+                Answer::Error(36) if code.len() != 3 => {
+                    "routing: Error(36), the node's code".into()
+                }
+                Answer::Error(36) => format!("routing: Error(36), asked {asked}"),
+                Answer::Outcome { number, .. } => format!("routing: {number:02}, asked {asked}"),
+                Answer::AskNetwork(_) => "routing: ask".into(),
+                Answer::Routed { subaddress, .. } => {
+                    let branch = if subaddress.is_some() {
+                        ", subaddress"
+                    } else {
+                        ""
+                    };
+                    format!("routing: MSISDN, asked {asked}{branch}")
+                }
+                other => format!("routing: {other:?}"),
+            }
+        }
         _ => panic!("{reply:?} does not belong to {before:?}"),
     }
 }
@@ -171,7 +191,7 @@ fn used(words: &[u64], rows: usize) -> Option<&[u64]> {
 }
 
 /// What each call must come to at least a hundred times.
-const REACHED: [&str; 165] = [
+const REACHED: [&str; 178] = [
     "request: Refusal(1)",
     "request: Refusal(8)",
     "request: Refusal(2)",
@@ -337,6 +357,19 @@ const REACHED: [&str; 165] = [
     "terminal: 62",
     "terminal: 63",
     "terminal: 68",
+    "routing: Refusal(2)",
+    "routing: Error(36), the node's code",
+    "routing: Error(36), asked with",
+    "routing: Error(36), asked without",
+    "routing: 41, asked with",
+    "routing: 41, asked without",
+    "routing: 62, asked with",
+    "routing: 62, asked without",
+    "routing: ask",
+    "routing: MSISDN, asked with",
+    "routing: MSISDN, asked with, subaddress",
+    "routing: MSISDN, asked without",
+    "routing: MSISDN, asked without, subaddress",
 ];
 
 #[test]
@@ -665,6 +698,18 @@ fn check(before: &Call, after: &Call, reply: &Reply) {
             Reply::Answer(Answer::Outcome { number, .. }) => check_terminal(before, after, *number),
             _ => assert_eq!(before, after),
         },
+        (
+            Call::Routing {
+                table,
+                code,
+                digits,
+                coded,
+            },
+            _,
+        ) => {
+            let expected = routed(table, code, digits, *coded);
+            assert_eq!((reply, before), (&Reply::Answer(expected), after));
+        }
         (Call::ReadRequest { octets }, _) => {
             if let Reply::Fields(Some(fields)) = reply {
                 let mut out = [0; 160];

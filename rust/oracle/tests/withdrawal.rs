@@ -438,7 +438,7 @@ fn closed_numbers_along_calls() {
             if let (Call::Close { .. }, Answer::Closed) = (&call, answer) {
                 closings += 1;
             }
-            let (table, figures) = call.left().unwrap();
+            let (table, figures) = call.left(&along).unwrap();
             for (old, new) in along.table.chunks(ROW).zip(table.chunks(ROW)) {
                 if old[6] == 0 {
                     continue;

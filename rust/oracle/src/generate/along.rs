@@ -1,6 +1,6 @@
 //! Calls one after the other over one table: requests, framed ones, crews,
-//! erasures at the terminal, sendings, results and closings, most of them about
-//! its few numbers.
+//! erasures at the terminal, sendings, results, closings and routings, most of them
+//! about its few numbers.
 
 use super::{Call, Generator};
 use crate::rows::{recount, Record, NOTICE, NUMBER};
@@ -50,7 +50,7 @@ impl Generator {
             0 => self.number(),
             _ => record[NUMBER],
         };
-        match self.random.below(70) {
+        match self.random.below(80) {
             0 => Call::Close {
                 table,
                 figures,
@@ -72,7 +72,7 @@ impl Generator {
                 delay,
                 now: self.now(record, delay),
             },
-            _ => Call::Result {
+            54..=69 => Call::Result {
                 table,
                 figures,
                 number,
@@ -82,6 +82,7 @@ impl Generator {
                 },
                 now: self.second(),
             },
+            _ => self.routing_on(table, number),
         }
     }
 
@@ -127,8 +128,9 @@ impl Generator {
 }
 
 impl Call {
-    /// Table and figures that a call along others leaves.
-    pub fn left(&self) -> Option<(&[u64], &[u64])> {
+    /// Table and figures that a call along others leaves; a routing is lent no
+    /// figures, so they stay.
+    pub fn left<'a>(&'a self, along: &'a Along) -> Option<(&'a [u64], &'a [u64])> {
         match self {
             Self::Request { table, figures, .. }
             | Self::FramedRequest { table, figures, .. }
@@ -136,6 +138,7 @@ impl Call {
             | Self::Result { table, figures, .. }
             | Self::Close { table, figures, .. }
             | Self::TerminalErasure { table, figures, .. } => Some((table, figures)),
+            Self::Routing { table, .. } => Some((table, &along.figures)),
             _ => None,
         }
     }

@@ -144,6 +144,59 @@ fn said(table: &mut [u64], call: impl FnOnce(&mut [u64], &mut [u8]) -> Answer) -
     }
 }
 
+/// What a routing comes to, by the wording of document 02 and what an interrogation
+/// of the same number says.
+pub fn routed(table: &[u64], code: &[u8], digits: &[u8], coded: bool) -> Answer {
+    if recount(table).is_none() {
+        return Answer::Refusal(2);
+    }
+    let front = if coded { b"" } else { code };
+    let asked = [front, digits].concat();
+    let characters = [code, &asked].concat();
+    let whole = code.len() == 3 && (5..=15).contains(&asked.len());
+    if !whole || !characters.iter().all(|c| b"0123456789".contains(c)) {
+        return Answer::Error(36);
+    }
+    if !asked.starts_with(code) {
+        return Answer::AskNetwork([asked[0], asked[1], asked[2]]);
+    }
+    match interrogated(table, &asked) {
+        Answer::Outcome {
+            number: 3, msisdn, ..
+        } => Answer::Routed {
+            msisdn,
+            subaddress: subaddress(std::str::from_utf8(&asked).unwrap()),
+        },
+        Answer::Outcome { number, .. } => unrouted(number),
+        other => panic!("{other:?}"),
+    }
+}
+
+/// An outcome of a routing.
+pub fn unrouted(number: u8) -> Answer {
+    Answer::Outcome {
+        number,
+        octets: 0,
+        msisdn: 0,
+    }
+}
+
+/// What a listed subscriber who asks about a number is answered.
+fn interrogated(table: &[u64], digits: &[u8]) -> Answer {
+    let string = [b"*#214*", digits, b"***#"].concat();
+    let string = packed(std::str::from_utf8(&string).unwrap());
+    let mut table = table.to_vec();
+    request(&mut table, &[A, 1], &mut [0; 80], A, 0x0F, &string)
+}
+
+/// 80 48, and the last two digits exchanged, of types 2, 3 and 4.
+fn subaddress(digits: &str) -> Option<[u8; 3]> {
+    let exchanged: String = digits.chars().rev().take(2).collect();
+    let branch = u8::from_str_radix(&exchanged, 16).unwrap();
+    let number_type = digits.chars().nth(3)?;
+    "234".contains(number_type).then_some([0x80, 0x48, branch])
+}
+
 /// A part of a message: a tag, its length in the shortest form, its content.
 fn part(tag: u8, content: &[u8]) -> Vec<u8> {
     let length = u8::try_from(content.len()).unwrap();

@@ -1,0 +1,2 @@
+-- `Said`: which answer each case of the code's enum is.
+pub mod Said
