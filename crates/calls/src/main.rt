@@ -379,7 +379,7 @@ fn fits(form: usize, fields: Fields, length: usize) -> bool {
 }
 
 fn read_form(text: &[u8]) -> Line {
-    let end = bytes::scan::find(text, 0, text.len(), b' ');
+    let end = octets::find(text, 0, text.len(), b' ');
     let fields = texts::read_fields(text, end);
     let form = form_named(text, end);
     if fits(form, fields, text.len()) {
@@ -465,7 +465,7 @@ fn run(input: &[u8], table: &mut [u64], list: &mut [u64]) {
     let mut state = first_state();
     let mut start = 0;
     while start < input.len() {
-        let end = bytes::scan::find(input, start, input.len(), b'\n');
+        let end = octets::find(input, start, input.len(), b'\n');
         state = do_line(&input[start..end], state, table, list);
         start = end + 1;
     }

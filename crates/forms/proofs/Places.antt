@@ -10,7 +10,7 @@ use lib.ListN.{length, take, drop, get_or}
 use lib.Seq.{take_all}
 use lib.Dec.{eqb}
 use borrow.Author.Tests.{eq-eqb, ne_eqb}
-use Rattle.bytes.specs.Bytes.{index_of, index_after, slice}
+use Rattle.octets.specs.Octets.{index_of, index_after, slice}
 use Rattle.forms.specs.Lines.{line_feed, on_first, lines_of, space, first_field, behind_field, lettered, form_of}
 
 pub whole_slice : (s : List ℕ) → slice 0 (length s) s ≡ s

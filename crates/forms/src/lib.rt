@@ -1,6 +1,6 @@
 // The form of a line of the program: its letter, and the fields that stand behind it one space apart.
 ghost use Rattle.std.specs.Prelude.{◌≡◌, List, ℕ, ◌^◌, ◌≤◌, ◌<◌, length};
-ghost use Rattle.bytes.specs.Bytes.{index_of};
+ghost use Rattle.octets.specs.Octets.{index_of};
 ghost use Rattle.forms.specs.Lines.{is_digits, number_of, asked_of, value_below, number_form, subscriber_form, request_form, sending_form, result_fields, result_form, delay_form, lettered};
 ghost use Rattle.forms.specs.Reads.{value_in, Reads};
 
@@ -35,7 +35,7 @@ enum FieldRead {
 pub fn place_of(octet: u8, part: &[u8]) -> usize
     ensures { (result ≡ index_of octet part.now) × (result ≤ length part.now) }
 {
-    bytes::scan::find(part, 0, part.len(), octet)
+    octets::find(part, 0, part.len(), octet)
 }
 
 // Whether a field is digits, at least one.

@@ -8,7 +8,7 @@ use borrow.Rule.Slice.PartMut.{put_mid}
 use lib.ListN.{length, take, drop, length-append, length-drop, take-append-drop, drop_of_length-le}
 use lib.Seq.{length-take-le, take_at, drop_at, take-append-add, drop-append-add, take-append_seam, drop-drop}
 use Rattle.answers.proofs.Parts.{rest_of, rest_back}
-use Rattle.bytes.specs.Bytes.{index_of}
+use Rattle.octets.specs.Octets.{index_of}
 use Rattle.rows.specs.Rows.{row_words}
 use Rattle.tables.specs.Tables.{subscriber_words}
 use Rattle.tables.specs.Figures.{recount}

@@ -134,9 +134,9 @@ fn value_at(values: &[u64; VALUES], place: usize) -> u64 {
 pub fn put_form(forms: &[u8], place: usize, values: &[u64; VALUES]) {
     let mut next = 0;
     let mut i = form_start(forms, place);
-    let end = bytes::scan::find(forms, i, forms.len(), END);
+    let end = octets::find(forms, i, forms.len(), END);
     while i < end {
-        let mark = bytes::scan::find(forms, i, end, VALUE);
+        let mark = octets::find(forms, i, end, VALUE);
         put(&forms[i..mark]);
         if mark < end {
             put_number(value_at(values, next));

@@ -20,7 +20,7 @@ pub fn put(characters: &[u8], out: &mut [u8]) -> usize
     requires { length characters.now ≤ length out.old }
     ensures { Stands characters.now out.old result out.new }
 {
-    bytes::copy(characters, out)
+    octets::copy(characters, out)
 }
 
 // Writes a number below 100 in its one or two digits.

@@ -5,7 +5,7 @@ use native.Mathlib.Omega.{arith}
 use lib.ListN.{length, take, drop, length-take, length-drop}
 use lib.Seq.{length-take-le}
 use Rattle.answers.proofs.Parts.{rest_of}
-use Rattle.bytes.specs.Bytes.{index_of}
+use Rattle.octets.specs.Octets.{index_of}
 use Rattle.packing.specs.Packing.{octets_for}
 use Rattle.forms.specs.Lines.{line_feed}
 use Rattle.lines.specs.Program.{line_effect}
