@@ -1,4 +1,6 @@
 // Numbers and their digits: bytes read as one number, and a number's digits stored.
+#![tactic(auto)]
+
 ghost use Rattle.std.specs.Prelude.{◌≡◌, [], ◌∷◌, ◌++◌, ◌+◌, ◌*◌, ◌^◌, ◌≤◌, ◌<◌, length, take, drop};
 ghost use Rattle.bases.specs.Bases.{value_of, digits};
 

@@ -1,6 +1,8 @@
 // A small exchange between a node's table and a cab radio, over packed strings. The driver A registers three numbers of two roots, and her radio stores them; the
 // supervisor B forces her off one; the notice comes to her radio, and the radio asks the node about every number that it stores of that root. Then staff at the node's
 // terminal clear her number of the other root, and the notice names nobody. Each string that passes is printed as text, a line each. What is printed, in the file stdout, was worked out by hand from documents 01 and 02.
+#![tactic(auto)]
+
 ghost use Rattle.io.specs.Counts.{IsPrefixLen};
 
 use answers::Written;

@@ -28,6 +28,8 @@
 //                                         writes a Register, the tail is the additional field
 //   registered TAIL                       reads a Register
 //   released TAIL                         reads a Release Complete
+#![tactic(auto)]
+
 ghost use Rattle.std.specs.Prelude.{◌≡◌, ◌*◌, length};
 ghost use Rattle.rows.specs.Rows.{row_words};
 
@@ -69,14 +71,14 @@ const TITLE: usize = 23;
 const UNKNOWN: usize = 24;
 
 // A line's form and its fields.
-#[derive(Drop)]
+#[derive(Clone, Copy)]
 struct Line {
     form: usize,
     fields: Fields,
 }
 
 // The figures beside the table, how many words of them are used, and whether calls show them.
-#[derive(Drop)]
+#[derive(Clone, Copy)]
 struct Figures {
     words: [u64; FIGURES],
     count: usize,
@@ -84,7 +86,7 @@ struct Figures {
 }
 
 // How many words of table and list are used, the figures, and the buffer that is lent.
-#[derive(Drop)]
+#[derive(Clone, Copy)]
 struct State {
     table: usize,
     figures: Figures,

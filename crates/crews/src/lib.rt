@@ -1,4 +1,6 @@
 // The additional field of a request for a whole crew: `BULK`, one digit n, and, if n is above 0, a space and n two-digit codes.
+#![tactic(auto)]
+
 ghost use Rattle.std.specs.Prelude.{◌≡◌, true, ◌+◌, ◌*◌, ◌<◌, length};
 ghost use Rattle.numbers.specs.Numbers.{are_digits};
 ghost use Rattle.crews.specs.Crews.{is_in, codes_allowed, code_at, codes_in, sound_codes_at, spaced_codes_at, counted_codes_at, count_of};
@@ -11,7 +13,7 @@ pub const LEAD_CODE: u64 = 1;
 const MOST_CODES: usize = 9;
 
 // What an additional field says: a single request, a crew by its count of codes, or `BULK` that breaks its rules.
-#[derive(Drop)]
+#[derive(Clone, Copy)]
 pub enum Crew {
     Single,
     Codes(usize),
@@ -19,7 +21,7 @@ pub enum Crew {
 }
 
 // How many codes a part has, or that they cannot be read.
-#[derive(Drop)]
+#[derive(Clone, Copy)]
 enum CodesRead {
     Read(usize),
     Unreadable,

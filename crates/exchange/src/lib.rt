@@ -1,4 +1,6 @@
 // The framed request: a Register in, a Release Complete out, and between them the request as the node carries it out.
+#![tactic(auto)]
+
 ghost use Rattle.std.specs.Prelude.{◌≡◌, true, [], ◌≤◌, length};
 ghost use Rattle.frames.specs.Messages.{frame_room};
 ghost use Rattle.tables.specs.Tables.{list_sound};
@@ -15,7 +17,7 @@ use numbers::Msisdn;
 use visits::RequestAnswer;
 
 // The answer to a framed request: a refusal by its number, or what was written: an outcome by its number, 03 with the holder, an error by its code, a Reject by its problem, each with the frame's octet count.
-#[derive(Drop)]
+#[derive(Clone, Copy)]
 pub enum FramedAnswer {
     Refused(u8),
     Outcome(u8, usize),

@@ -1,4 +1,6 @@
 // The program of document 01: it reads at most 64 KiB of standard input, and writes what its lines print. What is lost is said on standard error.
+#![tactic(auto)]
+
 ghost use Rattle.std.specs.Prelude.{◌≡◌, length};
 ghost use Rattle.lines.specs.Memory.{most_output};
 ghost use Rattle.tables.specs.Tables.{full_table_words, full_list_words};

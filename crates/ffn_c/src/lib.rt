@@ -1,4 +1,6 @@
 // The C functions of the static library, thin over the packer, the request string, the frames and the node. Each returns one struct by value and has no `requires`.
+#![tactic(auto)]
+
 ghost use Rattle.std.specs.Prelude.{◌≡◌, not, [], eqb};
 ghost use Rattle.packing.specs.Outcomes.{packing, unpacking};
 ghost use Rattle.frames.specs.Messages.{register_of, release_of};

@@ -1,4 +1,6 @@
 // The form of a line of the program: its letter, and the fields that stand behind it one space apart.
+#![tactic(auto)]
+
 ghost use Rattle.std.specs.Prelude.{◌≡◌, List, ℕ, ◌^◌, ◌≤◌, ◌<◌, length};
 ghost use Rattle.octets.specs.Octets.{index_of};
 ghost use Rattle.forms.specs.Lines.{is_digits, number_of, asked_of, value_below, number_form, subscriber_form, request_form, sending_form, result_fields, result_form, delay_form, lettered};
@@ -13,7 +15,7 @@ const FLAGS_END: u64 = MOST_FLAGS + 1;
 const TWO_TO_THE_32: u64 = 4_294_967_296;
 
 // The form of a line behind its letter, with the values of its fields; a string by where it starts.
-#[derive(Drop)]
+#[derive(Clone, Copy)]
 pub enum Line {
     Number(FunctionalNumber),
     Subscriber(Msisdn, u8),
@@ -25,7 +27,7 @@ pub enum Line {
 }
 
 // What a field of digits is read as, or that the line cannot have it.
-#[derive(Drop)]
+#[derive(Clone, Copy)]
 enum FieldRead {
     Value(u64),
     Unreadable,

@@ -1,4 +1,6 @@
 // Frames written: the component of a request and the three that answer one, and Register and Release Complete around them.
+#![tactic(auto)]
+
 ghost use Rattle.std.specs.Prelude.{◌≡◌, [], ◌∷◌, ◌+◌, ◌≤◌, length};
 ghost use Rattle.answers.specs.Writing.{made_write, Stands};
 ghost use Rattle.strings.specs.Text.{most_octets, request_from, coding_scheme};

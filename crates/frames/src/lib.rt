@@ -1,4 +1,6 @@
 // Real message frames: Register and Release Complete, and the components inside them, read strictly.
+#![tactic(auto)]
+
 ghost use Rattle.std.specs.Prelude.{◌≡◌};
 ghost use Rattle.frames.specs.Parts.{contents_of, octet_at};
 ghost use Rattle.frames.specs.Components.{body_of, invoke_of, result_of, pair_of, component_of};
@@ -72,28 +74,28 @@ pub const FRAME_ROOM: usize = 120;
 pub const MOST_RESULT_OCTETS: usize = 80;
 
 // What stands behind the invoke number: the problem of a Reject, or the coding scheme and how many octets the string has, which end the component.
-#[derive(Drop)]
+#[derive(Clone, Copy)]
 pub enum Body {
     Wrong(u8),
     Asks(u8, usize),
 }
 
 // The component of a request: its invoke number and what stands behind it, or that it is wrong up to there.
-#[derive(Drop)]
+#[derive(Clone, Copy)]
 pub enum InvokeRead {
     Numbered(u8, Body),
     Unnumbered,
 }
 
 // A Register: first octet, invoke number and what stands behind it, or refusal 11.
-#[derive(Drop)]
+#[derive(Clone, Copy)]
 pub enum RegisterRead {
     Numbered(u8, u8, Body),
     Refused,
 }
 
 // An answer's component: a result by its invoke number and how many octets its string has, which end the component; an error by its invoke number and code; a Reject by its invoke number and problem.
-#[derive(Drop)]
+#[derive(Clone, Copy)]
 pub enum AnswerRead {
     Result(u8, usize),
     Error(u8, u8),
@@ -102,7 +104,7 @@ pub enum AnswerRead {
 }
 
 // A Release Complete: its first octet before what its component has, or refusal 11.
-#[derive(Drop)]
+#[derive(Clone, Copy)]
 pub enum ReleaseRead {
     Result(u8, u8, usize),
     Error(u8, u8, u8),
@@ -111,14 +113,14 @@ pub enum ReleaseRead {
 }
 
 // A part of one octet.
-#[derive(Drop)]
+#[derive(Clone, Copy)]
 enum OctetRead {
     Octet(u8),
     Nothing,
 }
 
 // Two parts of one octet each, in a part that they fill.
-#[derive(Drop)]
+#[derive(Clone, Copy)]
 enum PairRead {
     Pair(u8, u8),
     Nothing,

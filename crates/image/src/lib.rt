@@ -1,4 +1,6 @@
 // M-109: table and list as one image, for moving a node to new hardware, and an image read back. It knows words and rows, not records.
+#![tactic(auto)]
+
 ghost use Rattle.std.specs.Prelude.{◌≡◌, ◌++◌, ◌+◌, ◌*◌, ◌≤◌, length, take, drop};
 ghost use Rattle.answers.specs.Writing.{Stands, over};
 ghost use Rattle.packing.specs.Packing.{value_of, digits};
@@ -14,14 +16,14 @@ use tables::{
 };
 
 // What writing an image answers: a refusal by its number, or how many octets it has.
-#[derive(Drop)]
+#[derive(Clone, Copy)]
 pub enum ImageWritten {
     Refused(u8),
     Octets(usize),
 }
 
 // What reading an image answers: a refusal by its number, or how many rows of the table and of the list it has.
-#[derive(Drop)]
+#[derive(Clone, Copy)]
 pub enum ImageRead {
     Refused(u8),
     Rows(usize, usize),

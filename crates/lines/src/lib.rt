@@ -1,4 +1,6 @@
 // What a line of the program comes to: its form is read, carried out over the lent table and list, and what it prints is written.
+#![tactic(auto)]
+
 ghost use Rattle.std.specs.Prelude.{◌≡◌, true, List, ◌++◌, ℕ, ◌+◌, ◌*◌, ◌≤◌, ◌<◌, length, take, set};
 ghost use Rattle.packing.specs.Packing.{octets_for};
 ghost use Rattle.rows.specs.Rows.{row_words};
@@ -37,7 +39,7 @@ const PROGRAM_DELAY: u32 = 60;
 
 // How many rows of the lent table and list are in use, whether they are still being filled, the delay, whether no line has come yet, and the figures of
 // the table's rows in use.
-#[derive(Drop)]
+#[derive(Clone, Copy)]
 struct Progress {
     numbers: usize,
     subscribers: usize,
@@ -48,7 +50,7 @@ struct Progress {
 }
 
 // What a line leaves: the state, and how many octets it printed.
-#[derive(Drop)]
+#[derive(Clone, Copy)]
 struct Done {
     state: Progress,
     printed: usize,

@@ -1,4 +1,6 @@
 // The five calls of the node over lent memory: a request, a sending, a result, a finding and an erasure at the terminal, each equal to the rules of documents 01 and 02 for every input.
+#![tactic(auto)]
+
 ghost use Rattle.std.specs.Prelude.{◌≡◌, true, not, ◌&&◌, [], ◌≤◌, length};
 ghost use Rattle.numbers.specs.Numbers.{is_number};
 ghost use Rattle.crews.specs.Crews.{count_of};

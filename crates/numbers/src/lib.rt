@@ -1,4 +1,6 @@
 // Functional numbers and MSISDNs: their stored form, and their digits read and written.
+#![tactic(auto)]
+
 ghost use Rattle.std.specs.Prelude.{◌≡◌, ◌^◌, ◌<◌, ◌≤◌, true, ◌++◌, length, drop};
 ghost use Rattle.answers.specs.Writing.{made_write};
 ghost use Rattle.numbers.specs.Numbers.{most_digits, is_digit, are_digits, stored_form, is_number, digits_up_to, digits_of, leading_digits, leading_number, writing_digits};
@@ -7,15 +9,15 @@ ghost use Rattle.numbers.specs.Least.{least_for, is_from};
 use answers::Written;
 
 // The "dummy" number of a function on a train, in stored form.
-#[derive(Drop)]
+#[derive(Clone, Copy)]
 pub struct FunctionalNumber(pub u64);
 
 // The "true" number of a subscriber, in stored form; 0 is nobody.
-#[derive(Drop)]
+#[derive(Clone, Copy)]
 pub struct Msisdn(pub u64);
 
 // What stands at the front of a part of a string: a number in stored form and how many digits it has, or none.
-#[derive(Drop)]
+#[derive(Clone, Copy)]
 pub enum NumberRead {
     Number(u64, usize),
     Unreadable,

@@ -1,5 +1,7 @@
 // TS 23.038's packed characters, as USSD has them: characters to octets and back.
 // Eight characters and their seven octets are one number: both writers go by such groups, and fewer are left over at the end.
+#![tactic(auto)]
+
 ghost use Rattle.std.specs.Prelude.{◌≡◌, true, ◌++◌, ◌-◌, ◌^◌, ◌≤◌, ◌<◌, length, get_or, drop, eqb};
 ghost use Rattle.answers.specs.Writing.{made_write};
 ghost use Rattle.packing.specs.Packing.{value_of, digits, octets_for, takes, return_if, packed, readable, kept, unpacked};

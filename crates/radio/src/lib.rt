@@ -1,4 +1,6 @@
 // The cab radio's three calls, by value: a number stored, a notice, a reply. Each gives the radio's next state and what the cab's main software is to do next.
+#![tactic(auto)]
+
 ghost use Rattle.std.specs.Prelude.{◌≡◌, ◌≤◌, length};
 ghost use Rattle.strings.specs.Outcomes.{writer_room};
 ghost use Rattle.stores.specs.Stores.{entries_in};
@@ -17,7 +19,7 @@ const REPLY_CHARACTERS: usize = 24;
 // What is to be done next: a refusal's number, or 0; 1 where the empty response is to be returned; the invoke number and the octets of the question that stands in
 // the question buffer. None is to be asked exactly where `octets` is 0, and `invoke` is 0 then too.
 #[repr(C)]
-#[derive(Drop)]
+#[derive(Clone, Copy)]
 pub struct Doing {
     pub refusal: u8,
     pub respond: u8,
@@ -26,7 +28,7 @@ pub struct Doing {
 }
 
 // A radio's next state, and what is to be done.
-#[derive(Drop)]
+#[derive(Clone, Copy)]
 pub struct Next {
     pub radio: Radio,
     pub doing: Doing,

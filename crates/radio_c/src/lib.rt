@@ -1,4 +1,6 @@
 // The C functions to which a radio is lent: each is thin over a call by value.
+#![tactic(auto)]
+
 ghost use Rattle.radio.specs.Radio.{storing, noticing, replying};
 ghost use Rattle.radio_c.specs.Leaves.{Leaves, LeavesBoth};
 

@@ -1,11 +1,13 @@
 // One functional number's record, by value, and what happens to it.
+#![tactic(auto)]
+
 ghost use Rattle.std.specs.Prelude.{◌≡◌, ◌≤◌};
 ghost use Rattle.records.specs.Steps.{most_sendings, sendings_done, registered, erased, forced, interrogated, sent, resulted, held_by, forced_off, cleared, with_notice, closing, elapsed as elapsedOf, delay_of, delay_allowed, is_due};
 
 use numbers::{FunctionalNumber, Msisdn};
 
 // "a notice is absent, waiting or in flight": with the sendings done, and the second of the last failure.
-#[derive(Drop)]
+#[derive(Clone, Copy)]
 pub enum Notice {
     Absent,
     Waiting(u8, u32),
@@ -13,7 +15,7 @@ pub enum Notice {
 }
 
 // The record of one functional number; holder, addressee and supervisor 0 are nobody. M-110: a closed number is not registered any more.
-#[derive(Drop)]
+#[derive(Clone, Copy)]
 pub struct Record {
     pub holder: Msisdn,
     pub notice: Notice,
@@ -23,28 +25,28 @@ pub struct Record {
 }
 
 // What a request makes of a record: it stays, by the paper's number of the outcome, or becomes the next record.
-#[derive(Drop)]
+#[derive(Clone, Copy)]
 pub enum Step {
     Stays(u8),
     Becomes(Record),
 }
 
 // What an interrogation finds: an outcome by its number, or the holder.
-#[derive(Drop)]
+#[derive(Clone, Copy)]
 pub enum Holder {
     Stays(u8),
     Held(Msisdn),
 }
 
 // What a sending makes of a record: a refusal by its number, or the record with its notice in flight.
-#[derive(Drop)]
+#[derive(Clone, Copy)]
 pub enum Sending {
     Refused(u8),
     Launched(Record),
 }
 
 // What a result makes of a record: a refusal by its number, or what it returns, with the next record.
-#[derive(Drop)]
+#[derive(Clone, Copy)]
 pub enum Resulted {
     Refused(u8),
     Delivered(Record),

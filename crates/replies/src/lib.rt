@@ -1,4 +1,6 @@
 // What the program prints behind a line's letter: an answer's words, its number or its text.
+#![tactic(auto)]
+
 ghost use Rattle.std.specs.Prelude.{◌≡◌, true, [], ◌++◌, ◌+◌, ◌≤◌, length};
 ghost use Rattle.answers.specs.Ascii.{ascii};
 ghost use Rattle.answers.specs.Writing.{Stands};

@@ -1,4 +1,6 @@
 // M-112: where a text message goes, the MSISDN that stands behind a functional number in the table that is lent. Nothing is written.
+#![tactic(auto)]
+
 ghost use Rattle.std.specs.Prelude.{◌≡◌, true, cond, ◌+◌, ◌≤◌, length};
 ghost use Rattle.answers.specs.Writing.{Stands};
 ghost use Rattle.numbers.specs.Numbers.{fewest_digits, most_digits, are_digits, stored_form};
@@ -20,14 +22,14 @@ const TYPE_OCTET: u8 = 0x80;
 const FORMAT_OCTET: u8 = 0x48;
 
 // The subaddress octets that go with an MSISDN: none, or three of which the last is the branch.
-#[derive(Drop)]
+#[derive(Clone, Copy)]
 pub enum Subaddress {
     Absent,
     Octets(u8, u8, u8),
 }
 
 // The answer to a routing: a refusal, an error or an outcome by its number; another network's code by its three characters; or the MSISDN, with the subaddress.
-#[derive(Drop)]
+#[derive(Clone, Copy)]
 pub enum RoutingAnswer {
     Refused(u8),
     Error(u8),

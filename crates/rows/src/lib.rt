@@ -1,4 +1,6 @@
 // The row of words that a record is lent in: when it is sound, the record that it is, and a record put into it.
+#![tactic(auto)]
+
 ghost use Rattle.std.specs.Prelude.{◌≡◌, true, ◌+◌, ◌*◌, ◌/◌, ◌^◌, ◌≤◌, ◌<◌, length};
 ghost use Rattle.std.proofs.lemmas.List.Edits.{sets};
 ghost use Rattle.numbers.specs.Numbers.{most_digits};
@@ -32,7 +34,7 @@ const SECOND: usize = 5;
 const CLOSED: usize = 6;
 
 // The words of a row.
-#[derive(Drop)]
+#[derive(Clone, Copy)]
 pub struct Words {
     pub number: u64,
     pub holder: u64,

@@ -1,4 +1,6 @@
 // The calls by their words and octets, and what they answer, as text.
+#![tactic(auto)]
+
 mod framed;
 mod made;
 
@@ -62,7 +64,7 @@ const A_PROBLEM: usize = 19;
 
 const RECOUNTED: usize = 20;
 
-#[derive(Drop)]
+#[derive(Clone, Copy)]
 pub struct Said {
     pub form: usize,
     pub values: [u64; VALUES],

@@ -1,4 +1,6 @@
 // The lent table and the lent figures together: whether both are right, and a row's next record stored, with the figures that follow from it.
+#![tactic(auto)]
+
 ghost use Rattle.std.specs.Prelude.{◌≡◌, true, ◌<◌, length};
 ghost use Rattle.tables.specs.Tables.{rows_in};
 ghost use Rattle.tables.specs.Figures.{figure_count, figure_words};

@@ -1,4 +1,6 @@
 // What a radio stores: the state that the cab's main software lends, when it is sound, and what becomes of it.
+#![tactic(auto)]
+
 ghost use Rattle.std.specs.Prelude.{◌≡◌, true, ◌&&◌, ◌++◌, ◌<◌, ◌≤◌, take, drop};
 ghost use Rattle.stores.specs.Stores.{most_stored, entries_in, entry_sound, is_blank, every, has, none_twice, open_of, radio_sound, holding, with_new, is_due, begun, settled, is_of, flag_of, due_by};
 ghost use Rattle.stores.specs.Places.{first_to_ask, closed_up, kept_at, dropped_at};
@@ -8,7 +10,7 @@ pub const MOST_STORED: usize = 16;
 
 // A stored number, with its mark and whether it is still to be asked in this round: each 0 or 1.
 #[repr(C)]
-#[derive(Drop)]
+#[derive(Clone, Copy)]
 pub struct Entry {
     pub number: u64,
     pub unsure: u8,
@@ -17,7 +19,7 @@ pub struct Entry {
 
 // A radio: its own MSISDN, the stored numbers in the order in which they were stored, whether it is a hand-held, and the invoke number of its last question.
 #[repr(C)]
-#[derive(Drop)]
+#[derive(Clone, Copy)]
 pub struct Radio {
     pub own: u64,
     pub count: usize,
@@ -27,7 +29,7 @@ pub struct Radio {
 }
 
 // What an answer says of the number that was asked.
-#[derive(Drop)]
+#[derive(Clone, Copy)]
 pub enum Verdict {
     Keeps,
     Drops,

@@ -1,4 +1,6 @@
 // Standard input and output of the programs. They have no exit status: what is lost is said on standard error.
+#![tactic(auto)]
+
 ghost use Rattle.std.specs.Prelude.{length, ◌≤◌};
 ghost use Rattle.io.specs.Counts.{IsPrefixLen};
 

@@ -1,4 +1,6 @@
 // The request string and the notice: their fields, and the readers of their packed octets.
+#![tactic(auto)]
+
 ghost use Rattle.std.specs.Prelude.{◌≡◌, true, ◌+◌, ◌<◌};
 ghost use Rattle.strings.specs.Text.{is_additional, may_force, may_carry, crew_allowed};
 ghost use Rattle.strings.specs.Reader.{number_field_at, leading_additional, fields_of};
@@ -20,7 +22,7 @@ pub const MOST_CHARACTERS: usize = 72;
 pub const CODING_SCHEME: u8 = 0x0F;
 
 // What is asked for: `**`, `##` or `*#`.
-#[derive(Drop)]
+#[derive(Clone, Copy)]
 pub enum Operation {
     Register,
     Erase,
@@ -28,14 +30,14 @@ pub enum Operation {
 }
 
 // The supervisor field and the MSISDN to erase: both empty, or `88` and the holder that a forced erasure names.
-#[derive(Drop)]
+#[derive(Clone, Copy)]
 pub enum Erasing {
     Empty,
     Forced(Msisdn),
 }
 
 // The fields of a request; the additional field by its start and its count of characters in the unpacked text, and what it says of a crew.
-#[derive(Drop)]
+#[derive(Clone, Copy)]
 pub struct Fields {
     pub operation: Operation,
     pub number: FunctionalNumber,
@@ -46,52 +48,52 @@ pub struct Fields {
 }
 
 // The fields, or error 36.
-#[derive(Drop)]
+#[derive(Clone, Copy)]
 pub enum Reading {
     Read(Fields),
     Unreadable,
 }
 
 // What was read, beside the unpacked text in which the additional field stands.
-#[derive(Drop)]
+#[derive(Clone, Copy)]
 pub struct ReadRequest {
     pub reading: Reading,
     pub text: [u8; MOST_CHARACTERS],
 }
 
 // A notice's number and its supervisor, 0 where the MSISDN is blank; or octets that are no notice's.
-#[derive(Drop)]
+#[derive(Clone, Copy)]
 pub enum NoticeReading {
     Notice(FunctionalNumber, Msisdn),
     Unreadable,
 }
 
 // What a field's reader answers: the field at the front of a part and how far it reaches, or that it cannot be read.
-#[derive(Drop)]
+#[derive(Clone, Copy)]
 enum OperationRead {
     Read(Operation, usize),
     Unreadable,
 }
 
-#[derive(Drop)]
+#[derive(Clone, Copy)]
 enum ServiceRead {
     Read(usize),
     Unreadable,
 }
 
-#[derive(Drop)]
+#[derive(Clone, Copy)]
 enum NumberFieldRead {
     Read(u64, usize),
     Unreadable,
 }
 
-#[derive(Drop)]
+#[derive(Clone, Copy)]
 enum ErasingRead {
     Read(Erasing, usize),
     Unreadable,
 }
 
-#[derive(Drop)]
+#[derive(Clone, Copy)]
 enum AdditionalRead {
     Read(usize, Crew),
     Unreadable,

@@ -1,4 +1,6 @@
 // The structs that the C functions return, and the numbers that stand in them for the answers: of writers, images, recounts and changes of a table.
+#![tactic(auto)]
+
 ghost use Rattle.std.specs.Prelude.{◌≡◌};
 ghost use Rattle.answers.specs.Writing.{said};
 ghost use Rattle.tables.specs.Figures.{said_recount};
@@ -39,7 +41,7 @@ const UNSOUND_TABLE: u32 = 2;
 // What a function answers: the class; the number of a refusal, an error, an outcome or a result; the count of octets or characters;
 // the holder's MSISDN, the notice's addressee or the number found.
 #[repr(C)]
-#[derive(Drop)]
+#[derive(Clone, Copy)]
 pub struct Answer {
     pub class: u32,
     pub number: u32,
@@ -49,7 +51,7 @@ pub struct Answer {
 
 // What a recount answers: the class; the number of a refusal; the numbers held, the notices waiting and the notices in flight.
 #[repr(C)]
-#[derive(Drop)]
+#[derive(Clone, Copy)]
 pub struct FiguresRead {
     pub class: u32,
     pub number: u32,
@@ -60,7 +62,7 @@ pub struct FiguresRead {
 
 // What an image's reader answers: the class; the number of a refusal; how many rows of the table and of the list it has.
 #[repr(C)]
-#[derive(Drop)]
+#[derive(Clone, Copy)]
 pub struct ImageCounts {
     pub class: u32,
     pub number: u32,

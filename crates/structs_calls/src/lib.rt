@@ -1,4 +1,6 @@
 // The numbers that stand in the C functions' structs for what the node's calls and a routing answer.
+#![tactic(auto)]
+
 ghost use Rattle.std.specs.Prelude.{◌≡◌};
 ghost use Rattle.visits.specs.Said.{said_request, said_sending, said_result, said_finding};
 ghost use Rattle.exchange.specs.Said.{said_framed};
@@ -32,7 +34,7 @@ const ROUTED: u32 = 15;
 // What a routing answers: the class; the number of a refusal, an error or an outcome; the MSISDN; the three characters of another network's code; the octets of the
 // subaddress, and how many there are. What an answer does not have is 0.
 #[repr(C)]
-#[derive(Drop)]
+#[derive(Clone, Copy)]
 pub struct Route {
     pub class: u32,
     pub number: u32,

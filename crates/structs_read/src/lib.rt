@@ -1,4 +1,6 @@
 // The structs that the C functions return for what they read: the fields of a request, and messages.
+#![tactic(auto)]
+
 ghost use Rattle.std.specs.Prelude.{◌≡◌};
 ghost use Rattle.frames.specs.Messages.{register_of, release_of};
 ghost use Rattle.frames.specs.Read.{told_register, told_release};
@@ -17,7 +19,7 @@ const WRONG_MESSAGE: u8 = 11;
 // What the request's reader answers: the class; the number of an error; the operation, whether it is of a crew, the functional number, the
 // MSISDN that a forced erasure names, or 0; the start and the length of the additional field in the text, and how many codes it ends in.
 #[repr(C)]
-#[derive(Drop)]
+#[derive(Clone, Copy)]
 pub struct RequestRead {
     pub class: u32,
     pub number: u32,
@@ -33,7 +35,7 @@ pub struct RequestRead {
 // What a message's reader answers: the class; the number of a refusal, of an error or of a Reject; the first octet and the invoke number;
 // the string by its coding scheme, its start in the message and its length.
 #[repr(C)]
-#[derive(Drop)]
+#[derive(Clone, Copy)]
 pub struct FrameRead {
     pub class: u32,
     pub number: u32,
@@ -45,7 +47,7 @@ pub struct FrameRead {
 }
 
 // The operation that a number stands for.
-#[derive(Drop)]
+#[derive(Clone, Copy)]
 pub enum Operating {
     Known(Operation),
     Unknown,

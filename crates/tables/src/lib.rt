@@ -1,4 +1,6 @@
 // The lent table and the lent list: whether they are sound, what the figures of a table are, and where a number or a subscriber stands in them.
+#![tactic(auto)]
+
 ghost use Rattle.std.specs.Prelude.{◌≡◌, true, ◌*◌, ◌/◌, ◌^◌, ◌<◌, length, leb};
 ghost use Rattle.tables.specs.Keys.{key, every, ascends, place_of};
 ghost use Rattle.tables.specs.Tables.{most_numbers, rows_in, table_sound, row_of, most_flags, list_sound, flags_of};
@@ -9,14 +11,14 @@ use numbers::{FunctionalNumber, Msisdn, least_for};
 use rows::{HOLDER, PHASE, ROW_WORDS, holder_start, is_near, rest_sound};
 
 // Where a number stands among the rows.
-#[derive(Drop)]
+#[derive(Clone, Copy)]
 pub enum Found {
     At(usize),
     Nothing,
 }
 
 // M-103: "numbers held, notices waiting and notices in flight".
-#[derive(Drop)]
+#[derive(Clone, Copy)]
 pub struct Figures {
     pub held: u64,
     pub waiting: u64,
@@ -24,7 +26,7 @@ pub struct Figures {
 }
 
 // What a recount finds: the three figures of a sound table.
-#[derive(Drop)]
+#[derive(Clone, Copy)]
 pub enum Recounted {
     Unsound,
     Counted(Figures),

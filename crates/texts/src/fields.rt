@@ -17,7 +17,7 @@ const LARGEST: u64 = 18_446_744_073_709_551_615;
 const NO_DIGIT: u64 = 16;
 
 // The words of a line, and where its tail stands; the line's length where it has none. Not good: the line has another form.
-#[derive(Drop)]
+#[derive(Clone, Copy)]
 pub struct Fields {
     pub good: bool,
     pub words: [u64; MOST_WORDS],
@@ -26,7 +26,7 @@ pub struct Fields {
 }
 
 // A word that was read, and what stands behind it.
-#[derive(Drop)]
+#[derive(Clone, Copy)]
 struct WordRead {
     good: bool,
     value: u64,
@@ -34,7 +34,7 @@ struct WordRead {
 }
 
 // How many octets were read.
-#[derive(Drop)]
+#[derive(Clone, Copy)]
 pub struct OctetsRead {
     pub good: bool,
     pub count: usize,

@@ -1,5 +1,7 @@
 // Words and octets as text: the fields of a line read, words and octets printed piece by piece, and rows of words set and compared. Words that
 // do not fit into memory are left out, and a count of all that it holds says so.
+#![tactic(auto)]
+
 mod fields;
 mod words;
 

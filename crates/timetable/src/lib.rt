@@ -1,4 +1,6 @@
 // M-110: numbers closed, closed ones taken out, and new ones put in, in the words that are lent.
+#![tactic(auto)]
+
 ghost use Rattle.std.specs.Prelude.{◌≡◌, true, ◌+◌, ◌*◌, ◌≤◌, length, replicate};
 ghost use Rattle.records.specs.Steps.{has_run_out};
 ghost use Rattle.rows.specs.Rows.{row_words, row_sound};
@@ -13,21 +15,21 @@ use rows::{NUMBER, ROW_WORDS};
 use tables::{Found, MOST_NUMBERS};
 
 // What closing a number answers: a refusal by its number, or that the number is closed.
-#[derive(Drop)]
+#[derive(Clone, Copy)]
 pub enum Closed {
     Refused(u8),
     Done,
 }
 
 // What compacting answers: a refusal by its number, or how many rows went and how many are in use.
-#[derive(Drop)]
+#[derive(Clone, Copy)]
 pub enum Compacted {
     Refused(u8),
     Rows(usize, usize),
 }
 
 // What adding a number answers: a refusal by its number, or how many rows are in use.
-#[derive(Drop)]
+#[derive(Clone, Copy)]
 pub enum Added {
     Refused(u8),
     Rows(usize),

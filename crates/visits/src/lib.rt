@@ -1,4 +1,6 @@
 // A call's visit to the row of its number: the record is read, a step of it taken and stored, and what the step says is written. The answers of the node's calls.
+#![tactic(auto)]
+
 ghost use Rattle.std.specs.Prelude.{◌≡◌, true, [], ◌≤◌, ◌<◌, length};
 ghost use Rattle.packing.specs.Packing.{takes, octets_for};
 ghost use Rattle.numbers.specs.Numbers.{is_number, two_digits};
@@ -18,7 +20,7 @@ use records::{Holder, Record, Resulted, Sending, Step};
 use strings::{Erasing, Fields, Operation};
 
 // The answer to a request: a refusal, an error or an outcome by its number, an outcome with its octet count; 03 with the holder.
-#[derive(Drop)]
+#[derive(Clone, Copy)]
 pub enum RequestAnswer {
     Refused(u8),
     Error(u8),
@@ -27,14 +29,14 @@ pub enum RequestAnswer {
 }
 
 // The answer to a sending: a refusal by its number, or the addressee and the notice's octet count.
-#[derive(Drop)]
+#[derive(Clone, Copy)]
 pub enum SendingAnswer {
     Refused(u8),
     Sent(Msisdn, usize),
 }
 
 // The answer to a result: a refusal by its number, or what became of the notice.
-#[derive(Drop)]
+#[derive(Clone, Copy)]
 pub enum ResultAnswer {
     Refused(u8),
     Delivered,
@@ -43,7 +45,7 @@ pub enum ResultAnswer {
 }
 
 // The answer to a finding: a refusal by its number, or the lowest due number, if one is due.
-#[derive(Drop)]
+#[derive(Clone, Copy)]
 pub enum FindingAnswer {
     Refused(u8),
     Due(FunctionalNumber),

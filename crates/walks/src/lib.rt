@@ -1,4 +1,6 @@
 // A crew's request over a sound table and right figures: the single steps of its numbers one after the other, what they count, and the reply.
+#![tactic(auto)]
+
 ghost use Rattle.std.specs.Prelude.{◌≡◌, true, false, List, [], ◌∷◌, ◌++◌, ℕ, ◌+◌, ◌*◌, ◌≤◌, ◌<◌, length};
 ghost use Rattle.answers.specs.Writing.{Stands};
 ghost use Rattle.packing.specs.Packing.{takes};
@@ -32,14 +34,14 @@ const CREW_REGISTERED: u8 = 11;
 const CREW_ERASED: u8 = 12;
 
 // Codes by their digits, one behind the other.
-#[derive(Drop)]
+#[derive(Clone, Copy)]
 struct Codes {
     digits: [u8; 2 * MOST_STEPS],
     count: usize,
 }
 
 // The codes of the steps that succeeded, and of those that failed, each in their order.
-#[derive(Drop)]
+#[derive(Clone, Copy)]
 struct Tally {
     successes: Codes,
     failures: Codes,

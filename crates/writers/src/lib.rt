@@ -1,4 +1,6 @@
 // The writers of packed strings: a request from its fields, and a notice.
+#![tactic(auto)]
+
 ghost use Rattle.std.specs.Prelude.{◌≡◌, true, ◌++◌, ◌+◌, ◌<◌, ◌≤◌, length};
 ghost use Rattle.answers.specs.Writing.{made_write, Stands};
 ghost use Rattle.packing.specs.Packing.{packed};
