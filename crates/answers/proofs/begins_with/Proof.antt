@@ -8,51 +8,51 @@ use Rattle.answers.proofs.Begins.{begins_short, begins_end, begins_stop, begins_
 use Rattle.answers.proofs.begins_with.Statement.{statement}
 use Rattle.answers.proofs.begins_with.Tie as tie
 
-abbrev invariant_loop : tie.invariant_loop
-invariant_loop part characters i₀ i = (i ≤ length characters) × (begins characters part ≡ begins (drop i characters) (drop i part))
+abbrev invariant-loop-i : tie.invariant-loop-i
+invariant-loop-i part characters i₀ i = (i ≤ length characters) × (begins characters part ≡ begins (drop i characters) (drop i part))
 
-abbrev decreases_loop : tie.decreases_loop
-decreases_loop part characters i₀ i = length characters - i
+abbrev decreases-loop-i : tie.decreases-loop-i
+decreases-loop-i part characters i₀ i = length characters - i
 
-returns : tie.Need-returns invariant_loop decreases_loop
-returns c = sym (begins_short _ _ c.if1.true)
+returns-then-part-characters : tie.Need-returns-then-part-characters invariant-loop-i decreases-loop-i
+returns-then-part-characters c = sym (begins_short _ _ c.if-part-characters.true)
 
-loop_holds : tie.Need-loop-init invariant_loop decreases_loop
-loop_holds c = (omega arith, refl)
+loop-i-init : tie.Need-loop-i-init invariant-loop-i decreases-loop-i
+loop-i-init c = (omega arith, refl)
 
-shared_slice_read_if2 : tie.Need-shared-slice-read-if2 invariant_loop decreases_loop
-shared_slice_read_if2 c = omega arith
+bounds-part-i : tie.Need-bounds-part-i invariant-loop-i decreases-loop-i
+bounds-part-i c = omega arith
 
-shared_slice_read_if2_2 : tie.Need-shared-slice-read-if2-2 invariant_loop decreases_loop
-shared_slice_read_if2_2 c = omega arith
+bounds-characters-i : tie.Need-bounds-characters-i invariant-loop-i decreases-loop-i
+bounds-characters-i c = omega arith
 
-returns_2 : tie.Need-returns-2 invariant_loop decreases_loop
-returns_2 c = begins_stop _ _ _ c.before.before.before.before.loop.invariant.1 (omega arith) (omega arith) c.if2.true
+returns-then-part-i : tie.Need-returns-then-part-i invariant-loop-i decreases-loop-i
+returns-then-part-i c = begins_stop _ _ _ c.loop-i.invariant.1 (omega arith) (omega arith) c.if-part-i.true
 
-add_i : tie.Need-overflow-add-i invariant_loop decreases_loop
-add_i c = omega arith
+overflow_add-i : tie.Need-overflow_add-i invariant-loop-i decreases-loop-i
+overflow_add-i c = omega arith
 
-loop_less : tie.Need-loop-smaller invariant_loop decreases_loop
-loop_less c = omega arith
+loop-i-smaller : tie.Need-loop-i-smaller invariant-loop-i decreases-loop-i
+loop-i-smaller c = omega arith
 
-loop_again : tie.Need-loop-preserved invariant_loop decreases_loop
-loop_again c = (omega arith, begins_step _ _ _ c.before.before.before.before.loop.invariant.1 (omega arith) (omega arith) c.if2.false)
+loop-i-preserved : tie.Need-loop-i-preserved invariant-loop-i decreases-loop-i
+loop-i-preserved c = (omega arith, begins_step _ _ _ c.loop-i.invariant.1 (omega arith) (omega arith) c.if-part-i.false)
 
-returns_3 : tie.Need-returns-3 invariant_loop decreases_loop
-returns_3 c = begins_end _ _ _ c.before.loop.invariant.1 c.loop-test.false
+returns : tie.Need-returns invariant-loop-i decreases-loop-i
+returns c = begins_end _ _ _ c.loop-i.invariant.1 c.loop-i-test.false
 
 pub begins_with_spec : {M : Type 1} → statement M
 begins_with_spec =
     tie.close
     (tie.spec
-    invariant_loop
-    decreases_loop
-    returns
-    loop_holds
-    shared_slice_read_if2
-    shared_slice_read_if2_2
-    returns_2
-    add_i
-    loop_less
-    loop_again
-    returns_3)
+    invariant-loop-i
+    decreases-loop-i
+    returns-then-part-characters
+    loop-i-init
+    bounds-part-i
+    bounds-characters-i
+    returns-then-part-i
+    overflow_add-i
+    loop-i-smaller
+    loop-i-preserved
+    returns)

@@ -3,14 +3,14 @@ use Rattle.answers.proofs.Begins.{begins_two}
 use Rattle.answers.proofs.begins_with_two.Statement.{statement}
 use Rattle.answers.proofs.begins_with_two.Tie as tie
 
-stands_at_requires : tie.Need-stands-at-requires
-stands_at_requires c κs = tt
+stands_at-requires : tie.Need-stands_at-requires
+stands_at-requires c κs = tt
 
-stands_at_requires_2 : tie.Need-stands-at-requires-2
-stands_at_requires_2 c κs = tt
+stands_at-requires-2 : tie.Need-stands_at-requires-2
+stands_at-requires-2 c κs = tt
 
 returns : tie.Need-returns
-returns c = rw (c.before.stands_at.ensures, c.stands-at2.ensures) (begins_two _ _ _)
+returns c = rw (c.stands_at.ensures, c.stands_at-2.ensures) (begins_two _ _ _)
 
 pub begins_with_two_spec : {M : Type 1} → statement M
-begins_with_two_spec = tie.close (tie.spec stands_at_requires stands_at_requires_2 returns)
+begins_with_two_spec = tie.close (tie.spec stands_at-requires stands_at-requires-2 returns)

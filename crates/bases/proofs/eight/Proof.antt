@@ -5,59 +5,59 @@ use Rattle.bases.proofs.Groups.{reads_is}
 use Rattle.bases.proofs.eight.Statement.{statement}
 use Rattle.bases.proofs.eight.Tie as tie
 
-shared_slice_read_four : tie.Need-shared-slice-read-four
-shared_slice_read_four c = search rules
+bounds-bytes-0 : tie.Need-bounds-bytes-0
+bounds-bytes-0 c = search rules
 
-shared_slice_read_four_2 : tie.Need-shared-slice-read-four-2
-shared_slice_read_four_2 c = search rules
+bounds-bytes-1 : tie.Need-bounds-bytes-1
+bounds-bytes-1 c = search rules
 
-shared_slice_read_four_3 : tie.Need-shared-slice-read-four-3
-shared_slice_read_four_3 c = search rules
+bounds-bytes-2 : tie.Need-bounds-bytes-2
+bounds-bytes-2 c = search rules
 
-shared_slice_read_four_4 : tie.Need-shared-slice-read-four-4
-shared_slice_read_four_4 c = search rules
+bounds-bytes-3 : tie.Need-bounds-bytes-3
+bounds-bytes-3 c = search rules
 
-four_requires : tie.Need-four-requires
-four_requires c κs = search rules
+four-low-requires : tie.Need-four-low-requires
+four-low-requires c κs = search rules
 
-shared_slice_read_four_5 : tie.Need-shared-slice-read-four-5
-shared_slice_read_four_5 c = search rules
+bounds-bytes-4 : tie.Need-bounds-bytes-4
+bounds-bytes-4 c = search rules
 
-shared_slice_read_four_6 : tie.Need-shared-slice-read-four-6
-shared_slice_read_four_6 c = search rules
+bounds-bytes-5 : tie.Need-bounds-bytes-5
+bounds-bytes-5 c = search rules
 
-shared_slice_read_four_7 : tie.Need-shared-slice-read-four-7
-shared_slice_read_four_7 c = search rules
+bounds-bytes-6 : tie.Need-bounds-bytes-6
+bounds-bytes-6 c = search rules
 
-shared_slice_read_four_8 : tie.Need-shared-slice-read-four-8
-shared_slice_read_four_8 c = search rules
+bounds-bytes-7 : tie.Need-bounds-bytes-7
+bounds-bytes-7 c = search rules
 
-four_requires_2 : tie.Need-four-requires-2
-four_requires_2 c κs = search rules
+four-high-requires : tie.Need-four-high-requires
+four-high-requires c κs = search rules
 
-mul_result : tie.Need-overflow-mul-result
-mul_result c = omega arith
+overflow_mul-result : tie.Need-overflow_mul-result
+overflow_mul-result c = omega arith
 
-add_result : tie.Need-overflow-add-result
-add_result c = omega arith
+overflow_add-result : tie.Need-overflow_add-result
+overflow_add-result c = omega arith
 
 returns : tie.Need-returns
-returns c = omega (arith, reads_is 256 8 c.before.before.before.before.before.before.before.before.before.before.before.args.bytes.now c.before.before.before.before.before.before.before.before.before.before.before.requires)
+returns c = omega (arith, reads_is 256 8 c.args.bytes.now c.requires)
 
 pub eight_spec : {M : Type 1} → statement M
 eight_spec =
     tie.close
     (tie.spec
-    shared_slice_read_four
-    shared_slice_read_four_2
-    shared_slice_read_four_3
-    shared_slice_read_four_4
-    four_requires
-    shared_slice_read_four_5
-    shared_slice_read_four_6
-    shared_slice_read_four_7
-    shared_slice_read_four_8
-    four_requires_2
-    mul_result
-    add_result
+    bounds-bytes-0
+    bounds-bytes-1
+    bounds-bytes-2
+    bounds-bytes-3
+    four-low-requires
+    bounds-bytes-4
+    bounds-bytes-5
+    bounds-bytes-6
+    bounds-bytes-7
+    four-high-requires
+    overflow_mul-result
+    overflow_add-result
     returns)

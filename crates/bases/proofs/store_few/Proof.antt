@@ -6,55 +6,55 @@ use Rattle.bases.proofs.Groups.{Stored, none_stored, one_stored}
 use Rattle.bases.proofs.store_few.Statement.{statement}
 use Rattle.bases.proofs.store_few.Tie as tie
 
-abbrev invariant_loop : tie.invariant_loop
-invariant_loop out₀ count whole base held₀ j₀ out held j = (j ≤ count) × Stored base whole out₀ out j held
+abbrev invariant-loop-j : tie.invariant-loop-j
+invariant-loop-j out₀ count whole base held₀ j₀ out held j = (j ≤ count) × Stored base whole out₀ out j held
 
-abbrev decreases_loop : tie.decreases_loop
-decreases_loop out₀ count whole base held₀ j₀ out held j = count - j
+abbrev decreases-loop-j : tie.decreases-loop-j
+decreases-loop-j out₀ count whole base held₀ j₀ out held j = count - j
 
-loop_holds : tie.Need-loop-init invariant_loop decreases_loop
-loop_holds c = (omega arith, none_stored _ _ _)
+loop-j-init : tie.Need-loop-j-init invariant-loop-j decreases-loop-j
+loop-j-init c = (omega arith, none_stored _ _ _)
 
-rem_out : tie.Need-nonzero-rem-out invariant_loop decreases_loop
-rem_out c = omega arith
+nonzero_rem-out : tie.Need-nonzero_rem-out invariant-loop-j decreases-loop-j
+nonzero_rem-out c = omega arith
 
-cast_out : tie.Need-overflow-cast-out invariant_loop decreases_loop
-cast_out c = omega (arith, mod-lt c.before.loop.held c.before.before.requires.1)
+overflow_cast-out : tie.Need-overflow_cast-out invariant-loop-j decreases-loop-j
+overflow_cast-out c = omega (arith, mod-lt c.loop-j.held c.requires.1)
 
-slice_write_out : tie.Need-slice-write-out invariant_loop decreases_loop
-slice_write_out c = omega arith
+bounds-out-j : tie.Need-bounds-out-j invariant-loop-j decreases-loop-j
+bounds-out-j c = omega arith
 
-div_held : tie.Need-nonzero-div-held invariant_loop decreases_loop
-div_held c = omega arith
+nonzero_div-held : tie.Need-nonzero_div-held invariant-loop-j decreases-loop-j
+nonzero_div-held c = omega arith
 
-add_j : tie.Need-overflow-add-j invariant_loop decreases_loop
-add_j c = omega arith
+overflow_add-j : tie.Need-overflow_add-j invariant-loop-j decreases-loop-j
+overflow_add-j c = omega arith
 
-loop_less : tie.Need-loop-smaller invariant_loop decreases_loop
-loop_less c = omega arith
+loop-j-smaller : tie.Need-loop-j-smaller invariant-loop-j decreases-loop-j
+loop-j-smaller c = omega arith
 
-loop_again : tie.Need-loop-preserved invariant_loop decreases_loop
-loop_again c = (omega arith, one_stored c.before.loop.invariant.1 (omega arith))
+loop-j-preserved : tie.Need-loop-j-preserved invariant-loop-j decreases-loop-j
+loop-j-preserved c = (omega arith, one_stored c.loop-j.invariant.1 (omega arith))
 
-same_length : tie.Need-same-length invariant_loop decreases_loop
-same_length c = c.before.loop.invariant.1.room
+shape_of-out : tie.Need-shape_of-out invariant-loop-j decreases-loop-j
+shape_of-out c = c.loop-j.invariant.1.room
 
-returns : tie.Need-returns invariant_loop decreases_loop
-returns c = rw (le_antisymm c.loop-test.false c.before.loop.invariant.0) c.before.loop.invariant.1.done
+returns : tie.Need-returns invariant-loop-j decreases-loop-j
+returns c = rw (le_antisymm c.loop-j-test.false c.loop-j.invariant.0) c.loop-j.invariant.1.done
 
 pub store_few_spec : {M : Type 1} → statement M
 store_few_spec =
     tie.close
     (tie.spec
-    invariant_loop
-    decreases_loop
-    loop_holds
-    rem_out
-    cast_out
-    slice_write_out
-    div_held
-    add_j
-    loop_less
-    loop_again
-    same_length
+    invariant-loop-j
+    decreases-loop-j
+    loop-j-init
+    nonzero_rem-out
+    overflow_cast-out
+    bounds-out-j
+    nonzero_div-held
+    overflow_add-j
+    loop-j-smaller
+    loop-j-preserved
+    shape_of-out
     returns)

@@ -11,83 +11,79 @@ use Rattle.crews.proofs.Reading.{allowed_end, allowed_lead, allowed_twice, allow
 use Rattle.crews.proofs.are_allowed.Statement.{statement}
 use Rattle.crews.proofs.are_allowed.Tie as tie
 
-abbrev invariant_loop : tie.invariant_loop
-invariant_loop digits n i₀ i = (i ≤ n) × (codes_allowed (codes_in digits) ≡ codes_allowed (codes_in (drop (2 * i) digits)))
+abbrev invariant-loop-i : tie.invariant-loop-i
+invariant-loop-i digits n i₀ i = (i ≤ n) × (codes_allowed (codes_in digits) ≡ codes_allowed (codes_in (drop (2 * i) digits)))
 
-abbrev decreases_loop : tie.decreases_loop
-decreases_loop digits n i₀ i = n - i
+abbrev decreases-loop-i : tie.decreases-loop-i
+decreases-loop-i digits n i₀ i = n - i
 
-loop_holds : tie.Need-loop-init invariant_loop decreases_loop
-loop_holds c = (omega arith, refl)
+loop-i-init : tie.Need-loop-i-init invariant-loop-i decreases-loop-i
+loop-i-init c = (omega arith, refl)
 
-code_at_requires : tie.Need-code-at-requires invariant_loop decreases_loop
-code_at_requires c κs = (c.before.before.before.requires, omega arith)
+code_at-code-requires : tie.Need-code_at-code-requires invariant-loop-i decreases-loop-i
+code_at-code-requires c κs = (c.requires, omega arith)
 
-returns : tie.Need-returns invariant_loop decreases_loop
-returns c = allowed_lead _ _ c.before.before.before.loop.invariant.1 (omega arith) (sym c.before.code_at.ensures ∙ c.if1.true)
+returns-then-code-eq-LEAD_CODE : tie.Need-returns-then-code-eq-LEAD_CODE invariant-loop-i decreases-loop-i
+returns-then-code-eq-LEAD_CODE c = allowed_lead _ _ c.loop-i.invariant.1 (omega arith) (sym c.code_at-code.ensures ∙ c.if-code-eq-LEAD_CODE.true)
 
-add_i : tie.Need-overflow-add-i invariant_loop decreases_loop
-add_i c = omega arith
+overflow_add-i : tie.Need-overflow_add-i invariant-loop-i decreases-loop-i
+overflow_add-i c = omega arith
 
-mul_is_among : tie.Need-overflow-mul-is-among invariant_loop decreases_loop
-mul_is_among c = omega arith
+overflow_mul-i : tie.Need-overflow_mul-i invariant-loop-i decreases-loop-i
+overflow_mul-i c = omega arith
 
-sub_is_among : tie.Need-overflow-sub-is-among invariant_loop decreases_loop
-sub_is_among c = omega arith
+slice_bounds-is_among-count : tie.Need-slice_bounds-is_among-count invariant-loop-i decreases-loop-i
+slice_bounds-is_among-count c = omega arith
 
-part_is_among_start : tie.Need-slice-bounds-is-among-start invariant_loop decreases_loop
-part_is_among_start c = omega arith
+slice_bounds-is_among-start : tie.Need-slice_bounds-is_among-start invariant-loop-i decreases-loop-i
+slice_bounds-is_among-start c = omega arith
 
-part_is_among_end : tie.Need-slice-bounds-is-among-end invariant_loop decreases_loop
-part_is_among_end c = omega arith
+slice_bounds-is_among-end : tie.Need-slice_bounds-is_among-end invariant-loop-i decreases-loop-i
+slice_bounds-is_among-end c = omega arith
 
-is_among_requires : tie.Need-is-among-requires invariant_loop decreases_loop
-is_among_requires c κs =
-    let l = c.before.before.before.before in
-    let s = l.before.before in
-    rw rest_of (each_drop is_digit s.args.digits.now (2 * (l.loop.i + 1)) s.requires)
+is_among-requires : tie.Need-is_among-requires invariant-loop-i decreases-loop-i
+is_among-requires c κs =
+    rw rest_of (each_drop is_digit c.args.digits.now (2 * (c.loop-i.i + 1)) c.requires)
 
 -- whether the code stands among those behind it
 among :
-    (c : tie.After-is-among invariant_loop decreases_loop) → let l = c.before.before.before.before.before in
-    let s = l.before.before.args.digits.now in
-    c.is_among.result ≡ is_in (code_at s l.loop.i) (codes_in (drop (2 * (l.loop.i + 1)) s))
-among c = rw (← c.before.before.before.code_at.ensures) (rw rest_of at c.is_among.ensures)
+    (c : tie.After-is_among invariant-loop-i decreases-loop-i) → let s = c.args.digits.now in
+    c.is_among.result ≡ is_in (code_at s c.loop-i.i) (codes_in (drop (2 * (c.loop-i.i + 1)) s))
+among c = rw (← c.code_at-code.ensures) (rw rest_of at c.is_among.ensures)
 
-returns_2 : tie.Need-returns-2 invariant_loop decreases_loop
-returns_2 c =
-    allowed_twice _ _ c.before.before.before.before.before.before.loop.invariant.1 (omega arith) (sym (among c.before) ∙ c.if2.true)
+returns-then-is_among : tie.Need-returns-then-is_among invariant-loop-i decreases-loop-i
+returns-then-is_among c =
+    allowed_twice _ _ c.loop-i.invariant.1 (omega arith) (sym (among c.before) ∙ c.if-is_among.true)
 
-loop_less : tie.Need-loop-smaller invariant_loop decreases_loop
-loop_less c = omega arith
+loop-i-smaller : tie.Need-loop-i-smaller invariant-loop-i decreases-loop-i
+loop-i-smaller c = omega arith
 
-loop_again : tie.Need-loop-preserved invariant_loop decreases_loop
-loop_again c =
-    let e = c.before.before.before in
-    let l = e.before.before.before in (
+loop-i-preserved : tie.Need-loop-i-preserved invariant-loop-i decreases-loop-i
+loop-i-preserved c =
+    (
       omega arith,
-      allowed_step _ _ l.loop.invariant.1 (omega arith) l.before.before.requires (λ same. e.if1.false (e.before.code_at.ensures ∙ same)) (sym (among c.before) ∙ c.if2.false),
+      allowed_step _ _ c.loop-i.invariant.1 (omega arith) c.requires (λ same. c.if-code-eq-LEAD_CODE.false (c.code_at-code.ensures ∙ same)) (sym (among c.before) ∙ c.if-is_among.false),
     )
 
-returns_3 : tie.Need-returns-3 invariant_loop decreases_loop
-returns_3 c = allowed_end _ _ c.before.loop.invariant.1 c.loop-test.false
+returns : tie.Need-returns invariant-loop-i decreases-loop-i
+returns c = allowed_end _ _ c.loop-i.invariant.1 c.loop-i-test.false
 
 pub are_allowed_spec : {M : Type 1} → statement M
 are_allowed_spec =
     tie.close
     (tie.spec
-    invariant_loop
-    decreases_loop
-    loop_holds
-    code_at_requires
-    returns
-    add_i
-    mul_is_among
-    sub_is_among
-    part_is_among_start
-    part_is_among_end
-    is_among_requires
-    returns_2
-    loop_less
-    loop_again
-    returns_3)
+    invariant-loop-i
+    decreases-loop-i
+    loop-i-init
+    code_at-code-requires
+    returns-then-code-eq-LEAD_CODE
+    overflow_add-i
+    overflow_mul-i
+    slice_bounds-is_among-count
+    slice_bounds-is_among-start
+    slice_bounds-is_among-end
+    is_among-requires
+    returns-then-is_among
+    loop-i-smaller
+    loop-i-preserved
+    returns)

@@ -11,44 +11,42 @@ use Rattle.crews.proofs.Steps.{codes_other, codes_odd, codes_many, codes_not, co
 use Rattle.crews.proofs.read_codes.Statement.{statement}
 use Rattle.crews.proofs.read_codes.Tie as tie
 
-leading_digits_requires : tie.Need-leading-digits-requires
-leading_digits_requires c κs = search rules
+leading_digits-requires : tie.Need-leading_digits-requires
+leading_digits-requires c κs = search rules
 
-returns : tie.Need-returns
-returns c = codes_other _ (each_leading is_digit _ ∙ ne_eqb _ _ (λ e. c.if1.true (c.before.leading-digits.ensures ∙ e)))
+returns-then-leading_digits-part : tie.Need-returns-then-leading_digits-part
+returns-then-leading_digits-part c = codes_other _ (each_leading is_digit _ ∙ ne_eqb _ _ (λ e. c.if-leading_digits-part.true (c.leading_digits.ensures ∙ e)))
 
 -- digits up to the end
-digits : (c : tie.Else1) → are_digits c.before.before.before.args.part.now ≡ true
-digits c = each_leading is_digit _ ∙ eq-eqb _ _ (sym c.before.leading-digits.ensures ∙ c.if1.false)
+digits : (c : tie.Else-leading_digits-part) → are_digits c.args.part.now ≡ true
+digits c = each_leading is_digit _ ∙ eq-eqb _ _ (sym c.leading_digits.ensures ∙ c.if-leading_digits-part.false)
 
-returns_2 : tie.Need-returns-2
-returns_2 c = codes_odd _ c.if2.true
+returns-then-part-ne0 : tie.Need-returns-then-part-ne0
+returns-then-part-ne0 c = codes_odd _ c.if-part-ne0.true
 
-returns_3 : tie.Need-returns-3
-returns_3 c = codes_many _ (digits c.before.before) c.before.if2.false (omega arith)
+returns-then-n-gt-MOST_CODES : tie.Need-returns-then-n-gt-MOST_CODES
+returns-then-n-gt-MOST_CODES c = codes_many _ (digits c.before.before) c.if-part-ne0.false (omega arith)
 
-are_allowed_requires : tie.Need-are-allowed-requires
-are_allowed_requires c κs = digits c.before.before
+are_allowed-requires : tie.Need-are_allowed-requires
+are_allowed-requires c κs = digits c.before.before
 
-returns_4 : tie.Need-returns-4
-returns_4 c =
-    let e = c.before.before.before in
-    codes_not _ (digits e.before) e.if2.false (sym c.before.are-allowed.ensures ∙ not-true _ c.if4.true)
+returns-then-not-are_allowed : tie.Need-returns-then-not-are_allowed
+returns-then-not-are_allowed c =
+    codes_not _ (digits c.before.before.before.before) c.if-part-ne0.false (sym c.are_allowed.ensures ∙ not-true _ c.if-not-are_allowed.true-raw)
 
-returns_5 : tie.Need-returns-5
-returns_5 c =
-    let e = c.before.before.before in
-    let s = e.before.before.before.before.args.part.now in
-    (_, codes_read_lem s (digits e.before) e.if2.false (omega arith) (sym c.before.are-allowed.ensures ∙ not-false _ c.if4.false), sym (length_codes_in s))
+returns : tie.Need-returns
+returns c =
+    let s = c.args.part.now in
+    (_, codes_read_lem s (digits c.before.before.before.before) c.if-part-ne0.false (omega arith) (sym c.are_allowed.ensures ∙ not-false _ c.if-not-are_allowed.false-raw), sym (length_codes_in s))
 
 pub read_codes_spec : {M : Type 1} → statement M
 read_codes_spec =
     tie.close
     (tie.spec
-    leading_digits_requires
-    returns
-    returns_2
-    returns_3
-    are_allowed_requires
-    returns_4
-    returns_5)
+    leading_digits-requires
+    returns-then-leading_digits-part
+    returns-then-part-ne0
+    returns-then-n-gt-MOST_CODES
+    are_allowed-requires
+    returns-then-not-are_allowed
+    returns)

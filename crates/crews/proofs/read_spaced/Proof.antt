@@ -12,69 +12,65 @@ use Rattle.crews.proofs.Steps.{spaced_none, spaced_other, spaced_unread, spaced_
 use Rattle.crews.proofs.read_spaced.Statement.{statement}
 use Rattle.crews.proofs.read_spaced.Tie as tie
 
-returns : tie.Need-returns
-returns c = ([], spaced_none _ c.if1.true, refl)
+returns-then-part-eq0 : tie.Need-returns-then-part-eq0
+returns-then-part-eq0 c = ([], spaced_none _ c.if-part-eq0.true, refl)
 
-shared_slice_read_if2 : tie.Need-shared-slice-read-if2
-shared_slice_read_if2 c = search rules
+bounds-part-0 : tie.Need-bounds-part-0
+bounds-part-0 c = search rules
 
-returns_2 : tie.Need-returns-2
-returns_2 c = spaced_other _ (omega arith) c.if2.true
+returns-then-part-ne32 : tie.Need-returns-then-part-ne32
+returns-then-part-ne32 c = spaced_other _ (omega arith) c.if-part-ne32.true
 
-sub_read_codes : tie.Need-overflow-sub-read-codes
-sub_read_codes c = search rules
+slice_bounds-read_codes-count : tie.Need-slice_bounds-read_codes-count
+slice_bounds-read_codes-count c = search rules
 
-part_read_codes_start : tie.Need-slice-bounds-read-codes-start
-part_read_codes_start c = search rules
+slice_bounds-read_codes-start : tie.Need-slice_bounds-read_codes-start
+slice_bounds-read_codes-start c = search rules
 
-part_read_codes_end : tie.Need-slice-bounds-read-codes-end
-part_read_codes_end c = search rules
+slice_bounds-read_codes-end : tie.Need-slice_bounds-read_codes-end
+slice_bounds-read_codes-end c = search rules
 
-read_codes_requires : tie.Need-read-codes-requires
-read_codes_requires c κs = search rules
+read_codes-requires : tie.Need-read_codes-requires
+read_codes-requires c κs = search rules
 
-enum_known_n : tie.Need-enum-known-n
-enum_known_n c = search rules
+enum_known-n : tie.Need-enum_known-n
+enum_known-n c = search rules
 
-enum_told : tie.Need-enum-told
-enum_told c = search rules
+enum_told-1 : tie.Need-enum_told-1
+enum_told-1 c = search rules
 
-returns_3 : tie.Need-returns-3
-returns_3 c =
-    let r = c.before.before in
-    spaced_unread _ r.before.before.if2.false (rw rest_of at (rw c.enum_told.given.1 at r.read-codes.ensures))
+returns-in_default : tie.Need-returns-in_default
+returns-in_default c =
+    spaced_unread _ c.if-part-ne32.false (rw rest_of at (rw c.in_default.is at c.read_codes.ensures))
 
 -- the codes behind the space
 read :
-    (c : tie.After-n) → let s = c.before.before.before.before.before.before.before.before in
-    (codes : List ℕ) × (sound_codes_at (drop 1 s.args.part.now) ≡ some codes) × (c.n.given.0.0 ≡ length codes)
-read c = rw rest_of at (rw c.n.given.1 at c.before.before.read-codes.ensures)
+    (c : tie.In-Read) → (codes : List ℕ) × (sound_codes_at (drop 1 c.args.part.now) ≡ some codes) × (c.in-Read.n ≡ length codes)
+read c = rw rest_of at (rw c.in-Read.is at c.read_codes.ensures)
 
-returns_4 : tie.Need-returns-4
-returns_4 c =
-    let n = c.before.before in
-    let r = read n in
-    spaced_empty _ n.before.before.before.before.if2.false r.1 (sym r.2 ∙ c.if3.true)
+returns-then-n-eq0 : tie.Need-returns-then-n-eq0
+returns-then-n-eq0 c =
+    let r = read c.before in
+    spaced_empty _ c.if-part-ne32.false r.1 (sym r.2 ∙ c.if-n-eq0.true)
 
-returns_5 : tie.Need-returns-5
-returns_5 c =
-    let n = c.before.before in
-    let r = read n in
-    (r.0, spaced_read _ n.before.before.before.before.if2.false r.1 (omega (arith, r.2)), r.2)
+returns : tie.Need-returns
+returns c =
+    let r = read c.before in
+    (r.0, spaced_read _ c.if-part-ne32.false r.1 (omega (arith, r.2)), r.2)
 
 pub read_spaced_spec : {M : Type 1} → statement M
 read_spaced_spec =
     tie.close
     (tie.spec
-    returns
-    shared_slice_read_if2
-    returns_2
-    sub_read_codes
-    part_read_codes_start
-    part_read_codes_end
-    read_codes_requires
-    enum_known_n
-    enum_told
-    returns_3
-    returns_4
-    returns_5)
+    returns-then-part-eq0
+    bounds-part-0
+    returns-then-part-ne32
+    slice_bounds-read_codes-count
+    slice_bounds-read_codes-start
+    slice_bounds-read_codes-end
+    read_codes-requires
+    enum_known-n
+    enum_told-1
+    returns-in_default
+    returns-then-n-eq0
+    returns)

@@ -5,45 +5,41 @@ use Rattle.exchange.proofs.Framed.{answered_inside, reply_fits}
 use Rattle.exchange.proofs.ask_inside.Statement.{statement}
 use Rattle.exchange.proofs.ask_inside.Tie as tie
 
-slice_aggregate_ask_string : tie.Need-slice-aggregate-ask-string
-slice_aggregate_ask_string c = search rules
+slice_bounds-ask_string-end : tie.Need-slice_bounds-ask_string-end
+slice_bounds-ask_string-end c = search rules
 
-ask_string_requires : tie.Need-ask-string-requires
-ask_string_requires c κs = search rules
+ask_string-answer-requires : tie.Need-ask_string-answer-requires
+ask_string-answer-requires c κs = search rules
 
-slice_aggregate_put_answer : tie.Need-slice-aggregate-put-answer
-slice_aggregate_put_answer c = search rules
+slice_bounds-put_answer-end : tie.Need-slice_bounds-put_answer-end
+slice_bounds-put_answer-end c = search rules
 
-put_answer_requires : tie.Need-put-answer-requires
-put_answer_requires c κs =
-    let a = c.before.before.before.before.before.before.before in
-    let s = a.before.before.before.before.before.before.before.before.before in
-    (reply_fits _ _ _ s.args.requester _ _ _ _ _ a.ask-string.ensures (omega arith), s.requires.2)
+put_answer-requires : tie.Need-put_answer-requires
+put_answer-requires c κs =
+    (reply_fits _ _ _ c.args.requester _ _ _ _ _ c.ask_string-answer.ensures (omega arith), c.requires.2)
 
-same_length : tie.Need-same-length
-same_length c = search rules
+shape_of-table : tie.Need-shape_of-table
+shape_of-table c = search rules
 
-same_length_2 : tie.Need-same-length-2
-same_length_2 c = search rules
+shape_of-figures : tie.Need-shape_of-figures
+shape_of-figures c = search rules
 
-same_length_3 : tie.Need-same-length-3
-same_length_3 c = search rules
+shape_of-frame : tie.Need-shape_of-frame
+shape_of-frame c = search rules
 
 returns : tie.Need-returns
 returns c =
-    let p = c.before.before in
-    let a = p.before.before.before.before.before.before.before.before in
-    answered_inside _ _ _ _ _ _ _ _ _ a.ask-string.ensures p.put-answer.ensures
+    answered_inside _ _ _ _ _ _ _ _ _ c.ask_string-answer.ensures c.put_answer.ensures
 
 pub ask_inside_spec : {M : Type 1} → statement M
 ask_inside_spec =
     tie.close
     (tie.spec
-    slice_aggregate_ask_string
-    ask_string_requires
-    slice_aggregate_put_answer
-    put_answer_requires
-    same_length
-    same_length_2
-    same_length_3
+    slice_bounds-ask_string-end
+    ask_string-answer-requires
+    slice_bounds-put_answer-end
+    put_answer-requires
+    shape_of-table
+    shape_of-figures
+    shape_of-frame
     returns)

@@ -37,165 +37,150 @@ Q s = s.args.requester
 abbrev M : tie.Start → List ℕ
 M s = s.args.message.now
 
-abbrev from1 : tie.Else1 → tie.Start
+abbrev from1 : tie.Else-frame-lt-FRAME_ROOM → tie.Start
 from1 c = c.before.before.before.before.before.before
-
-room : (c : tie.Else1) → frame_room ≤ length (F (from1 c))
-room c = c.if1.false
+room : (c : tie.Else-frame-lt-FRAME_ROOM) → frame_room ≤ length (F (from1 c))
+room c = c.if-frame-lt-FRAME_ROOM.false
 
 -- a Register right up to its invoke number
-abbrev reader : tie.After-known-told → tie.After-read-register
-reader c = c.before.before.before
-
-abbrev asker : tie.After-known-told → tie.Start
+abbrev reader : tie.In-Numbered → tie.After-read_register
+reader c = c.before
+abbrev asker : tie.In-Numbered → tie.Start
 asker c = from1 (reader c).before
 
-abbrev body : tie.After-known-told → Body
-body c = c.before.first.given.0.1.1.0
+abbrev body : tie.In-Numbered → Body
+body c = c.in-Numbered.body
 
-abbrev R : tie.After-known-told → Register
-R c = let g = c.before.first.given.0 in
-    record { first = g.0; number = g.1.0; body = told_body (body c) (take (length (M (asker c)) - length version) (M (asker c))) }
+abbrev R : tie.In-Numbered → Register
+R c = record { first = c.in-Numbered.first; number = c.in-Numbered.number; body = told_body (body c) (take (length (M (asker c)) - length version) (M (asker c))) }
 
-reads : (c : tie.After-known-told) → register_of (M (asker c)) ≡ some (R c)
-reads c = was_numbered (M (asker c)) _ (reader c).read-register.ensures _ _ (body c) c.before.first.given.1
+reads : (c : tie.In-Numbered) → register_of (M (asker c)) ≡ some (R c)
+reads c = was_numbered (M (asker c)) _ (reader c).read_register.ensures _ _ (body c) c.in-Numbered.is
 
 -- what a passed check says
-abbrev up2 : tie.Else2 → tie.After-known-told
+abbrev up2 : tie.Else-not-list_sound → tie.In-Numbered
 up2 c = c.before.before
+abbrev up3 : tie.Else-refused-ne0 → tie.Else-not-list_sound
+up3 c = c.before.before
+sound_list : (c : tie.Else-not-list_sound) → list_sound (L (asker (up2 c))) ≡ true
+sound_list c = sym c.list_sound.ensures ∙ not-false _ c.if-not-list_sound.false-raw
 
-abbrev up3 : tie.Else3 → tie.Else2
-up3 c = c.before.before.before.before
+sound_state : (c : tie.Else-refused-ne0) → state_sound (T (asker (up2 (up3 c)))) ≡ true
+sound_state c = state_passes _ _ c.refusal-refused.ensures c.if-refused-ne0.false
 
-sound_list : (c : tie.Else2) → list_sound (L (asker (up2 c))) ≡ true
-sound_list c = sym c.before.list-sound.ensures ∙ not-false _ c.if2.false
+returns-then-frame-lt-FRAME_ROOM : tie.Need-returns-then-frame-lt-FRAME_ROOM
+returns-then-frame-lt-FRAME_ROOM c = refused_1 (T c.before.before.before.before.before.before) (L c.before.before.before.before.before.before) (F c.before.before.before.before.before.before) (Q c.before.before.before.before.before.before) (M c.before.before.before.before.before.before) c.if-frame-lt-FRAME_ROOM.true
 
-sound_state : (c : tie.Else3) → state_sound (T (asker (up2 (up3 c)))) ≡ true
-sound_state c = state_passes _ _ c.before.refusal.ensures c.if3.false
+read_register-requires : tie.Need-read_register-requires
+read_register-requires c κs = search rules
 
-returns : tie.Need-returns
-returns c = let s = c.before.before.before.before.before.before in refused_1 (T s) (L s) (F s) (Q s) (M s) c.if1.true
+enum_known-first : tie.Need-enum_known-first
+enum_known-first c = search rules
 
-read_register_requires : tie.Need-read-register-requires
-read_register_requires c κs = search rules
+enum_told-1 : tie.Need-enum_told-1
+enum_told-1 c = search rules
 
-enum_known_first : tie.Need-enum-known-first
-enum_known_first c = search rules
+returns-in_default : tie.Need-returns-in_default
+returns-in_default c =
+    let s = from1 c.before.before in
+    refused_11 (T s) (L s) (F s) (Q s) (M s) (room c.before.before) (not_numbered (M s) _ c.read_register.ensures c.in_default.is)
 
-enum_told : tie.Need-enum-told
-enum_told c = search rules
+list_sound-requires : tie.Need-list_sound-requires
+list_sound-requires c κs = search rules
 
-returns_2 : tie.Need-returns-2
-returns_2 c =
-    let r = c.before.before in
-    let s = from1 r.before in
-    refused_11 (T s) (L s) (F s) (Q s) (M s) (room r.before) (not_numbered (M s) _ r.read-register.ensures c.enum_told.given.1)
+returns-then-not-list_sound : tie.Need-returns-then-not-list_sound
+returns-then-not-list_sound c =
+    let s = asker c.before.before in
+    refused_8 (T s) (L s) (F s) (Q s) (M s) (room (reader c.before.before).before) (R c.before.before) (reads c.before.before) (sym c.list_sound.ensures ∙ not-true _ c.if-not-list_sound.true-raw)
 
-list_sound_requires : tie.Need-list-sound-requires
-list_sound_requires c κs = search rules
+refusal-refused-requires : tie.Need-refusal-refused-requires
+refusal-refused-requires c κs = search rules
 
-returns_3 : tie.Need-returns-3
-returns_3 c =
-    let k = c.before.before in
+shape_of-table-then-refused-ne0 : tie.Need-shape_of-table-then-refused-ne0
+shape_of-table-then-refused-ne0 c = search rules
+
+shape_of-figures-then-refused-ne0 : tie.Need-shape_of-figures-then-refused-ne0
+shape_of-figures-then-refused-ne0 c = search rules
+
+returns-then-refused-ne0 : tie.Need-returns-then-refused-ne0
+returns-then-refused-ne0 c =
+    let k = up2 c.before.before in
     let s = asker k in
-    refused_8 (T s) (L s) (F s) (Q s) (M s) (room (reader k).before) (R k) (reads k) (sym c.before.list-sound.ensures ∙ not-true _ c.if2.true)
+    refused_state (T s) (L s) (F s) (Q s) (M s) (room (reader k).before) (R k) (reads k) (sound_list c.before.before) _ c.refusal-refused.ensures c.if-refused-ne0.true
 
-refusal_requires : tie.Need-refusal-requires
-refusal_requires c κs = search rules
+enum_known-body : tie.Need-enum_known-body
+enum_known-body c = search rules
 
-same_length : tie.Need-same-length
-same_length c = search rules
+write_reject-count-requires : tie.Need-write_reject-count-requires
+write_reject-count-requires c κs =
+    room (reader (up2 (up3 c.before.before))).before
 
-same_length_2 : tie.Need-same-length-2
-same_length_2 c = search rules
-
-returns_4 : tie.Need-returns-4
-returns_4 c =
-    let e = c.before.before.before.before in
-    let k = up2 e in
-    let s = asker k in
-    refused_state (T s) (L s) (F s) (Q s) (M s) (room (reader k).before) (R k) (reads k) (sound_list e) _ c.before.refusal.ensures c.if3.true
-
-enum_known_body : tie.Need-enum-known-body
-enum_known_body c = search rules
-
-write_reject_requires : tie.Need-write-reject-requires
-write_reject_requires c κs =
-    let e = c.before.before.before.before in
-    room (reader (up2 (up3 e))).before
-
-enum_known_body_2 : tie.Need-enum-known-body-2
-enum_known_body_2 c = search rules
+enum_known-body-in-Asks-1 : tie.Need-enum_known-body-in-Asks-1
+enum_known-body-in-Asks-1 c = search rules
 
 -- the string inside
-abbrev passed : tie.After-known-told3 → tie.Else3
-passed c = c.before.before.before
-
-abbrev numbered : tie.After-known-told3 → tie.After-known-told
+abbrev passed : tie.In-Asks → tie.Else-refused-ne0
+passed c = c.before
+abbrev numbered : tie.In-Asks → tie.In-Numbered
 numbered c = up2 (up3 (passed c))
 
-sub_end : tie.Need-overflow-sub-end
-sub_end c =
+overflow_sub-end : tie.Need-overflow_sub-end
+overflow_sub-end c =
     let k = numbered c in
-    version_within (M (asker k)) _ (reader k).read-register.ensures _ _ (body k) k.before.first.given.1 _ _ c.before.body2.given.1
+    version_within (M (asker k)) _ (reader k).read_register.ensures _ _ (body k) k.in-Numbered.is _ _ c.in-Asks.is
 
-sub_string : tie.Need-overflow-sub-string
-sub_string c =
+overflow_sub-string : tie.Need-overflow_sub-string
+overflow_sub-string c =
     let k = numbered c in
-    count_within (M (asker k)) _ (reader k).read-register.ensures _ _ (body k) k.before.first.given.1 _ _ c.before.body2.given.1
+    count_within (M (asker k)) _ (reader k).read_register.ensures _ _ (body k) k.in-Numbered.is _ _ c.in-Asks.is
 
-sub_string_2 : tie.Need-overflow-sub-string-2
-sub_string_2 c = search rules
+slice_bounds-string-count : tie.Need-slice_bounds-string-count
+slice_bounds-string-count c = search rules
 
-part_string_start : tie.Need-slice-bounds-string-start
-part_string_start c = search rules
+slice_bounds-string-start : tie.Need-slice_bounds-string-start
+slice_bounds-string-start c = search rules
 
-part_string_end : tie.Need-slice-bounds-string-end
-part_string_end c = search rules
+slice_bounds-string-end : tie.Need-slice_bounds-string-end
+slice_bounds-string-end c = search rules
 
-ask_inside_requires : tie.Need-ask-inside-requires
-ask_inside_requires c κs =
+ask_inside-requires : tie.Need-ask_inside-requires
+ask_inside-requires c κs =
     let e = passed c.before.before.before.before in
     (sound_state e, sound_list (up3 e), room (reader (up2 (up3 e))).before)
 
-same_length_3 : tie.Need-same-length-3
-same_length_3 c = search rules
+shape_of-table-in-Wrong : tie.Need-shape_of-table-in-Wrong
+shape_of-table-in-Wrong c = search rules
 
-same_length_4 : tie.Need-same-length-4
-same_length_4 c = search rules
+shape_of-figures-in-Wrong : tie.Need-shape_of-figures-in-Wrong
+shape_of-figures-in-Wrong c = search rules
 
-same_length_5 : tie.Need-same-length-5
-same_length_5 c = search rules
+shape_of-frame-in-Wrong : tie.Need-shape_of-frame-in-Wrong
+shape_of-frame-in-Wrong c = search rules
 
-returns_5 : tie.Need-returns-5
-returns_5 c =
-    let w = c.before.before in
-    let b = w.before.before in
-    let e = b.before.before.before in
+returns-in-Wrong : tie.Need-returns-in-Wrong
+returns-in-Wrong c =
+    let k = up2 (up3 c.before.before.before.before.before) in
+    let s = asker k in
+    rejected (T s) (L s) (F s) (Q s) (M s) (room (reader k).before) (R k) (reads k) (sound_list (up3 c.before.before.before.before.before)) (sound_state c.before.before.before.before.before) _ _ _
+    (ap (λ (x : Body). told_body x (take (length (M s) - length version) (M s))) c.in-Wrong.is) c.write_reject-count.ensures
+
+shape_of-table-in-Asks : tie.Need-shape_of-table-in-Asks
+shape_of-table-in-Asks c = search rules
+
+shape_of-figures-in-Asks : tie.Need-shape_of-figures-in-Asks
+shape_of-figures-in-Asks c = search rules
+
+shape_of-frame-in-Asks : tie.Need-shape_of-frame-in-Asks
+shape_of-frame-in-Asks c = search rules
+
+returns-in-Asks : tie.Need-returns-in-Asks
+returns-in-Asks c =
+    let e = passed c.before.before.before.before.before.before.before.before.before.before.before in
     let k = up2 (up3 e) in
     let s = asker k in
-    rejected (T s) (L s) (F s) (Q s) (M s) (room (reader k).before) (R k) (reads k) (sound_list (up3 e)) (sound_state e) _ _ _
-    (ap (λ (x : Body). told_body x (take (length (M s) - length version) (M s))) b.before.body.given.1) w.write-reject.ensures
-
-same_length_6 : tie.Need-same-length-6
-same_length_6 c = search rules
-
-same_length_7 : tie.Need-same-length-7
-same_length_7 c = search rules
-
-same_length_8 : tie.Need-same-length-8
-same_length_8 c = search rules
-
-returns_6 : tie.Need-returns-6
-returns_6 c =
-    let a = c.before.before.before.before.before.before in
-    let b = a.before.before.before.before.before in
-    let e = passed b in
-    let k = up2 (up3 e) in
-    let s = asker k in
-    let g = b.before.body2.given in
-    let place = string_place (M s) _ (reader k).read-register.ensures _ _ (body k) k.before.first.given.1 _ _ g.1 in
-    a.ask-inside.ensures
+    let g = c.body-in-Asks-1.given in
+    let place = string_place (M s) _ (reader k).read_register.ensures _ _ (body k) k.in-Numbered.is _ _ g.1 in
+    c.ask_inside.ensures
     ∙ ap (λ (x : List ℕ). in_frame (R k).first (R k).number (F s) (requesting (T s) (L s) own_reply (Q s) g.0.0 x)) place
     ∙ asked (T s) (L s) (F s) (Q s) (M s) (room (reader k).before) (R k) (reads k) (sound_list (up3 e)) (sound_state e) g.0.0 _
     (ap (λ (x : Body). told_body x (take (length (M s) - length version) (M s))) g.1)
@@ -204,31 +189,31 @@ pub framed_request_spec : {M : Type 1} → statement M
 framed_request_spec =
     tie.close
     (tie.spec
-    returns
-    read_register_requires
-    enum_known_first
-    enum_told
-    returns_2
-    list_sound_requires
-    returns_3
-    refusal_requires
-    same_length
-    same_length_2
-    returns_4
-    enum_known_body
-    write_reject_requires
-    enum_known_body_2
-    sub_end
-    sub_string
-    sub_string_2
-    part_string_start
-    part_string_end
-    ask_inside_requires
-    same_length_3
-    same_length_4
-    same_length_5
-    returns_5
-    same_length_6
-    same_length_7
-    same_length_8
-    returns_6)
+    returns-then-frame-lt-FRAME_ROOM
+    read_register-requires
+    enum_known-first
+    enum_told-1
+    returns-in_default
+    list_sound-requires
+    returns-then-not-list_sound
+    refusal-refused-requires
+    shape_of-table-then-refused-ne0
+    shape_of-figures-then-refused-ne0
+    returns-then-refused-ne0
+    enum_known-body
+    write_reject-count-requires
+    enum_known-body-in-Asks-1
+    overflow_sub-end
+    overflow_sub-string
+    slice_bounds-string-count
+    slice_bounds-string-start
+    slice_bounds-string-end
+    ask_inside-requires
+    shape_of-table-in-Wrong
+    shape_of-figures-in-Wrong
+    shape_of-frame-in-Wrong
+    returns-in-Wrong
+    shape_of-table-in-Asks
+    shape_of-figures-in-Asks
+    shape_of-frame-in-Asks
+    returns-in-Asks)

@@ -5,17 +5,17 @@ use Rattle.ffn_c.specs.Calls.{of_timetable}
 use Rattle.ffn_c.proofs.ffn_compact.Statement.{statement}
 use Rattle.ffn_c.proofs.ffn_compact.Tie as tie
 
-compact_requires : tie.Need-compact-requires
-compact_requires c κs = search rules
+compact-requires : tie.Need-compact-requires
+compact-requires c κs = search rules
 
-of_compacted_requires : tie.Need-of-compacted-requires
-of_compacted_requires c κs = search rules
+of_compacted-requires : tie.Need-of_compacted-requires
+of_compacted-requires c κs = search rules
 
-same_length : tie.Need-same-length
-same_length c = search rules
+shape_of-words : tie.Need-shape_of-words
+shape_of-words c = search rules
 
 returns : tie.Need-returns
-returns c = rw c.of-compacted.ensures (ap of_timetable c.before.before.before.compact.ensures)
+returns c = rw c.of_compacted.ensures (ap of_timetable c.compact.ensures)
 
 pub ffn_compact_spec : {M : Type 1} → statement M
-ffn_compact_spec = tie.close (tie.spec compact_requires of_compacted_requires same_length returns)
+ffn_compact_spec = tie.close (tie.spec compact-requires of_compacted-requires shape_of-words returns)

@@ -5,24 +5,24 @@ use Rattle.ffn_c.specs.Calls.{of_call}
 use Rattle.ffn_c.proofs.ffn_framed_request.Statement.{statement}
 use Rattle.ffn_c.proofs.ffn_framed_request.Tie as tie
 
-framed_request_requires : tie.Need-framed-request-requires
-framed_request_requires c κs = search rules
+framed_request-requires : tie.Need-framed_request-requires
+framed_request-requires c κs = search rules
 
-of_framed_requires : tie.Need-of-framed-requires
-of_framed_requires c κs = search rules
+of_framed-requires : tie.Need-of_framed-requires
+of_framed-requires c κs = search rules
 
-same_length : tie.Need-same-length
-same_length c = search rules
+shape_of-table : tie.Need-shape_of-table
+shape_of-table c = search rules
 
-same_length_2 : tie.Need-same-length-2
-same_length_2 c = search rules
+shape_of-figures : tie.Need-shape_of-figures
+shape_of-figures c = search rules
 
-same_length_3 : tie.Need-same-length-3
-same_length_3 c = search rules
+shape_of-frame : tie.Need-shape_of-frame
+shape_of-frame c = search rules
 
 returns : tie.Need-returns
-returns c = rw c.of-framed.ensures (ap of_call c.before.before.before.before.before.before.before.framed-request.ensures)
+returns c = rw c.of_framed.ensures (ap of_call c.framed_request.ensures)
 
 pub ffn_framed_request_spec : {M : Type 1} → statement M
 ffn_framed_request_spec =
-    tie.close (tie.spec framed_request_requires of_framed_requires same_length same_length_2 same_length_3 returns)
+    tie.close (tie.spec framed_request-requires of_framed-requires shape_of-table shape_of-figures shape_of-frame returns)

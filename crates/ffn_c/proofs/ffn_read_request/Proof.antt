@@ -6,46 +6,42 @@ use Rattle.ffn_c.proofs.Reader.{reads_error, reads_fields}
 use Rattle.ffn_c.proofs.ffn_read_request.Statement.{statement}
 use Rattle.ffn_c.proofs.ffn_read_request.Tie as tie
 
-read_request_requires : tie.Need-read-request-requires
-read_request_requires c κs = search rules
+read_request-read-requires : tie.Need-read_request-read-requires
+read_request-read-requires c κs = search rules
 
-enum_known_reading : tie.Need-enum-known-reading
-enum_known_reading c = search rules
+enum_known-reading : tie.Need-enum_known-reading
+enum_known-reading c = search rules
 
-enum_told : tie.Need-enum-told
-enum_told c = search rules
+enum_told-1 : tie.Need-enum_told-1
+enum_told-1 c = search rules
+
+returns-in_default : tie.Need-returns-in_default
+returns-in_default c =
+    reads_error _ _ c.read_request-read.result c.read_request-read.ensures c.in_default.is
+
+unpack-requires : tie.Need-unpack-requires
+unpack-requires c κs = search rules
+
+of_fields-requires : tie.Need-of_fields-requires
+of_fields-requires c κs = search rules
+
+shape_of-text : tie.Need-shape_of-text
+shape_of-text c = search rules
 
 returns : tie.Need-returns
 returns c =
-    let q = c.before.before in
-    reads_error _ _ q.read-request.result q.read-request.ensures c.enum_told.given.1
-
-unpack_requires : tie.Need-unpack-requires
-unpack_requires c κs = search rules
-
-of_fields_requires : tie.Need-of-fields-requires
-of_fields_requires c κs = search rules
-
-same_length : tie.Need-same-length
-same_length c = search rules
-
-returns_2 : tie.Need-returns-2
-returns_2 c =
-    let u = c.before.before.before in
-    let k = u.before.before.before in
-    let q = k.before.before in
-    rw (c.of_Fields.ensures, ap (λ (x : WriteOutcome). x.buffer) u.unpack.ensures)
-    (reads_fields _ _ q.read-request.result q.read-request.ensures _ k.reading.given.1)
+    rw (c.of_Fields.ensures, ap (λ (x : WriteOutcome). x.buffer) c.unpack.ensures)
+    (reads_fields _ _ c.read_request-read.result c.read_request-read.ensures _ c.in-Read.is)
 
 pub ffn_read_request_spec : {M : Type 1} → statement M
 ffn_read_request_spec =
     tie.close
     (tie.spec
-    read_request_requires
-    enum_known_reading
-    enum_told
-    returns
-    unpack_requires
-    of_fields_requires
-    same_length
-    returns_2)
+    read_request-read-requires
+    enum_known-reading
+    enum_told-1
+    returns-in_default
+    unpack-requires
+    of_fields-requires
+    shape_of-text
+    returns)

@@ -5,14 +5,14 @@ use Rattle.structs.specs.Figures.{of_figures}
 use Rattle.ffn_c.proofs.ffn_recount.Statement.{statement}
 use Rattle.ffn_c.proofs.ffn_recount.Tie as tie
 
-recount_requires : tie.Need-recount-requires
-recount_requires c κs = search rules
+recount-requires : tie.Need-recount-requires
+recount-requires c κs = search rules
 
-of_recount_requires : tie.Need-of-recount-requires
-of_recount_requires c κs = search rules
+of_recount-requires : tie.Need-of_recount-requires
+of_recount-requires c κs = search rules
 
 returns : tie.Need-returns
-returns c = rw c.of-recount.ensures (ap of_figures c.before.recount.ensures)
+returns c = rw c.of_recount.ensures (ap of_figures c.recount.ensures)
 
 pub ffn_recount_spec : {M : Type 1} → statement M
-ffn_recount_spec = tie.close (tie.spec recount_requires of_recount_requires returns)
+ffn_recount_spec = tie.close (tie.spec recount-requires of_recount-requires returns)

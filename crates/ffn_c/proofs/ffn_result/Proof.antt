@@ -5,20 +5,20 @@ use Rattle.ffn_c.specs.Calls.{of_call}
 use Rattle.ffn_c.proofs.ffn_result.Statement.{statement}
 use Rattle.ffn_c.proofs.ffn_result.Tie as tie
 
-result_requires : tie.Need-result-requires
-result_requires c κs = search rules
+result-requires : tie.Need-result-requires
+result-requires c κs = search rules
 
-of_result_requires : tie.Need-of-result-requires
-of_result_requires c κs = search rules
+of_result-requires : tie.Need-of_result-requires
+of_result-requires c κs = search rules
 
-same_length : tie.Need-same-length
-same_length c = search rules
+shape_of-table : tie.Need-shape_of-table
+shape_of-table c = search rules
 
-same_length_2 : tie.Need-same-length-2
-same_length_2 c = search rules
+shape_of-figures : tie.Need-shape_of-figures
+shape_of-figures c = search rules
 
 returns : tie.Need-returns
-returns c = rw c.of-result.ensures (ap of_call c.before.before.before.before.before.result.ensures)
+returns c = rw c.of_result.ensures (ap of_call c.result.ensures)
 
 pub ffn_result_spec : {M : Type 1} → statement M
-ffn_result_spec = tie.close (tie.spec result_requires of_result_requires same_length same_length_2 returns)
+ffn_result_spec = tie.close (tie.spec result-requires of_result-requires shape_of-table shape_of-figures returns)

@@ -5,14 +5,14 @@ use Rattle.structs_calls.specs.Routes.{of_route}
 use Rattle.ffn_c.proofs.ffn_routing.Statement.{statement}
 use Rattle.ffn_c.proofs.ffn_routing.Tie as tie
 
-routing_requires : tie.Need-routing-requires
-routing_requires c κs = search rules
+routing-requires : tie.Need-routing-requires
+routing-requires c κs = search rules
 
-of_routing_requires : tie.Need-of-routing-requires
-of_routing_requires c κs = search rules
+of_routing-requires : tie.Need-of_routing-requires
+of_routing-requires c κs = search rules
 
 returns : tie.Need-returns
-returns c = rw c.of-routing.ensures (ap of_route c.before.routing.ensures)
+returns c = rw c.of_routing.ensures (ap of_route c.routing.ensures)
 
 pub ffn_routing_spec : {M : Type 1} → statement M
-ffn_routing_spec = tie.close (tie.spec routing_requires of_routing_requires returns)
+ffn_routing_spec = tie.close (tie.spec routing-requires of_routing-requires returns)

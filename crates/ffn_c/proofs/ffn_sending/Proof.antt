@@ -5,24 +5,24 @@ use Rattle.ffn_c.specs.Calls.{of_call}
 use Rattle.ffn_c.proofs.ffn_sending.Statement.{statement}
 use Rattle.ffn_c.proofs.ffn_sending.Tie as tie
 
-sending_requires : tie.Need-sending-requires
-sending_requires c κs = search rules
+sending-requires : tie.Need-sending-requires
+sending-requires c κs = search rules
 
-of_sending_requires : tie.Need-of-sending-requires
-of_sending_requires c κs = search rules
+of_sending-requires : tie.Need-of_sending-requires
+of_sending-requires c κs = search rules
 
-same_length : tie.Need-same-length
-same_length c = search rules
+shape_of-table : tie.Need-shape_of-table
+shape_of-table c = search rules
 
-same_length_2 : tie.Need-same-length-2
-same_length_2 c = search rules
+shape_of-figures : tie.Need-shape_of-figures
+shape_of-figures c = search rules
 
-same_length_3 : tie.Need-same-length-3
-same_length_3 c = search rules
+shape_of-buffer : tie.Need-shape_of-buffer
+shape_of-buffer c = search rules
 
 returns : tie.Need-returns
-returns c = rw c.of-sending.ensures (ap of_call c.before.before.before.before.before.before.before.sending.ensures)
+returns c = rw c.of_sending.ensures (ap of_call c.sending.ensures)
 
 pub ffn_sending_spec : {M : Type 1} → statement M
 ffn_sending_spec =
-    tie.close (tie.spec sending_requires of_sending_requires same_length same_length_2 same_length_3 returns)
+    tie.close (tie.spec sending-requires of_sending-requires shape_of-table shape_of-figures shape_of-buffer returns)

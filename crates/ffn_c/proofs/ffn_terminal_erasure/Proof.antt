@@ -5,24 +5,24 @@ use Rattle.ffn_c.specs.Calls.{of_call}
 use Rattle.ffn_c.proofs.ffn_terminal_erasure.Statement.{statement}
 use Rattle.ffn_c.proofs.ffn_terminal_erasure.Tie as tie
 
-terminal_erasure_requires : tie.Need-terminal-erasure-requires
-terminal_erasure_requires c κs = search rules
+terminal_erasure-requires : tie.Need-terminal_erasure-requires
+terminal_erasure-requires c κs = search rules
 
-of_request_requires : tie.Need-of-request-requires
-of_request_requires c κs = search rules
+of_request-requires : tie.Need-of_request-requires
+of_request-requires c κs = search rules
 
-same_length : tie.Need-same-length
-same_length c = search rules
+shape_of-table : tie.Need-shape_of-table
+shape_of-table c = search rules
 
-same_length_2 : tie.Need-same-length-2
-same_length_2 c = search rules
+shape_of-figures : tie.Need-shape_of-figures
+shape_of-figures c = search rules
 
-same_length_3 : tie.Need-same-length-3
-same_length_3 c = search rules
+shape_of-reply : tie.Need-shape_of-reply
+shape_of-reply c = search rules
 
 returns : tie.Need-returns
-returns c = rw c.of-request.ensures (ap of_call c.before.before.before.before.before.before.before.terminal-erasure.ensures)
+returns c = rw c.of_request.ensures (ap of_call c.terminal_erasure.ensures)
 
 pub ffn_terminal_erasure_spec : {M : Type 1} → statement M
 ffn_terminal_erasure_spec =
-    tie.close (tie.spec terminal_erasure_requires of_request_requires same_length same_length_2 same_length_3 returns)
+    tie.close (tie.spec terminal_erasure-requires of_request-requires shape_of-table shape_of-figures shape_of-reply returns)

@@ -5,17 +5,17 @@ use Rattle.ffn_c.specs.Calls.{of_writer}
 use Rattle.ffn_c.proofs.ffn_write_image.Statement.{statement}
 use Rattle.ffn_c.proofs.ffn_write_image.Tie as tie
 
-write_image_requires : tie.Need-write-image-requires
-write_image_requires c κs = search rules
+write_image-requires : tie.Need-write_image-requires
+write_image-requires c κs = search rules
 
-of_image_written_requires : tie.Need-of-image-written-requires
-of_image_written_requires c κs = search rules
+of_image_written-requires : tie.Need-of_image_written-requires
+of_image_written-requires c κs = search rules
 
-same_length : tie.Need-same-length
-same_length c = search rules
+shape_of-image : tie.Need-shape_of-image
+shape_of-image c = search rules
 
 returns : tie.Need-returns
-returns c = rw c.of-image-written.ensures (ap of_writer c.before.before.before.write-image.ensures)
+returns c = rw c.of_image_written.ensures (ap of_writer c.write_image.ensures)
 
 pub ffn_write_image_spec : {M : Type 1} → statement M
-ffn_write_image_spec = tie.close (tie.spec write_image_requires of_image_written_requires same_length returns)
+ffn_write_image_spec = tie.close (tie.spec write_image-requires of_image_written-requires shape_of-image returns)

@@ -12,53 +12,51 @@ use Rattle.answers.proofs.Leading.{each_stop_at, each_more_at, each_end_at}
 use Rattle.forms.proofs.is_digits.Statement.{statement}
 use Rattle.forms.proofs.is_digits.Tie as tie
 
-abbrev invariant_loop : tie.invariant_loop
-invariant_loop field i₀ i = (i ≤ length field) × (is_digits field ≡ are_digits (drop i field))
+abbrev invariant-loop-i : tie.invariant-loop-i
+invariant-loop-i field i₀ i = (i ≤ length field) × (is_digits field ≡ are_digits (drop i field))
 
-abbrev decreases_loop : tie.decreases_loop
-decreases_loop field i₀ i = length field - i
+abbrev decreases-loop-i : tie.decreases-loop-i
+decreases-loop-i field i₀ i = length field - i
 
-returns : tie.Need-returns invariant_loop decreases_loop
-returns c = sym (digits_none _ c.if1.true)
+returns-then-field-eq0 : tie.Need-returns-then-field-eq0 invariant-loop-i decreases-loop-i
+returns-then-field-eq0 c = sym (digits_none _ c.if-field-eq0.true)
 
-loop_holds : tie.Need-loop-init invariant_loop decreases_loop
-loop_holds c = (omega arith, digits_some _ c.if1.false)
+loop-i-init : tie.Need-loop-i-init invariant-loop-i decreases-loop-i
+loop-i-init c = (omega arith, digits_some _ c.if-field-eq0.false)
 
-shared_slice_read_c : tie.Need-shared-slice-read-c invariant_loop decreases_loop
-shared_slice_read_c c = search rules
+bounds-field-i : tie.Need-bounds-field-i invariant-loop-i decreases-loop-i
+bounds-field-i c = search rules
 
-returns_2 : tie.Need-returns-2 invariant_loop decreases_loop
+returns-then-not-c : tie.Need-returns-then-not-c invariant-loop-i decreases-loop-i
 unfolding is_digit
-returns_2 c =
-    let l = c.before.before.before in
-    sym (l.loop.invariant.1 ∙ each_stop_at is_digit _ l.loop.i c.before.before.loop-test.true (not-true _ c.if2.true))
+returns-then-not-c c =
+    sym (c.loop-i.invariant.1 ∙ each_stop_at is_digit _ c.loop-i.i c.loop-i-test.true (not-true _ c.if-not-c.true-raw))
 
-add_i : tie.Need-overflow-add-i invariant_loop decreases_loop
-add_i c = search rules
+overflow_add-i : tie.Need-overflow_add-i invariant-loop-i decreases-loop-i
+overflow_add-i c = search rules
 
-loop_less : tie.Need-loop-smaller invariant_loop decreases_loop
-loop_less c = search rules
+loop-i-smaller : tie.Need-loop-i-smaller invariant-loop-i decreases-loop-i
+loop-i-smaller c = search rules
 
-loop_again : tie.Need-loop-preserved invariant_loop decreases_loop
+loop-i-preserved : tie.Need-loop-i-preserved invariant-loop-i decreases-loop-i
 unfolding is_digit
-loop_again c =
-    let l = c.before.before.before in
-    (omega arith, l.loop.invariant.1 ∙ each_more_at is_digit _ l.loop.i c.before.before.loop-test.true (not-false _ c.if2.false))
+loop-i-preserved c =
+    (omega arith, c.loop-i.invariant.1 ∙ each_more_at is_digit _ c.loop-i.i c.loop-i-test.true (not-false _ c.if-not-c.false-raw))
 
-returns_3 : tie.Need-returns-3 invariant_loop decreases_loop
-returns_3 c = sym (c.before.loop.invariant.1 ∙ each_end_at is_digit _ c.before.loop.i c.loop-test.false)
+returns : tie.Need-returns invariant-loop-i decreases-loop-i
+returns c = sym (c.loop-i.invariant.1 ∙ each_end_at is_digit _ c.loop-i.i c.loop-i-test.false)
 
 pub is_digits_spec : {M : Type 1} → statement M
 is_digits_spec =
     tie.close
     (tie.spec
-    invariant_loop
-    decreases_loop
-    returns
-    loop_holds
-    shared_slice_read_c
-    returns_2
-    add_i
-    loop_less
-    loop_again
-    returns_3)
+    invariant-loop-i
+    decreases-loop-i
+    returns-then-field-eq0
+    loop-i-init
+    bounds-field-i
+    returns-then-not-c
+    overflow_add-i
+    loop-i-smaller
+    loop-i-preserved
+    returns)

@@ -6,41 +6,39 @@ use borrow.Author.Rules.{rules}
 use Rattle.forms.proofs.number_of.Statement.{statement}
 use Rattle.forms.proofs.number_of.Tie as tie
 
-is_digits_requires : tie.Need-is-digits-requires
-is_digits_requires c κs = search rules
+is_digits-requires : tie.Need-is_digits-requires
+is_digits-requires c κs = search rules
 
-returns : tie.Need-returns
-returns c = sym (number_unread _ (sym c.before.is-digits.ensures ∙ not-true _ c.if1.true)).0
+returns-then-not-is_digits : tie.Need-returns-then-not-is_digits
+returns-then-not-is_digits c = sym (number_unread _ (sym c.is_digits.ensures ∙ not-true _ c.if-not-is_digits.true-raw)).0
 
-read_number_requires : tie.Need-read-number-requires
-read_number_requires c κs = search rules
+read_number-requires : tie.Need-read_number-requires
+read_number-requires c κs = search rules
 
-enum_known_word : tie.Need-enum-known-word
-enum_known_word c = search rules
+enum_known-word : tie.Need-enum_known-word
+enum_known-word c = search rules
 
-enum_told : tie.Need-enum-told
-enum_told c = search rules
+enum_told-1 : tie.Need-enum_told-1
+enum_told-1 c = search rules
 
-returns_2 : tie.Need-returns-2
-returns_2 c =
-    let r = c.before.before.before in
-    let d = sym r.before.before.is-digits.ensures ∙ not-false _ r.before.if1.false in
-    sym (number_read_lem _ _ _ d (sym r.read_number.ensures ∙ c.before.word.given.1)).0
+returns-in-Number : tie.Need-returns-in-Number
+returns-in-Number c =
+    let d = sym c.is_digits.ensures ∙ not-false _ c.if-not-is_digits.false-raw in
+    sym (number_read_lem _ _ _ d (sym c.read_number.ensures ∙ c.in-Number.is)).0
 
-returns_3 : tie.Need-returns-3
-returns_3 c =
-    let r = c.before.before in
-    let d = sym r.before.before.is-digits.ensures ∙ not-false _ r.before.if1.false in
-    sym (number_malformed _ d (sym r.read_number.ensures ∙ c.enum_told.given.1)).0
+returns-in-Unreadable : tie.Need-returns-in-Unreadable
+returns-in-Unreadable c =
+    let d = sym c.is_digits.ensures ∙ not-false _ c.if-not-is_digits.false-raw in
+    sym (number_malformed _ d (sym c.read_number.ensures ∙ c.in-Unreadable.is)).0
 
 pub number_of_spec : {M : Type 1} → statement M
 number_of_spec =
     tie.close
     (tie.spec
-    is_digits_requires
-    returns
-    read_number_requires
-    enum_known_word
-    enum_told
-    returns_2
-    returns_3)
+    is_digits-requires
+    returns-then-not-is_digits
+    read_number-requires
+    enum_known-word
+    enum_told-1
+    returns-in-Number
+    returns-in-Unreadable)

@@ -7,52 +7,52 @@ use borrow.Author.Rules.{rules}
 use Rattle.forms.proofs.read_form.Statement.{statement}
 use Rattle.forms.proofs.read_form.Tie as tie
 
-read_number_requires : tie.Need-read-number-requires
-read_number_requires c κs = search rules
+read_number-requires : tie.Need-read_number-requires
+read_number-requires c κs = search rules
 
-read_subscriber_requires : tie.Need-read-subscriber-requires
-read_subscriber_requires c κs = search rules
+read_subscriber-requires : tie.Need-read_subscriber-requires
+read_subscriber-requires c κs = search rules
 
-read_request_requires : tie.Need-read-request-requires
-read_request_requires c κs = search rules
+read_request-requires : tie.Need-read_request-requires
+read_request-requires c κs = search rules
 
-read_sending_requires : tie.Need-read-sending-requires
-read_sending_requires c κs = search rules
+read_sending-requires : tie.Need-read_sending-requires
+read_sending-requires c κs = search rules
 
-read_result_requires : tie.Need-read-result-requires
-read_result_requires c κs = search rules
+read_result-requires : tie.Need-read_result-requires
+read_result-requires c κs = search rules
 
-read_delay_requires : tie.Need-read-delay-requires
-read_delay_requires c κs = search rules
+read_delay-requires : tie.Need-read_delay-requires
+read_delay-requires c κs = search rules
 
-returns : tie.Need-returns
+returns-in-78 : tie.Need-returns-in-78
 unfolding lettered
-returns c = reads_as c.read_number.ensures (rw c.before.match.keys1)
+returns-in-78 c = reads_as c.read_number.ensures (rw c.in-78.is)
 
-returns_2 : tie.Need-returns-2
+returns-in-83 : tie.Need-returns-in-83
 unfolding lettered
-returns_2 c = reads_as c.read-subscriber.ensures (rw c.before.match.keys2)
+returns-in-83 c = reads_as c.read_subscriber.ensures (rw c.in-83.is)
 
-returns_3 : tie.Need-returns-3
+returns-in-82 : tie.Need-returns-in-82
 unfolding lettered
-returns_3 c = reads_as c.read-request.ensures (rw c.before.match.keys3)
+returns-in-82 c = reads_as c.read_request.ensures (rw c.in-82.is)
 
-returns_4 : tie.Need-returns-4
+returns-in-84 : tie.Need-returns-in-84
 unfolding lettered
-returns_4 c = reads_as c.read-sending.ensures (rw c.before.match.keys4)
+returns-in-84 c = reads_as c.read_sending.ensures (rw c.in-84.is)
 
-returns_5 : tie.Need-returns-5
+returns-in-68 : tie.Need-returns-in-68
 unfolding lettered
-returns_5 c = reads_as c.read_result.ensures (rw c.before.match.keys5)
+returns-in-68 c = reads_as c.read_result.ensures (rw c.in-68.is)
 
-returns_6 : tie.Need-returns-6
+returns-in-87 : tie.Need-returns-in-87
 unfolding lettered
-returns_6 c = reads_as c.read-delay.ensures (rw c.before.match.keys6)
+returns-in-87 c = reads_as c.read_delay.ensures (rw c.in-87.is)
 
-returns_7 : tie.Need-returns-7
+returns-in_default : tie.Need-returns-in_default
 unfolding lettered
-returns_7 c =
-    let n = c.match.rest in
+returns-in_default c =
+    let n = c.in_default.in_default-own.rest in
     record {
       form = rw (ne_eqb _ _ n.0.0.0.0.0.1, ne_eqb _ _ n.0.0.0.0.1, ne_eqb _ _ n.0.0.0.1, ne_eqb _ _ n.0.0.1, ne_eqb _ _ n.0.1, ne_eqb _ _ n.1);
       within = zero-le;
@@ -62,16 +62,16 @@ pub read_form_spec : {M : Type 1} → statement M
 read_form_spec =
     tie.close
     (tie.spec
-    read_number_requires
-    read_subscriber_requires
-    read_request_requires
-    read_sending_requires
-    read_result_requires
-    read_delay_requires
-    returns
-    returns_2
-    returns_3
-    returns_4
-    returns_5
-    returns_6
-    returns_7)
+    read_number-requires
+    read_subscriber-requires
+    read_request-requires
+    read_sending-requires
+    read_result-requires
+    read_delay-requires
+    returns-in-78
+    returns-in-83
+    returns-in-82
+    returns-in-84
+    returns-in-68
+    returns-in-87
+    returns-in_default)

@@ -11,55 +11,53 @@ use Rattle.forms.proofs.read_request.Statement.{statement}
 use Rattle.forms.proofs.read_request.Tie as tie
 
 -- the part, split at its first space
-parts : (c : tie.Else1) → Split c.before.before.before.args.rest.now c.before.place_of.result
-parts c = split _ _ c.before.place_of.ensures c.if1.false
+parts : (c : tie.Else-end-rest) → Split c.args.rest.now c.place_of-end.result
+parts c = split _ _ c.place_of-end.ensures c.if-end-rest.false
 
-place_of_requires : tie.Need-place-of-requires
-place_of_requires c κs = search rules
+place_of-end-requires : tie.Need-place_of-end-requires
+place_of-end-requires c κs = search rules
+
+returns-then-end-rest : tie.Need-returns-then-end-rest
+unfolding request_form
+returns-then-end-rest c = record { form = rw (unsplit _ _ c.place_of-end.ensures c.if-end-rest.true); within = zero-le }
+
+slice_bounds-asked_of-end : tie.Need-slice_bounds-asked_of-end
+slice_bounds-asked_of-end c = sym (length-take-le _ _ c.place_of-end.ensures.1)
+
+asked_of-field-requires : tie.Need-asked_of-field-requires
+asked_of-field-requires c κs = search rules
+
+enum_known-field : tie.Need-enum_known-field
+enum_known-field c = search rules
+
+enum_told-1 : tie.Need-enum_told-1
+enum_told-1 c = search rules
+
+returns-in_default : tie.Need-returns-in_default
+unfolding request_form
+returns-in_default c =
+    let p = parts c.before.before in
+    record { form = rw (p.behind, p.field, is_none_lem _ c.asked_of-field.ensures c.in_default.is); within = zero-le }
+
+overflow_add-result : tie.Need-overflow_add-result
+overflow_add-result c = search rules
 
 returns : tie.Need-returns
 unfolding request_form
-returns c = record { form = rw (unsplit _ _ c.before.place_of.ensures c.if1.true); within = zero-le }
-
-slice_aggregate_asked_of : tie.Need-slice-aggregate-asked-of
-slice_aggregate_asked_of c = sym (length-take-le _ _ c.before.before.place_of.ensures.1)
-
-asked_of_requires : tie.Need-asked-of-requires
-asked_of_requires c κs = search rules
-
-enum_known_field : tie.Need-enum-known-field
-enum_known_field c = search rules
-
-enum_told : tie.Need-enum-told
-enum_told c = search rules
-
-returns_2 : tie.Need-returns-2
-unfolding request_form
-returns_2 c =
-    let a = c.before.before in
-    let p = parts a.before.before in
-    record { form = rw (p.behind, p.field, is_none_lem _ a.asked_of.ensures c.enum_told.given.1); within = zero-le }
-
-add_t5 : tie.Need-overflow-add-t5
-add_t5 c = search rules
-
-returns_3 : tie.Need-returns-3
-unfolding request_form
-returns_3 c =
-    let a = c.before.before.before in
-    let p = parts a.before.before in
-    record { form = rw (p.behind, p.field, is_value _ _ a.asked_of.ensures c.before.field.given.1); within = omega arith }
+returns c =
+    let p = parts c.before.before in
+    record { form = rw (p.behind, p.field, is_value _ _ c.asked_of-field.ensures c.in-Value.is); within = omega arith }
 
 pub read_request_spec : {M : Type 1} → statement M
 read_request_spec =
     tie.close
     (tie.spec
-    place_of_requires
-    returns
-    slice_aggregate_asked_of
-    asked_of_requires
-    enum_known_field
-    enum_told
-    returns_2
-    add_t5
-    returns_3)
+    place_of-end-requires
+    returns-then-end-rest
+    slice_bounds-asked_of-end
+    asked_of-field-requires
+    enum_known-field
+    enum_told-1
+    returns-in_default
+    overflow_add-result
+    returns)

@@ -12,76 +12,73 @@ use Rattle.forms.proofs.read_result.Statement.{statement}
 use Rattle.forms.proofs.read_result.Tie as tie
 
 -- the part, split at its first space
-parts : (c : tie.Else1) → Split c.before.before.before.args.rest.now c.before.place_of.result
-parts c = split _ _ c.before.place_of.ensures c.if1.false
+parts : (c : tie.Else-end-rest) → Split c.args.rest.now c.place_of-end.result
+parts c = split _ _ c.place_of-end.ensures c.if-end-rest.false
 
-place_of_requires : tie.Need-place-of-requires
-place_of_requires c κs = search rules
+place_of-end-requires : tie.Need-place_of-end-requires
+place_of-end-requires c κs = search rules
+
+returns-then-end-rest : tie.Need-returns-then-end-rest
+unfolding result_form
+returns-then-end-rest c = record { form = rw (unsplit _ _ c.place_of-end.ensures c.if-end-rest.true); within = zero-le }
+
+overflow_add-next : tie.Need-overflow_add-next
+overflow_add-next c = search rules
+
+slice_bounds-value_below-end : tie.Need-slice_bounds-value_below-end
+slice_bounds-value_below-end c = sym (length-take-le _ _ c.place_of-end.ensures.1)
+
+value_below-field-requires : tie.Need-value_below-field-requires
+value_below-field-requires c κs = search rules
+
+enum_known-field : tie.Need-enum_known-field
+enum_known-field c = search rules
+
+enum_told-1 : tie.Need-enum_told-1
+enum_told-1 c = search rules
+
+returns-in_default : tie.Need-returns-in_default
+unfolding result_form
+returns-in_default c =
+    let p = parts c.before.before in
+    record { form = rw (p.behind, p.field, is_none_lem _ c.value_below-field.ensures c.in_default.is); within = zero-le }
+
+overflow_cast-clock : tie.Need-overflow_cast-clock
+overflow_cast-clock c = omega (arith, value_fits _ _ _ (is_value _ _ c.value_below-field.ensures c.in-Value.is))
+
+slice_bounds-read_result_at-count : tie.Need-slice_bounds-read_result_at-count
+slice_bounds-read_result_at-count c = search rules
+
+slice_bounds-read_result_at-start : tie.Need-slice_bounds-read_result_at-start
+slice_bounds-read_result_at-start c = search rules
+
+slice_bounds-read_result_at-end : tie.Need-slice_bounds-read_result_at-end
+slice_bounds-read_result_at-end c = search rules
+
+read_result_at-requires : tie.Need-read_result_at-requires
+read_result_at-requires c κs = search rules
 
 returns : tie.Need-returns
 unfolding result_form
-returns c = record { form = rw (unsplit _ _ c.before.place_of.ensures c.if1.true); within = zero-le }
-
-add_next : tie.Need-overflow-add-next
-add_next c = search rules
-
-slice_aggregate_value_below : tie.Need-slice-aggregate-value-below
-slice_aggregate_value_below c = sym (length-take-le _ _ c.before.before.place_of.ensures.1)
-
-value_below_requires : tie.Need-value-below-requires
-value_below_requires c κs = search rules
-
-enum_known_field : tie.Need-enum-known-field
-enum_known_field c = search rules
-
-enum_told : tie.Need-enum-told
-enum_told c = search rules
-
-returns_2 : tie.Need-returns-2
-unfolding result_form
-returns_2 c =
-    let a = c.before.before in
-    let p = parts a.before.before in
-    record { form = rw (p.behind, p.field, is_none_lem _ a.value-below.ensures c.enum_told.given.1); within = zero-le }
-
-cast_read_result_at : tie.Need-overflow-cast-read-result-at
-cast_read_result_at c = omega (arith, value_fits _ _ _ (is_value _ _ c.before.before.before.value-below.ensures c.before.field.given.1))
-
-sub_read_result_at : tie.Need-overflow-sub-read-result-at
-sub_read_result_at c = search rules
-
-part_read_result_at_start : tie.Need-slice-bounds-read-result-at-start
-part_read_result_at_start c = search rules
-
-part_read_result_at_end : tie.Need-slice-bounds-read-result-at-end
-part_read_result_at_end c = search rules
-
-read_result_at_requires : tie.Need-read-result-at-requires
-read_result_at_requires c κs = search rules
-
-returns_3 : tie.Need-returns-3
-unfolding result_form
-returns_3 c =
-    let k = c.before.before in
-    let a = k.before.before.before in
-    let p = parts a.before.before in
-    rw (p.behind, p.field, is_value _ _ a.value-below.ensures k.before.field.given.1) (rw rest_of at (c.read-result-at.ensures a.before.before.before.before.before.args.rest.now))
+returns c =
+    let p = parts c.before.before.before.before in
+    rw (p.behind, p.field, is_value _ _ c.value_below-field.ensures c.in-Value.is) (rw rest_of at (c.read_result_at.ensures c.args.rest.now))
 
 pub read_result_spec : {M : Type 1} → statement M
 read_result_spec =
     tie.close
     (tie.spec
-    place_of_requires
-    returns
-    add_next
-    slice_aggregate_value_below
-    value_below_requires
-    enum_known_field
-    enum_told
-    returns_2
-    cast_read_result_at
-    sub_read_result_at
-    part_read_result_at_start
-    part_read_result_at_end
-    read_result_at_requires
-    returns_3)
+    place_of-end-requires
+    returns-then-end-rest
+    overflow_add-next
+    slice_bounds-value_below-end
+    value_below-field-requires
+    enum_known-field
+    enum_told-1
+    returns-in_default
+    overflow_cast-clock
+    slice_bounds-read_result_at-count
+    slice_bounds-read_result_at-start
+    slice_bounds-read_result_at-end
+    read_result_at-requires
+    returns)

@@ -12,95 +12,88 @@ use Rattle.forms.proofs.read_result_at.Statement.{statement}
 use Rattle.forms.proofs.read_result_at.Tie as tie
 
 -- the part, split at its first space
-parts : (c : tie.Else1) → Split c.before.before.before.args.rest.now c.before.place_of.result
-parts c = split _ _ c.before.place_of.ensures c.if1.false
+parts : (c : tie.Else-end-rest) → Split c.args.rest.now c.place_of-end.result
+parts c = split _ _ c.place_of-end.ensures c.if-end-rest.false
 
-place_of_requires : tie.Need-place-of-requires
-place_of_requires c κs = search rules
+place_of-end-requires : tie.Need-place_of-end-requires
+place_of-end-requires c κs = search rules
+
+returns-then-end-rest : tie.Need-returns-then-end-rest
+unfolding result_fields
+returns-then-end-rest c = λ line. record { form = rw (unsplit _ _ c.place_of-end.ensures c.if-end-rest.true); within = zero-le }
+
+overflow_add-next : tie.Need-overflow_add-next
+overflow_add-next c = search rules
+
+slice_bounds-asked_of-end : tie.Need-slice_bounds-asked_of-end
+slice_bounds-asked_of-end c = sym (length-take-le _ _ c.place_of-end.ensures.1)
+
+asked_of-field-requires : tie.Need-asked_of-field-requires
+asked_of-field-requires c κs = search rules
+
+enum_known-field : tie.Need-enum_known-field
+enum_known-field c = search rules
+
+enum_told-1 : tie.Need-enum_told-1
+enum_told-1 c = search rules
+
+returns-in_default : tie.Need-returns-in_default
+unfolding result_fields
+returns-in_default c = λ line.
+    let p = parts c.before.before in
+    record { form = rw (p.behind, p.field, is_none_lem _ c.asked_of-field.ensures c.in_default.is); within = zero-le }
+
+slice_bounds-value_below-count : tie.Need-slice_bounds-value_below-count
+slice_bounds-value_below-count c = search rules
+
+slice_bounds-value_below-start : tie.Need-slice_bounds-value_below-start
+slice_bounds-value_below-start c = search rules
+
+slice_bounds-value_below-end : tie.Need-slice_bounds-value_below-end
+slice_bounds-value_below-end c = search rules
+
+value_below-last-requires : tie.Need-value_below-last-requires
+value_below-last-requires c κs = search rules
+
+enum_known-last : tie.Need-enum_known-last
+enum_known-last c = search rules
+
+enum_told-in_default-last : tie.Need-enum_told-in_default-last
+enum_told-in_default-last c = search rules
+
+returns-in_default-last : tie.Need-returns-in_default-last
+unfolding result_fields
+returns-in_default-last c = λ line.
+    let p = parts c.before.before.before.before.before in
+    record { form = rw (p.behind, p.field, is_value _ _ c.asked_of-field.ensures c.in-Value.is, is_none_lem _ (rw rest_of at c.value_below-last.ensures) c.in_default-last.is); within = zero-le }
+
+overflow_cast-result : tie.Need-overflow_cast-result
+overflow_cast-result c = omega (arith, value_fits _ _ _ (is_value _ _ c.value_below-last.ensures c.in-Value-last.is))
 
 returns : tie.Need-returns
 unfolding result_fields
-returns c = λ line. record { form = rw (unsplit _ _ c.before.place_of.ensures c.if1.true); within = zero-le }
-
-add_next : tie.Need-overflow-add-next
-add_next c = search rules
-
-slice_aggregate_asked_of : tie.Need-slice-aggregate-asked-of
-slice_aggregate_asked_of c = sym (length-take-le _ _ c.before.before.place_of.ensures.1)
-
-asked_of_requires : tie.Need-asked-of-requires
-asked_of_requires c κs = search rules
-
-enum_known_field : tie.Need-enum-known-field
-enum_known_field c = search rules
-
-enum_told : tie.Need-enum-told
-enum_told c = search rules
-
-returns_2 : tie.Need-returns-2
-unfolding result_fields
-returns_2 c = λ line.
-    let a = c.before.before in
-    let p = parts a.before.before in
-    record { form = rw (p.behind, p.field, is_none_lem _ a.asked_of.ensures c.enum_told.given.1); within = zero-le }
-
-sub_value_below : tie.Need-overflow-sub-value-below
-sub_value_below c = search rules
-
-part_value_below_start : tie.Need-slice-bounds-value-below-start
-part_value_below_start c = search rules
-
-part_value_below_end : tie.Need-slice-bounds-value-below-end
-part_value_below_end c = search rules
-
-value_below_requires : tie.Need-value-below-requires
-value_below_requires c κs = search rules
-
-enum_known_last : tie.Need-enum-known-last
-enum_known_last c = search rules
-
-enum_told_2 : tie.Need-enum-told-2
-enum_told_2 c = search rules
-
-returns_3 : tie.Need-returns-3
-unfolding result_fields
-returns_3 c = λ line.
-    let b = c.before.before in
-    let k = b.before.before in
-    let a = k.before.before.before in
-    let p = parts a.before.before in
-    record { form = rw (p.behind, p.field, is_value _ _ a.asked_of.ensures k.before.field.given.1, is_none_lem _ (rw rest_of at b.value-below.ensures) c.enum-told2.given.1); within = zero-le }
-
-cast_t17 : tie.Need-overflow-cast-t17
-cast_t17 c = omega (arith, value_fits _ _ _ (is_value _ _ c.before.before.before.value-below.ensures c.before.last.given.1))
-
-returns_4 : tie.Need-returns-4
-unfolding result_fields
-returns_4 c = λ line.
-    let b = c.before.before.before in
-    let k = b.before.before in
-    let a = k.before.before.before in
-    let p = parts a.before.before in
-    record { form = rw (p.behind, p.field, is_value _ _ a.asked_of.ensures k.before.field.given.1, is_value _ _ (rw rest_of at b.value-below.ensures) c.before.last.given.1); within = zero-le }
+returns c = λ line.
+    let p = parts c.before.before.before.before.before in
+    record { form = rw (p.behind, p.field, is_value _ _ c.asked_of-field.ensures c.in-Value.is, is_value _ _ (rw rest_of at c.value_below-last.ensures) c.in-Value-last.is); within = zero-le }
 
 pub read_result_at_spec : {M : Type 1} → statement M
 read_result_at_spec =
     tie.close
     (tie.spec
-    place_of_requires
-    returns
-    add_next
-    slice_aggregate_asked_of
-    asked_of_requires
-    enum_known_field
-    enum_told
-    returns_2
-    sub_value_below
-    part_value_below_start
-    part_value_below_end
-    value_below_requires
-    enum_known_last
-    enum_told_2
-    returns_3
-    cast_t17
-    returns_4)
+    place_of-end-requires
+    returns-then-end-rest
+    overflow_add-next
+    slice_bounds-asked_of-end
+    asked_of-field-requires
+    enum_known-field
+    enum_told-1
+    returns-in_default
+    slice_bounds-value_below-count
+    slice_bounds-value_below-start
+    slice_bounds-value_below-end
+    value_below-last-requires
+    enum_known-last
+    enum_told-in_default-last
+    returns-in_default-last
+    overflow_cast-result
+    returns)

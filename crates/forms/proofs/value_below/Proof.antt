@@ -14,83 +14,83 @@ use Rattle.forms.proofs.Digits.{digits_all, value_end, value_unread, value_over,
 use Rattle.forms.proofs.value_below.Statement.{statement}
 use Rattle.forms.proofs.value_below.Tie as tie
 
-abbrev invariant_loop : tie.invariant_loop
-invariant_loop field limit value₀ i₀ value i =
+abbrev invariant-loop-i : tie.invariant-loop-i
+invariant-loop-i field limit value₀ i₀ value i =
     (i ≤ length field) × (value < limit) × (is_digits field ≡ true) × (are_digits (drop i field) ≡ true) × (pushed value (drop i field) ≡ pushed 0 field)
 
-abbrev decreases_loop : tie.decreases_loop
-decreases_loop field limit value₀ i₀ value i = length field - i
+abbrev decreases-loop-i : tie.decreases-loop-i
+decreases-loop-i field limit value₀ i₀ value i = length field - i
 
-is_digits_requires : tie.Need-is-digits-requires invariant_loop decreases_loop
-is_digits_requires c κs = search rules
+is_digits-requires : tie.Need-is_digits-requires invariant-loop-i decreases-loop-i
+is_digits-requires c κs = search rules
 
-returns : tie.Need-returns invariant_loop decreases_loop
-returns c = sym (value_unread _ _ (sym c.before.is-digits.ensures ∙ not-true _ c.if1.true))
+returns-then-not-is_digits : tie.Need-returns-then-not-is_digits invariant-loop-i decreases-loop-i
+returns-then-not-is_digits c = sym (value_unread _ _ (sym c.is_digits.ensures ∙ not-true _ c.if-not-is_digits.true-raw))
 
 -- the turn
 step :
-    (c : tie.In-loop invariant_loop decreases_loop)
-    → let field = c.before.before.before.before.before.args.field.now in
-    Turn field c.before.loop.i c.before.loop.value (pushed 0 field)
-step c = turn _ c.before.loop.i c.before.loop.value _ c.loop-test.true c.before.loop.invariant.3 c.before.loop.invariant.4
+    (c : tie.In-loop-i invariant-loop-i decreases-loop-i)
+    → let field = c.args.field.now in
+    Turn field c.loop-i.i c.loop-i.value (pushed 0 field)
+step c = turn _ c.loop-i.i c.loop-i.value _ c.loop-i-test.true c.loop-i.invariant.3 c.loop-i.invariant.4
 
-loop_holds : tie.Need-loop-init invariant_loop decreases_loop
-loop_holds c =
-    let d = sym c.before.is-digits.ensures ∙ not-false _ c.if1.false in
+loop-i-init : tie.Need-loop-i-init invariant-loop-i decreases-loop-i
+loop-i-init c =
+    let d = sym c.is_digits.ensures ∙ not-false _ c.if-not-is_digits.false-raw in
     (omega arith, omega arith, d, digits_all _ d, refl)
 
-mul_value : tie.Need-overflow-mul-value invariant_loop decreases_loop
-mul_value c = search rules
+overflow_mul-value : tie.Need-overflow_mul-value invariant-loop-i decreases-loop-i
+overflow_mul-value c = search rules
 
-shared_slice_read_value : tie.Need-shared-slice-read-value invariant_loop decreases_loop
-shared_slice_read_value c = search rules
+bounds-field-i : tie.Need-bounds-field-i invariant-loop-i decreases-loop-i
+bounds-field-i c = search rules
 
-sub_value : tie.Need-overflow-sub-value invariant_loop decreases_loop
-sub_value c = (step c.before).low
+overflow_sub-value : tie.Need-overflow_sub-value invariant-loop-i decreases-loop-i
+overflow_sub-value c = (step c.before).low
 
-cast_value : tie.Need-overflow-cast-value invariant_loop decreases_loop
-cast_value c = let t = step c.before in omega arith
+overflow_cast-value : tie.Need-overflow_cast-value invariant-loop-i decreases-loop-i
+overflow_cast-value c = let t = step c.before in omega arith
 
-add_value : tie.Need-overflow-add-value invariant_loop decreases_loop
-add_value c = let t = step c.before in omega arith
+overflow_add-value : tie.Need-overflow_add-value invariant-loop-i decreases-loop-i
+overflow_add-value c = let t = step c.before in omega arith
 
-returns_2 : tie.Need-returns-2 invariant_loop decreases_loop
-returns_2 c =
+returns-then-limit-value : tie.Need-returns-then-limit-value invariant-loop-i decreases-loop-i
+returns-then-limit-value c =
     let t = step c.before.before in
-    sym (value_over _ _ _ _ c.if2.true t.same)
+    sym (value_over _ _ _ _ c.if-limit-value.true t.same)
 
-add_i : tie.Need-overflow-add-i invariant_loop decreases_loop
-add_i c = search rules
+overflow_add-i : tie.Need-overflow_add-i invariant-loop-i decreases-loop-i
+overflow_add-i c = search rules
 
-loop_less : tie.Need-loop-smaller invariant_loop decreases_loop
-loop_less c = search rules
+loop-i-smaller : tie.Need-loop-i-smaller invariant-loop-i decreases-loop-i
+loop-i-smaller c = search rules
 
-loop_again : tie.Need-loop-preserved invariant_loop decreases_loop
-loop_again c =
+loop-i-preserved : tie.Need-loop-i-preserved invariant-loop-i decreases-loop-i
+loop-i-preserved c =
     let t = step c.before.before in
-    (omega arith, c.if2.false, c.before.before.before.loop.invariant.2, t.digits, t.same)
+    (omega arith, c.if-limit-value.false, c.loop-i.invariant.2, t.digits, t.same)
 
-returns_3 : tie.Need-returns-3 invariant_loop decreases_loop
-returns_3 c =
-    let i = c.before.loop.invariant in
-    sym (value_read _ _ _ i.2 i.1 (value_end _ _ _ c.loop-test.false i.4))
+returns : tie.Need-returns invariant-loop-i decreases-loop-i
+returns c =
+    let i = c.loop-i.invariant in
+    sym (value_read _ _ _ i.2 i.1 (value_end _ _ _ c.loop-i-test.false i.4))
 
 pub value_below_spec : {M : Type 1} → statement M
 value_below_spec =
     tie.close
     (tie.spec
-    invariant_loop
-    decreases_loop
-    is_digits_requires
-    returns
-    loop_holds
-    mul_value
-    shared_slice_read_value
-    sub_value
-    cast_value
-    add_value
-    returns_2
-    add_i
-    loop_less
-    loop_again
-    returns_3)
+    invariant-loop-i
+    decreases-loop-i
+    is_digits-requires
+    returns-then-not-is_digits
+    loop-i-init
+    overflow_mul-value
+    bounds-field-i
+    overflow_sub-value
+    overflow_cast-value
+    overflow_add-value
+    returns-then-limit-value
+    overflow_add-i
+    loop-i-smaller
+    loop-i-preserved
+    returns)

@@ -5,14 +5,14 @@ use Rattle.frames.proofs.Flags.{flag_set, flag_cleared}
 use Rattle.framers.proofs.invert.Statement.{statement}
 use Rattle.framers.proofs.invert.Tie as tie
 
-add_result : tie.Need-overflow-add-result
-add_result c = search rules
+overflow_add-result : tie.Need-overflow_add-result
+overflow_add-result c = search rules
+
+returns-then-first-lt-FLAG : tie.Need-returns-then-first-lt-FLAG
+returns-then-first-lt-FLAG c = sym (flag_set _ c.if-first-lt-FLAG.true)
 
 returns : tie.Need-returns
-returns c = sym (flag_set _ c.if1.true)
-
-returns_2 : tie.Need-returns-2
-returns_2 c = sym (flag_cleared _ c.if1.false)
+returns c = sym (flag_cleared _ c.if-first-lt-FLAG.false)
 
 pub invert_spec : {M : Type 1} → statement M
-invert_spec = tie.close (tie.spec add_result returns returns_2)
+invert_spec = tie.close (tie.spec overflow_add-result returns-then-first-lt-FLAG returns)

@@ -4,17 +4,17 @@ use borrow.Author.Rules.{rules}
 use Rattle.framers.proofs.put_error.Statement.{statement}
 use Rattle.framers.proofs.put_error.Tie as tie
 
-slice_aggregate_put : tie.Need-slice-aggregate-put
-slice_aggregate_put c = search rules
+slice_bounds-put-end : tie.Need-slice_bounds-put-end
+slice_bounds-put-end c = search rules
 
-put_requires : tie.Need-put-requires
-put_requires c κs = search rules
+put-requires : tie.Need-put-requires
+put-requires c κs = search rules
 
-same_length : tie.Need-same-length
-same_length c = search rules
+shape_of-out : tie.Need-shape_of-out
+shape_of-out c = search rules
 
 returns : tie.Need-returns
-returns c = rw (error_is _ _) c.before.before.put.ensures
+returns c = rw (error_is _ _) c.put.ensures
 
 pub put_error_spec : {M : Type 1} → statement M
-put_error_spec = tie.close (tie.spec slice_aggregate_put put_requires same_length returns)
+put_error_spec = tie.close (tie.spec slice_bounds-put-end put-requires shape_of-out returns)

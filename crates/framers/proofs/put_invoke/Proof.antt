@@ -6,59 +6,56 @@ use borrow.Author.Rules.{rules}
 use Rattle.framers.proofs.put_invoke.Statement.{statement}
 use Rattle.framers.proofs.put_invoke.Tie as tie
 
-cast_n : tie.Need-overflow-cast-n
-cast_n c = search rules
+overflow_cast-n : tie.Need-overflow_cast-n
+overflow_cast-n c = search rules
 
-add_t8 : tie.Need-overflow-add-t8
-add_t8 c = search rules
+overflow_add-head : tie.Need-overflow_add-head
+overflow_add-head c = search rules
 
-add_t9 : tie.Need-overflow-add-t9
-add_t9 c = search rules
+overflow_add-head-2 : tie.Need-overflow_add-head-2
+overflow_add-head-2 c = search rules
 
-slice_aggregate_put : tie.Need-slice-aggregate-put
-slice_aggregate_put c = search rules
+slice_bounds-put-end : tie.Need-slice_bounds-put-end
+slice_bounds-put-end c = search rules
 
-put_requires : tie.Need-put-requires
-put_requires c κs = search rules
+put-at-requires : tie.Need-put-at-requires
+put-at-requires c κs = search rules
 
-sub_put : tie.Need-overflow-sub-put
-sub_put c = search rules
+slice_bounds-put-count : tie.Need-slice_bounds-put-count
+slice_bounds-put-count c = search rules
 
-part_put_start : tie.Need-slice-bounds-put-start
-part_put_start c = search rules
+slice_bounds-put-start : tie.Need-slice_bounds-put-start
+slice_bounds-put-start c = search rules
 
-part_put_end : tie.Need-slice-bounds-put-end
-part_put_end c = search rules
+slice_bounds-put-end-2 : tie.Need-slice_bounds-put-end-2
+slice_bounds-put-end-2 c = search rules
 
-put_requires_2 : tie.Need-put-requires-2
-put_requires_2 c κs = search rules
+put-requires : tie.Need-put-requires
+put-requires c κs = search rules
 
-add_result : tie.Need-overflow-add-result
-add_result c = search rules
+overflow_add-result : tie.Need-overflow_add-result
+overflow_add-result c = search rules
 
-same_length : tie.Need-same-length
-same_length c = search rules
+shape_of-out : tie.Need-shape_of-out
+shape_of-out c = search rules
 
 returns : tie.Need-returns
 returns c =
-    let q = c.before.before in
-    let p = q.before.before.before.before in
-    let s = p.before.before.before.before.before in
-    rw (invoke_is s.args.string.now (omega (arith, s.requires.0)) s.args.number) (stands_behind p.put.ensures q.put2.ensures)
+    rw (invoke_is c.args.string.now (omega (arith, c.requires.0)) c.args.number) (stands_behind c.put-at.ensures c.put.ensures)
 
 pub put_invoke_spec : {M : Type 1} → statement M
 put_invoke_spec =
     tie.close
     (tie.spec
-    cast_n
-    add_t8
-    add_t9
-    slice_aggregate_put
-    put_requires
-    sub_put
-    part_put_start
-    part_put_end
-    put_requires_2
-    add_result
-    same_length
+    overflow_cast-n
+    overflow_add-head
+    overflow_add-head-2
+    slice_bounds-put-end
+    put-at-requires
+    slice_bounds-put-count
+    slice_bounds-put-start
+    slice_bounds-put-end-2
+    put-requires
+    overflow_add-result
+    shape_of-out
     returns)

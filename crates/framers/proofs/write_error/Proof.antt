@@ -9,52 +9,46 @@ use borrow.Author.Rules.{rules}
 use Rattle.framers.proofs.write_error.Statement.{statement}
 use Rattle.framers.proofs.write_error.Tie as tie
 
-invert_requires : tie.Need-invert-requires
-invert_requires c κs = search rules
+invert-requires : tie.Need-invert-requires
+invert-requires c κs = search rules
 
-put_header_requires : tie.Need-put-header-requires
-put_header_requires c κs = search rules
+put_header-at-requires : tie.Need-put_header-at-requires
+put_header-at-requires c κs = search rules
 
-sub_put_error : tie.Need-overflow-sub-put-error
-sub_put_error c = search rules
+slice_bounds-put_error-count : tie.Need-slice_bounds-put_error-count
+slice_bounds-put_error-count c = search rules
 
-part_put_error_start : tie.Need-slice-bounds-put-error-start
-part_put_error_start c = search rules
+slice_bounds-put_error-start : tie.Need-slice_bounds-put_error-start
+slice_bounds-put_error-start c = search rules
 
-part_put_error_end : tie.Need-slice-bounds-put-error-end
-part_put_error_end c = search rules
+slice_bounds-put_error-end : tie.Need-slice_bounds-put_error-end
+slice_bounds-put_error-end c = search rules
 
-put_error_requires : tie.Need-put-error-requires
-put_error_requires c κs = search rules
+put_error-requires : tie.Need-put_error-requires
+put_error-requires c κs = search rules
 
-add_result : tie.Need-overflow-add-result
-add_result c =
-    let p = c.before.before in
-    let h = p.before.before.before.before in
-    let s = h.before.before.before.before in
-    omega (arith, h.put-header.ensures.count, p.put-error.ensures.count, error_length s.args.number s.args.code)
+overflow_add-result : tie.Need-overflow_add-result
+overflow_add-result c =
+    omega (arith, c.put_header-at.ensures.count, c.put_error.ensures.count, error_length c.args.number c.args.code)
 
-same_length : tie.Need-same-length
-same_length c = search rules
+shape_of-frame : tie.Need-shape_of-frame
+shape_of-frame c = search rules
 
 returns : tie.Need-returns
 returns c =
-    let p = c.before.before in
-    let h = p.before.before.before.before in
-    let s = h.before.before.before.before in
-    rw (release_is (inverted s.args.first) 8 (error s.args.number s.args.code) (error_length _ _))
-    (stands_behind (rw h.before.before.invert.ensures at h.put-header.ensures) p.put-error.ensures)
+    rw (release_is (inverted c.args.first) 8 (error c.args.number c.args.code) (error_length _ _))
+    (stands_behind (rw c.invert.ensures at c.put_header-at.ensures) c.put_error.ensures)
 
 pub write_error_spec : {M : Type 1} → statement M
 write_error_spec =
     tie.close
     (tie.spec
-    invert_requires
-    put_header_requires
-    sub_put_error
-    part_put_error_start
-    part_put_error_end
-    put_error_requires
-    add_result
-    same_length
+    invert-requires
+    put_header-at-requires
+    slice_bounds-put_error-count
+    slice_bounds-put_error-start
+    slice_bounds-put_error-end
+    put_error-requires
+    overflow_add-result
+    shape_of-frame
     returns)

@@ -26,105 +26,99 @@ fields s = request_from s.args.operation s.args.number s.args.erasing s.args.add
 abbrev frame : tie.Start → List ℕ
 frame s = s.args.frame.now
 
-returns : tie.Need-returns
-returns c = let s = c.before.before.before in register_short _ _ (fields s) (frame s) c.if1.true
+returns-then-frame-lt-FRAME_ROOM : tie.Need-returns-then-frame-lt-FRAME_ROOM
+returns-then-frame-lt-FRAME_ROOM c = register_short _ _ (fields c.before.before.before) (frame c.before.before.before) c.if-frame-lt-FRAME_ROOM.true
 
-returns_2 : tie.Need-returns-2
-returns_2 c = let s = c.before.before.before.before in register_identifier _ _ (fields s) (frame s) c.before.if1.false c.if2.true
+returns-then-transaction-gt-MOST_TRANSACTION : tie.Need-returns-then-transaction-gt-MOST_TRANSACTION
+returns-then-transaction-gt-MOST_TRANSACTION c = register_identifier _ _ (fields c.before.before.before.before) (frame c.before.before.before.before) c.if-frame-lt-FRAME_ROOM.false c.if-transaction-gt-MOST_TRANSACTION.true
 
-slice_aggregate_write_request : tie.Need-slice-aggregate-write-request
-slice_aggregate_write_request c = search rules
+slice_bounds-write_request-end : tie.Need-slice_bounds-write_request-end
+slice_bounds-write_request-end c = search rules
 
-write_request_requires : tie.Need-write-request-requires
-write_request_requires c κs = search rules
+write_request-requires : tie.Need-write_request-requires
+write_request-requires c κs = search rules
 
-enum_known_n : tie.Need-enum-known-n
-enum_known_n c = search rules
+enum_known-n : tie.Need-enum_known-n
+enum_known-n c = search rules
 
 -- both checks passed
-abbrev passed : tie.After-write-request → tie.Else2
+abbrev passed : tie.After-write_request → tie.Else-transaction-gt-MOST_TRANSACTION
 passed c = c.before.before
-
-abbrev start : tie.After-write-request → tie.Start
+abbrev start : tie.After-write_request → tie.Start
 start c = (passed c).before.before.before.before
 
-abbrev asked : tie.At-match-keys2 → tie.After-write-request
+abbrev asked : tie.In_default → tie.After-write_request
 asked c = c.before.before
-
 -- the request's writer refuses nothing but its fields
-broken : (c : tie.At-match-keys2) → request_sound (fields (start (asked c))) ≡ false
+broken : (c : tie.In_default) → request_sound (fields (start (asked c))) ≡ false
 broken c = go (request_sound (fields (start (asked c)))) refl
   where
-    written : request_sound (fields (start (asked c))) ≡ true → (asked c).write-request.result ≡ Count (length (packed (text_of (fields (start (asked c))))))
-    written = string_written (fields (start (asked c))) (replicate writer_room 0) (asked c).write-request.result _ (asked c).write-request.ensures (omega arith)
+    written : request_sound (fields (start (asked c))) ≡ true → (asked c).write_request.result ≡ Count (length (packed (text_of (fields (start (asked c))))))
+    written = string_written (fields (start (asked c))) (replicate writer_room 0) (asked c).write_request.result _ (asked c).write_request.ensures (omega arith)
 
     go : (b : Bool) → request_sound (fields (start (asked c))) ≡ b → b ≡ false
-    go true e = absurd (miss (1 ∷ 2 ∷ []) 0 tt (rw (written e) at c.match.keys2))
+    go true e = absurd (miss (1 ∷ 2 ∷ []) 0 tt (rw (written e) at c.in_default.in_default-own.keys2))
     go false e = refl
 
-returns_3 : tie.Need-returns-3
-returns_3 c =
+returns-in_default : tie.Need-returns-in_default
+returns-in_default c =
     let w = asked c in
-    register_unsound _ _ (fields (start w)) (frame (start w)) (passed w).before.if1.left (broken c)
+    register_unsound _ _ (fields (start w)) (frame (start w)) (passed w).if-frame-lt-FRAME_ROOM.left (broken c)
 
-mul_first : tie.Need-overflow-mul-first
-mul_first c = search rules
+overflow_mul-first : tie.Need-overflow_mul-first
+overflow_mul-first c = search rules
 
-add_first : tie.Need-overflow-add-first
-add_first c = search rules
+overflow_add-first : tie.Need-overflow_add-first
+overflow_add-first c = search rules
 
 -- the string, where the request's writer wrote one
-abbrev writer : tie.After-known-told → tie.After-write-request
-writer c = c.before.before.before.before
+abbrev writer : tie.In-Count → tie.After-write_request
+writer c = c.before.before
+abbrev count : tie.In-Count → ℕ
+count c = c.in-Count.n
 
-abbrev count : tie.After-known-told → ℕ
-count c = c.before.n.given.0.0
+abbrev buffer : tie.In-Count → List ℕ
+buffer c = (writer c).write_request.new.out
 
-abbrev buffer : tie.After-known-told → List ℕ
-buffer c = (writer c).write-request.new.1.1.1.1.0
+counted : (c : tie.In-Count) → Counted writer_room (request_sound (fields (start (writer c)))) (packed (text_of (fields (start (writer c))))) (replicate writer_room 0) (buffer c) (count c)
+counted c = string_counted (fields (start (writer c))) _ _ (buffer c) (writer c).write_request.ensures (count c) c.in-Count.is
 
-counted : (c : tie.After-known-told) → Counted writer_room (request_sound (fields (start (writer c)))) (packed (text_of (fields (start (writer c))))) (replicate writer_room 0) (buffer c) (count c)
-counted c = string_counted (fields (start (writer c))) _ _ (buffer c) (writer c).write-request.ensures (count c) c.before.n.given.1
+slice_bounds-string-end : tie.Need-slice_bounds-string-end
+slice_bounds-string-end c = (counted c).within
 
-array_share_prefix_string : tie.Need-array-share-prefix-string
-array_share_prefix_string c = (counted c).within
+slice_bounds-put_register-end : tie.Need-slice_bounds-put_register-end
+slice_bounds-put_register-end c = sym (length-take-le _ _ (counted c.before).within)
 
-slice_aggregate_put_register : tie.Need-slice-aggregate-put-register
-slice_aggregate_put_register c = sym (length-take-le _ _ (counted c.before).within)
-
-put_register_requires : tie.Need-put-register-requires
-put_register_requires c κs =
-    let k = c.before.before in
-    let f = fields (start (writer k)) in (
-      omega (arith, ap length (counted k).start, length_packed (text_of f), octets_short f (counted k).sound),
-      (passed (writer k)).before.if1.false,
+put_register-requires : tie.Need-put_register-requires
+put_register-requires c κs =
+    let f = fields (start (writer c.before.before)) in (
+      omega (arith, ap length (counted c.before.before).start, length_packed (text_of f), octets_short f (counted c.before.before).sound),
+      (passed (writer c.before.before)).if-frame-lt-FRAME_ROOM.false,
     )
 
-same_length : tie.Need-same-length
-same_length c = search rules
+shape_of-frame : tie.Need-shape_of-frame
+shape_of-frame c = search rules
 
-returns_4 : tie.Need-returns-4
-returns_4 c =
-    let p = c.before.before in
-    let k = p.before.before.before in
-    let s = start (writer k) in
-    register_written _ _ (fields s) (frame s) (passed (writer k)).before.if1.false (passed (writer k)).if2.false (counted k).sound _ _
-    (rw (← (counted k).start) p.put-register.ensures)
+returns : tie.Need-returns
+returns c =
+    let s = start (writer c.before.before.before.before.before) in
+    register_written _ _ (fields s) (frame s) (passed (writer c.before.before.before.before.before)).if-frame-lt-FRAME_ROOM.false (passed (writer c.before.before.before.before.before)).if-transaction-gt-MOST_TRANSACTION.false (counted c.before.before.before.before.before).sound _ _
+    (rw (← (counted c.before.before.before.before.before).start) c.put_register.ensures)
 
 pub write_register_spec : {M : Type 1} → statement M
 write_register_spec =
     tie.close
     (tie.spec
-    returns
-    returns_2
-    slice_aggregate_write_request
-    write_request_requires
-    enum_known_n
-    returns_3
-    mul_first
-    add_first
-    array_share_prefix_string
-    slice_aggregate_put_register
-    put_register_requires
-    same_length
-    returns_4)
+    returns-then-frame-lt-FRAME_ROOM
+    returns-then-transaction-gt-MOST_TRANSACTION
+    slice_bounds-write_request-end
+    write_request-requires
+    enum_known-n
+    returns-in_default
+    overflow_mul-first
+    overflow_add-first
+    slice_bounds-string-end
+    slice_bounds-put_register-end
+    put_register-requires
+    shape_of-frame
+    returns)

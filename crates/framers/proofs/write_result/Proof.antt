@@ -11,62 +11,56 @@ use borrow.Author.Rules.{rules}
 use Rattle.framers.proofs.write_result.Statement.{statement}
 use Rattle.framers.proofs.write_result.Tie as tie
 
-cast_count : tie.Need-overflow-cast-count
-cast_count c = search rules
+overflow_cast-count : tie.Need-overflow_cast-count
+overflow_cast-count c = search rules
 
-add_count : tie.Need-overflow-add-count
-add_count c = search rules
+overflow_add-count : tie.Need-overflow_add-count
+overflow_add-count c = search rules
 
-invert_requires : tie.Need-invert-requires
-invert_requires c κs = search rules
+invert-requires : tie.Need-invert-requires
+invert-requires c κs = search rules
 
-put_header_requires : tie.Need-put-header-requires
-put_header_requires c κs = search rules
+put_header-at-requires : tie.Need-put_header-at-requires
+put_header-at-requires c κs = search rules
 
-sub_put_result : tie.Need-overflow-sub-put-result
-sub_put_result c = search rules
+slice_bounds-put_result-count : tie.Need-slice_bounds-put_result-count
+slice_bounds-put_result-count c = search rules
 
-part_put_result_start : tie.Need-slice-bounds-put-result-start
-part_put_result_start c = search rules
+slice_bounds-put_result-start : tie.Need-slice_bounds-put_result-start
+slice_bounds-put_result-start c = search rules
 
-part_put_result_end : tie.Need-slice-bounds-put-result-end
-part_put_result_end c = search rules
+slice_bounds-put_result-end : tie.Need-slice_bounds-put_result-end
+slice_bounds-put_result-end c = search rules
 
-put_result_requires : tie.Need-put-result-requires
-put_result_requires c κs = search rules
+put_result-requires : tie.Need-put_result-requires
+put_result-requires c κs = search rules
 
-add_result : tie.Need-overflow-add-result
-add_result c =
-    let p = c.before.before in
-    let h = p.before.before.before.before in
-    let s = h.before.before.before.before.before in
-    omega (arith, s.requires.0, h.put-header.ensures.count, p.put-result.ensures.count, result_length s.args.number s.args.string.now s.requires.0)
+overflow_add-result : tie.Need-overflow_add-result
+overflow_add-result c =
+    omega (arith, c.requires.0, c.put_header-at.ensures.count, c.put_result.ensures.count, result_length c.args.number c.args.string.now c.requires.0)
 
-same_length : tie.Need-same-length
-same_length c = search rules
+shape_of-frame : tie.Need-shape_of-frame
+shape_of-frame c = search rules
 
 returns : tie.Need-returns
 returns c =
-    let p = c.before.before in
-    let h = p.before.before.before.before in
-    let s = h.before.before.before.before.before in
-    let x = s.args.string.now in
-    let l = result_length s.args.number x s.requires.0 in
-    rw (release_is (inverted s.args.first) (length x + 17) (result s.args.number x) (omega arith))
-    (stands_behind (rw h.before.before.invert.ensures at h.put-header.ensures) p.put-result.ensures)
+    let x = c.args.string.now in
+    let l = result_length c.args.number x c.requires.0 in
+    rw (release_is (inverted c.args.first) (length x + 17) (result c.args.number x) (omega arith))
+    (stands_behind (rw c.invert.ensures at c.put_header-at.ensures) c.put_result.ensures)
 
 pub write_result_spec : {M : Type 1} → statement M
 write_result_spec =
     tie.close
     (tie.spec
-    cast_count
-    add_count
-    invert_requires
-    put_header_requires
-    sub_put_result
-    part_put_result_start
-    part_put_result_end
-    put_result_requires
-    add_result
-    same_length
+    overflow_cast-count
+    overflow_add-count
+    invert-requires
+    put_header-at-requires
+    slice_bounds-put_result-count
+    slice_bounds-put_result-start
+    slice_bounds-put_result-end
+    put_result-requires
+    overflow_add-result
+    shape_of-frame
     returns)

@@ -7,63 +7,63 @@ use Rattle.frames.proofs.Steps.{no_start, no_form, short_start, long_start}
 use Rattle.frames.proofs.contents_start.Statement.{statement}
 use Rattle.frames.proofs.contents_start.Tie as tie
 
+returns-then-n-lt-SHORT_HEAD : tie.Need-returns-then-n-lt-SHORT_HEAD
+returns-then-n-lt-SHORT_HEAD c = no_start _ _ λ p. omega (arith, p.two)
+
+bounds-octets-0 : tie.Need-bounds-octets-0
+bounds-octets-0 c = search rules
+
+returns-then-octets-tag : tie.Need-returns-then-octets-tag
+returns-then-octets-tag c = no_start _ _ λ p. c.if-octets-tag.true p.tagged
+
+bounds-octets-1 : tie.Need-bounds-octets-1
+bounds-octets-1 c = search rules
+
+overflow_cast-octets : tie.Need-overflow_cast-octets
+overflow_cast-octets c = omega (arith, c.shared_slice_known-2-1.given 1)
+
+returns-then-n-octets : tie.Need-returns-then-n-octets
+returns-then-n-octets c = short_start _ _ (omega arith) c.if-octets-tag.false c.if-n-octets.true
+
+overflow_add-t-7 : tie.Need-overflow_add-t-7
+overflow_add-t-7 c = search rules
+
+returns-then-n : tie.Need-returns-then-n
+returns-then-n c = no_form _ _ c.if-n-octets.false λ l e. omega arith
+
+bounds-octets-1-2 : tie.Need-bounds-octets-1-2
+bounds-octets-1-2 c = search rules
+
+bounds-octets-2 : tie.Need-bounds-octets-2
+bounds-octets-2 c = search rules
+
+overflow_cast-octets-2 : tie.Need-overflow_cast-octets-2
+overflow_cast-octets-2 c = omega (arith, c.shared_slice_known-4-1.given 2)
+
+overflow_sub-n-3 : tie.Need-overflow_sub-n-3
+overflow_sub-n-3 c = search rules
+
+returns-then-octets-n : tie.Need-returns-then-octets-n
+returns-then-octets-n c = long_start _ _ (omega arith) c.if-octets-tag.false (omega arith) c.if-octets-n.true
+
 returns : tie.Need-returns
-returns c = no_start _ _ λ p. omega (arith, p.two)
-
-shared_slice_read_if2 : tie.Need-shared-slice-read-if2
-shared_slice_read_if2 c = search rules
-
-returns_2 : tie.Need-returns-2
-returns_2 c = no_start _ _ λ p. c.if2.true p.tagged
-
-shared_slice_read_if3 : tie.Need-shared-slice-read-if3
-shared_slice_read_if3 c = search rules
-
-cast_if3 : tie.Need-overflow-cast-if3
-cast_if3 c = omega (arith, c.shared-slice-known2.given 1)
-
-returns_3 : tie.Need-returns-3
-returns_3 c = short_start _ _ (omega arith) c.before.before.if2.false c.if3.true
-
-add_if4 : tie.Need-overflow-add-if4
-add_if4 c = search rules
-
-returns_4 : tie.Need-returns-4
-returns_4 c = no_form _ _ c.before.if3.false λ l e. omega arith
-
-shared_slice_read_if5 : tie.Need-shared-slice-read-if5
-shared_slice_read_if5 c = search rules
-
-shared_slice_read_if5_2 : tie.Need-shared-slice-read-if5-2
-shared_slice_read_if5_2 c = search rules
-
-cast_if5 : tie.Need-overflow-cast-if5
-cast_if5 c = omega (arith, c.shared-slice-known4.given 2)
-
-sub_if5 : tie.Need-overflow-sub-if5
-sub_if5 c = search rules
-
-returns_5 : tie.Need-returns-5
-returns_5 c = long_start _ _ (omega arith) c.before.before.before.before.before.before.if2.false (omega arith) c.if5.true
-
-returns_6 : tie.Need-returns-6
-returns_6 c = no_form _ _ c.before.before.before.before.if3.false λ l e. true≢false (sym e ∙ c.if5.false)
+returns c = no_form _ _ c.if-n-octets.false λ l e. true≢false (sym e ∙ c.if-octets-n.false)
 
 pub contents_start_spec : {M : Type 1} → statement M
 contents_start_spec =
     tie.close
     (tie.spec
-    returns
-    shared_slice_read_if2
-    returns_2
-    shared_slice_read_if3
-    cast_if3
-    returns_3
-    add_if4
-    returns_4
-    shared_slice_read_if5
-    shared_slice_read_if5_2
-    cast_if5
-    sub_if5
-    returns_5
-    returns_6)
+    returns-then-n-lt-SHORT_HEAD
+    bounds-octets-0
+    returns-then-octets-tag
+    bounds-octets-1
+    overflow_cast-octets
+    returns-then-n-octets
+    overflow_add-t-7
+    returns-then-n
+    bounds-octets-1-2
+    bounds-octets-2
+    overflow_cast-octets-2
+    overflow_sub-n-3
+    returns-then-octets-n
+    returns)

@@ -13,127 +13,118 @@ use Rattle.frames.proofs.Bodies.{body_other, body_unsequenced, body_schemeless, 
 use Rattle.frames.proofs.read_body.Statement.{statement}
 use Rattle.frames.proofs.read_body.Tie as tie
 
-slice_aggregate_begins_with : tie.Need-slice-aggregate-begins-with
-slice_aggregate_begins_with c = search rules
+begins_with-requires : tie.Need-begins_with-requires
+begins_with-requires c κs = search rules
 
-begins_with_requires : tie.Need-begins-with-requires
-begins_with_requires c κs = search rules
+returns-then-not-begins_with : tie.Need-returns-then-not-begins_with
+returns-then-not-begins_with c = body_other _ (sym c.begins_with.ensures ∙ not-true _ c.if-not-begins_with.true-raw)
 
-returns : tie.Need-returns
-returns c = body_other _ (sym c.before.begins-with.ensures ∙ not-true _ c.if1.true)
+abbrev octets : tie.Else-not-begins_with → List ℕ
+octets c = c.args.octets.now
 
-abbrev octets : tie.Else1 → List ℕ
-octets c = c.before.before.before.before.args.octets.now
+begun : (c : tie.Else-not-begins_with) → begins operation (octets c) ≡ true
+begun c = sym c.begins_with.ensures ∙ not-false _ c.if-not-begins_with.false-raw
 
-begun : (c : tie.Else1) → begins operation (octets c) ≡ true
-begun c = sym c.before.begins-with.ensures ∙ not-false _ c.if1.false
+slice_bounds-rest-count : tie.Need-slice_bounds-rest-count
+slice_bounds-rest-count c = begins_within operation (octets c) (begun c)
 
-sub_rest : tie.Need-overflow-sub-rest
-sub_rest c = begins_within operation (octets c) (begun c)
+slice_bounds-rest-start : tie.Need-slice_bounds-rest-start
+slice_bounds-rest-start c = begins_within operation (octets c) (begun c)
 
-part_rest_start : tie.Need-slice-bounds-rest-start
-part_rest_start c = begins_within operation (octets c) (begun c)
+slice_bounds-rest-end : tie.Need-slice_bounds-rest-end
+slice_bounds-rest-end c = search rules
 
-part_rest_end : tie.Need-slice-bounds-rest-end
-part_rest_end c = search rules
+contents_start-at-requires : tie.Need-contents_start-at-requires
+contents_start-at-requires c κs = search rules
 
-contents_start_requires : tie.Need-contents-start-requires
-contents_start_requires c κs = search rules
-
-returns_2 : tie.Need-returns-2
-returns_2 c = body_unsequenced _ (begun c.before.before.before) (start_none _ _ _ c.before.contents-start.ensures c.if2.true)
+returns-then-at-eq0 : tie.Need-returns-then-at-eq0
+returns-then-at-eq0 c = body_unsequenced _ (begun c.before.before.before) (start_none _ _ _ c.contents_start-at.ensures c.if-at-eq0.true)
 
 -- the sequence behind the operation
-abbrev rest : tie.Else2 → List ℕ
+abbrev rest : tie.Else-at-eq0 → List ℕ
 rest c = from 3 (octets c.before.before.before)
 
-sequence : (c : tie.Else2) → Contents sequence_tag (rest c) c.before.contents-start.result
-sequence c = start_some _ _ _ c.before.contents-start.ensures c.if2.false
+sequence : (c : tie.Else-at-eq0) → Contents sequence_tag (rest c) c.contents_start-at.result
+sequence c = start_some _ _ _ c.contents_start-at.ensures c.if-at-eq0.false
 
-sub_contents : tie.Need-overflow-sub-contents
-sub_contents c = (sequence c).within
+slice_bounds-contents-count : tie.Need-slice_bounds-contents-count
+slice_bounds-contents-count c = (sequence c).within
 
-part_contents_start : tie.Need-slice-bounds-contents-start
-part_contents_start c = (sequence c).within
+slice_bounds-contents-start : tie.Need-slice_bounds-contents-start
+slice_bounds-contents-start c = (sequence c).within
 
-part_contents_end : tie.Need-slice-bounds-contents-end
-part_contents_end c = search rules
+slice_bounds-contents-end : tie.Need-slice_bounds-contents-end
+slice_bounds-contents-end c = search rules
 
-read_octet_requires : tie.Need-read-octet-requires
-read_octet_requires c κs = search rules
+read_octet-requires : tie.Need-read_octet-requires
+read_octet-requires c κs = search rules
 
-enum_known_scheme : tie.Need-enum-known-scheme
-enum_known_scheme c = search rules
+enum_known-scheme : tie.Need-enum_known-scheme
+enum_known-scheme c = search rules
 
-enum_told : tie.Need-enum-told
-enum_told c = search rules
+enum_told-1 : tie.Need-enum_told-1
+enum_told-1 c = search rules
 
-returns_3 : tie.Need-returns-3
-returns_3 c =
-    let q = c.before.before.before.before in
-    body_schemeless _ (begun q.before.before.before) _ (sequence q) (octet_none _ _ c.before.before.read-octet.ensures c.enum_told.given.1)
+returns-in_default : tie.Need-returns-in_default
+returns-in_default c =
+    body_schemeless _ (begun c.before.before.before.before.before.before) _ (sequence c.before.before.before) (octet_none _ _ c.read_octet.ensures c.in_default.is)
 
 -- the coding scheme in it
-abbrev contents : tie.After-known-told → List ℕ
-contents c = let q = c.before.before.before.before.before in from q.before.contents-start.result (rest q)
+abbrev contents : tie.In-Octet → List ℕ
+contents c = from c.contents_start-at.result (rest c.before.before.before)
 
-scheme : (c : tie.After-known-told) → OctetIs octets_tag (contents c) c.before.scheme.given.0.0
-scheme c = octet_some _ _ c.before.before.before.read-octet.ensures c.before.scheme.given.1
+scheme : (c : tie.In-Octet) → OctetIs octets_tag (contents c) c.in-Octet.scheme
+scheme c = octet_some _ _ c.read_octet.ensures c.in-Octet.is
 
-sub_last : tie.Need-overflow-sub-last
-sub_last c = (scheme c).within
+slice_bounds-last-count : tie.Need-slice_bounds-last-count
+slice_bounds-last-count c = (scheme c).within
 
-part_last_start : tie.Need-slice-bounds-last-start
-part_last_start c = (scheme c).within
+slice_bounds-last-start : tie.Need-slice_bounds-last-start
+slice_bounds-last-start c = (scheme c).within
 
-part_last_end : tie.Need-slice-bounds-last-end
-part_last_end c = search rules
+slice_bounds-last-end : tie.Need-slice_bounds-last-end
+slice_bounds-last-end c = search rules
 
-contents_start_requires_2 : tie.Need-contents-start-requires-2
-contents_start_requires_2 c κs = search rules
+contents_start-start-requires : tie.Need-contents_start-start-requires
+contents_start-start-requires c κs = search rules
 
-returns_4 : tie.Need-returns-4
-returns_4 c =
-    let k = c.before.before.before in
-    let q = k.before.before.before.before.before in
-    body_stringless _ (begun q.before.before.before) _ (sequence q) _ (scheme k) (start_none _ _ _ c.before.contents-start2.ensures c.if3.true)
+returns-then-start-eq0 : tie.Need-returns-then-start-eq0
+returns-then-start-eq0 c =
+    body_stringless _ (begun c.before.before.before.before.before.before.before.before.before) _ (sequence c.before.before.before.before.before.before) _ (scheme c.before.before.before) (start_none _ _ _ c.contents_start-start.ensures c.if-start-eq0.true)
 
 -- the string behind it
-string : (c : tie.Else3) → Contents octets_tag (from 3 (contents c.before.before.before)) c.before.contents-start2.result
-string c = start_some _ _ _ c.before.contents-start2.ensures c.if3.false
+string : (c : tie.Else-start-eq0) → Contents octets_tag (from 3 (contents c.before.before.before)) c.contents_start-start.result
+string c = start_some _ _ _ c.contents_start-start.ensures c.if-start-eq0.false
 
-sub_t21 : tie.Need-overflow-sub-t21
-sub_t21 c = (string c).within
+overflow_sub-result : tie.Need-overflow_sub-result
+overflow_sub-result c = (string c).within
 
-returns_5 : tie.Need-returns-5
-returns_5 c =
-    let k = c.before.before.before in
-    let q = k.before.before.before.before.before in
-    body_asks _ (begun q.before.before.before) _ (sequence q) _ (scheme k) _ (string c)
+returns : tie.Need-returns
+returns c =
+    body_asks _ (begun c.before.before.before.before.before.before.before.before.before) _ (sequence c.before.before.before.before.before.before) _ (scheme c.before.before.before) _ (string c)
 
 pub read_body_spec : {M : Type 1} → statement M
 read_body_spec =
     tie.close
     (tie.spec
-    slice_aggregate_begins_with
-    begins_with_requires
-    returns
-    sub_rest
-    part_rest_start
-    part_rest_end
-    contents_start_requires
-    returns_2
-    sub_contents
-    part_contents_start
-    part_contents_end
-    read_octet_requires
-    enum_known_scheme
-    enum_told
-    returns_3
-    sub_last
-    part_last_start
-    part_last_end
-    contents_start_requires_2
-    returns_4
-    sub_t21
-    returns_5)
+    begins_with-requires
+    returns-then-not-begins_with
+    slice_bounds-rest-count
+    slice_bounds-rest-start
+    slice_bounds-rest-end
+    contents_start-at-requires
+    returns-then-at-eq0
+    slice_bounds-contents-count
+    slice_bounds-contents-start
+    slice_bounds-contents-end
+    read_octet-requires
+    enum_known-scheme
+    enum_told-1
+    returns-in_default
+    slice_bounds-last-count
+    slice_bounds-last-start
+    slice_bounds-last-end
+    contents_start-start-requires
+    returns-then-start-eq0
+    overflow_sub-result
+    returns)

@@ -8,78 +8,77 @@ use Rattle.frames.proofs.Components.{invoke_empty, invoke_unnumbered, invoke_num
 use Rattle.frames.proofs.read_invoke.Statement.{statement}
 use Rattle.frames.proofs.read_invoke.Tie as tie
 
-contents_start_requires : tie.Need-contents-start-requires
-contents_start_requires c κs = search rules
+contents_start-at-requires : tie.Need-contents_start-at-requires
+contents_start-at-requires c κs = search rules
 
-returns : tie.Need-returns
-returns c = invoke_empty _ (start_none _ _ _ c.before.contents-start.ensures c.if1.true)
+returns-then-at-eq0 : tie.Need-returns-then-at-eq0
+returns-then-at-eq0 c = invoke_empty _ (start_none _ _ _ c.contents_start-at.ensures c.if-at-eq0.true)
 
 -- the component, and the invoke number in it
-abbrev octets : tie.Else1 → List ℕ
-octets c = c.before.before.before.args.octets.now
+abbrev octets : tie.Else-at-eq0 → List ℕ
+octets c = c.args.octets.now
 
-component : (c : tie.Else1) → Contents invoke_tag (octets c) c.before.contents-start.result
-component c = start_some _ _ _ c.before.contents-start.ensures c.if1.false
+component : (c : tie.Else-at-eq0) → Contents invoke_tag (octets c) c.contents_start-at.result
+component c = start_some _ _ _ c.contents_start-at.ensures c.if-at-eq0.false
 
-sub_contents : tie.Need-overflow-sub-contents
-sub_contents c = (component c).within
+slice_bounds-contents-count : tie.Need-slice_bounds-contents-count
+slice_bounds-contents-count c = (component c).within
 
-part_contents_start : tie.Need-slice-bounds-contents-start
-part_contents_start c = (component c).within
+slice_bounds-contents-start : tie.Need-slice_bounds-contents-start
+slice_bounds-contents-start c = (component c).within
 
-part_contents_end : tie.Need-slice-bounds-contents-end
-part_contents_end c = search rules
+slice_bounds-contents-end : tie.Need-slice_bounds-contents-end
+slice_bounds-contents-end c = search rules
 
-read_octet_requires : tie.Need-read-octet-requires
-read_octet_requires c κs = search rules
+read_octet-requires : tie.Need-read_octet-requires
+read_octet-requires c κs = search rules
 
-enum_known_number : tie.Need-enum-known-number
-enum_known_number c = search rules
+enum_known-number : tie.Need-enum_known-number
+enum_known-number c = search rules
 
-enum_told : tie.Need-enum-told
-enum_told c = search rules
+enum_told-1 : tie.Need-enum_told-1
+enum_told-1 c = search rules
 
-returns_2 : tie.Need-returns-2
-returns_2 c = invoke_unnumbered _ _ (component c.before.before.before.before) (octet_none _ _ c.before.before.read-octet.ensures c.enum_told.given.1)
+returns-in_default : tie.Need-returns-in_default
+returns-in_default c = invoke_unnumbered _ _ (component c.before.before.before) (octet_none _ _ c.read_octet.ensures c.in_default.is)
 
-abbrev contents : tie.After-known-told → List ℕ
-contents c = let q = c.before.before.before.before.before in from q.before.contents-start.result (octets q)
+abbrev contents : tie.In-Octet → List ℕ
+contents c = from c.contents_start-at.result (octets c.before.before.before)
 
-number : (c : tie.After-known-told) → OctetIs integer_tag (contents c) c.before.number.given.0.0
-number c = octet_some _ _ c.before.before.before.read-octet.ensures c.before.number.given.1
+number : (c : tie.In-Octet) → OctetIs integer_tag (contents c) c.in-Octet.number
+number c = octet_some _ _ c.read_octet.ensures c.in-Octet.is
 
-sub_read_body : tie.Need-overflow-sub-read-body
-sub_read_body c = (number c).within
+slice_bounds-read_body-count : tie.Need-slice_bounds-read_body-count
+slice_bounds-read_body-count c = (number c).within
 
-part_read_body_start : tie.Need-slice-bounds-read-body-start
-part_read_body_start c = (number c).within
+slice_bounds-read_body-start : tie.Need-slice_bounds-read_body-start
+slice_bounds-read_body-start c = (number c).within
 
-part_read_body_end : tie.Need-slice-bounds-read-body-end
-part_read_body_end c = search rules
+slice_bounds-read_body-end : tie.Need-slice_bounds-read_body-end
+slice_bounds-read_body-end c = search rules
 
-read_body_requires : tie.Need-read-body-requires
-read_body_requires c κs = search rules
+read_body-body-requires : tie.Need-read_body-body-requires
+read_body-body-requires c κs = search rules
 
-returns_3 : tie.Need-returns-3
-returns_3 c =
-    let k = c.before.before in
-    invoke_numbered _ _ (component k.before.before.before.before.before) _ (number k) c.read-body.result c.read-body.ensures
+returns : tie.Need-returns
+returns c =
+    invoke_numbered _ _ (component c.before.before.before.before.before) _ (number c.before.before) c.read_body-body.result c.read_body-body.ensures
 
 pub read_invoke_spec : {M : Type 1} → statement M
 read_invoke_spec =
     tie.close
     (tie.spec
-    contents_start_requires
-    returns
-    sub_contents
-    part_contents_start
-    part_contents_end
-    read_octet_requires
-    enum_known_number
-    enum_told
-    returns_2
-    sub_read_body
-    part_read_body_start
-    part_read_body_end
-    read_body_requires
-    returns_3)
+    contents_start-at-requires
+    returns-then-at-eq0
+    slice_bounds-contents-count
+    slice_bounds-contents-start
+    slice_bounds-contents-end
+    read_octet-requires
+    enum_known-number
+    enum_told-1
+    returns-in_default
+    slice_bounds-read_body-count
+    slice_bounds-read_body-start
+    slice_bounds-read_body-end
+    read_body-body-requires
+    returns)

@@ -6,31 +6,31 @@ use Rattle.frames.proofs.Steps.{octet_few, octet_other, octet_read}
 use Rattle.frames.proofs.read_octet.Statement.{statement}
 use Rattle.frames.proofs.read_octet.Tie as tie
 
+returns-then-octets-lt-OCTET_PART : tie.Need-returns-then-octets-lt-OCTET_PART
+returns-then-octets-lt-OCTET_PART c = sym (octet_few _ _ (omega arith))
+
+bounds-octets-0 : tie.Need-bounds-octets-0
+bounds-octets-0 c = search rules
+
+bounds-octets-1 : tie.Need-bounds-octets-1
+bounds-octets-1 c = search rules
+
+returns-then-octets-tag : tie.Need-returns-then-octets-tag
+returns-then-octets-tag c = sym (octet_other _ _ c.if-octets-tag.true)
+
+bounds-octets-2 : tie.Need-bounds-octets-2
+bounds-octets-2 c = search rules
+
 returns : tie.Need-returns
-returns c = sym (octet_few _ _ (omega arith))
-
-shared_slice_read_if2 : tie.Need-shared-slice-read-if2
-shared_slice_read_if2 c = search rules
-
-shared_slice_read_if2_2 : tie.Need-shared-slice-read-if2-2
-shared_slice_read_if2_2 c = search rules
-
-returns_2 : tie.Need-returns-2
-returns_2 c = sym (octet_other _ _ c.if2.true)
-
-shared_slice_read_t6 : tie.Need-shared-slice-read-t6
-shared_slice_read_t6 c = search rules
-
-returns_3 : tie.Need-returns-3
-returns_3 c = sym (octet_read _ _ (omega arith) c.before.if2.false)
+returns c = sym (octet_read _ _ (omega arith) c.if-octets-tag.false)
 
 pub read_octet_spec : {M : Type 1} → statement M
 read_octet_spec =
     tie.close
     (tie.spec
-    returns
-    shared_slice_read_if2
-    shared_slice_read_if2_2
-    returns_2
-    shared_slice_read_t6
-    returns_3)
+    returns-then-octets-lt-OCTET_PART
+    bounds-octets-0
+    bounds-octets-1
+    returns-then-octets-tag
+    bounds-octets-2
+    returns)

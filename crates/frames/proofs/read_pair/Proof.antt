@@ -8,106 +8,101 @@ use Rattle.frames.proofs.Components.{pair_empty, pair_unnumbered, pair_codeless,
 use Rattle.frames.proofs.read_pair.Statement.{statement}
 use Rattle.frames.proofs.read_pair.Tie as tie
 
-contents_start_requires : tie.Need-contents-start-requires
-contents_start_requires c κs = search rules
+contents_start-at-requires : tie.Need-contents_start-at-requires
+contents_start-at-requires c κs = search rules
 
-returns : tie.Need-returns
-returns c = pair_empty _ _ _ (start_none _ _ _ c.before.contents-start.ensures c.if1.true)
+returns-then-at-eq0 : tie.Need-returns-then-at-eq0
+returns-then-at-eq0 c = pair_empty _ _ _ (start_none _ _ _ c.contents_start-at.ensures c.if-at-eq0.true)
 
 -- the component, and the invoke number in it
-abbrev octets : tie.Else1 → List ℕ
-octets c = c.before.before.before.args.octets.now
+abbrev octets : tie.Else-at-eq0 → List ℕ
+octets c = c.args.octets.now
 
-component : (c : tie.Else1) → Contents c.before.before.before.args.tag (octets c) c.before.contents-start.result
-component c = start_some _ _ _ c.before.contents-start.ensures c.if1.false
+component : (c : tie.Else-at-eq0) → Contents c.args.tag (octets c) c.contents_start-at.result
+component c = start_some _ _ _ c.contents_start-at.ensures c.if-at-eq0.false
 
-sub_contents : tie.Need-overflow-sub-contents
-sub_contents c = (component c).within
+slice_bounds-contents-count : tie.Need-slice_bounds-contents-count
+slice_bounds-contents-count c = (component c).within
 
-part_contents_start : tie.Need-slice-bounds-contents-start
-part_contents_start c = (component c).within
+slice_bounds-contents-start : tie.Need-slice_bounds-contents-start
+slice_bounds-contents-start c = (component c).within
 
-part_contents_end : tie.Need-slice-bounds-contents-end
-part_contents_end c = search rules
+slice_bounds-contents-end : tie.Need-slice_bounds-contents-end
+slice_bounds-contents-end c = search rules
 
-read_octet_requires : tie.Need-read-octet-requires
-read_octet_requires c κs = search rules
+read_octet-requires : tie.Need-read_octet-requires
+read_octet-requires c κs = search rules
 
-enum_known_number : tie.Need-enum-known-number
-enum_known_number c = search rules
+enum_known-number : tie.Need-enum_known-number
+enum_known-number c = search rules
 
-enum_told : tie.Need-enum-told
-enum_told c = search rules
+enum_told-1 : tie.Need-enum_told-1
+enum_told-1 c = search rules
 
-returns_2 : tie.Need-returns-2
-returns_2 c = pair_unnumbered _ _ _ _ (component c.before.before.before.before) (octet_none _ _ c.before.before.read-octet.ensures c.enum_told.given.1)
+returns-in_default : tie.Need-returns-in_default
+returns-in_default c = pair_unnumbered _ _ _ _ (component c.before.before.before) (octet_none _ _ c.read_octet.ensures c.in_default.is)
 
-abbrev contents : tie.After-known-told → List ℕ
-contents c = let q = c.before.before.before.before.before in from q.before.contents-start.result (octets q)
+abbrev contents : tie.In-Octet → List ℕ
+contents c = from c.contents_start-at.result (octets c.before.before.before)
 
-number : (c : tie.After-known-told) → OctetIs integer_tag (contents c) c.before.number.given.0.0
-number c = octet_some _ _ c.before.before.before.read-octet.ensures c.before.number.given.1
+number : (c : tie.In-Octet) → OctetIs integer_tag (contents c) c.in-Octet.number
+number c = octet_some _ _ c.read_octet.ensures c.in-Octet.is
 
-sub_last : tie.Need-overflow-sub-last
-sub_last c = (number c).within
+slice_bounds-last-count : tie.Need-slice_bounds-last-count
+slice_bounds-last-count c = (number c).within
 
-part_last_start : tie.Need-slice-bounds-last-start
-part_last_start c = (number c).within
+slice_bounds-last-start : tie.Need-slice_bounds-last-start
+slice_bounds-last-start c = (number c).within
 
-part_last_end : tie.Need-slice-bounds-last-end
-part_last_end c = search rules
+slice_bounds-last-end : tie.Need-slice_bounds-last-end
+slice_bounds-last-end c = search rules
 
-read_octet_requires_2 : tie.Need-read-octet-requires-2
-read_octet_requires_2 c κs = search rules
+read_octet-requires-2 : tie.Need-read_octet-requires-2
+read_octet-requires-2 c κs = search rules
 
-enum_known_code : tie.Need-enum-known-code
-enum_known_code c = search rules
+enum_known-code : tie.Need-enum_known-code
+enum_known-code c = search rules
 
-enum_told_2 : tie.Need-enum-told-2
-enum_told_2 c = search rules
+enum_told-in_default-read_octet : tie.Need-enum_told-in_default-read_octet
+enum_told-in_default-read_octet c = search rules
 
-returns_3 : tie.Need-returns-3
-returns_3 c =
-    let k = c.before.before.before.before in
-    pair_codeless _ _ _ _ (component k.before.before.before.before.before) _ (number k)
-    (octet_none _ _ c.before.before.read-octet2.ensures c.enum-told2.given.1)
+returns-in_default-read_octet : tie.Need-returns-in_default-read_octet
+returns-in_default-read_octet c =
+    pair_codeless _ _ _ _ (component c.before.before.before.before.before.before) _ (number c.before.before.before)
+    (octet_none _ _ c.read_octet-2.ensures c.in_default-read_octet.is)
 
 -- the octet behind it
 second :
-    (c : tie.After-known-told2) → let k = c.before.before.before.before.before in
-    let q = k.before.before.before.before.before in
-    OctetIs q.before.before.before.args.inner (from 3 (contents k)) c.before.code.given.0.0
-second c = octet_some _ _ c.before.before.before.read-octet2.ensures c.before.code.given.1
+    (c : tie.In-Octet-read_octet) → OctetIs c.args.inner (from 3 (contents c.before.before.before)) c.in-Octet-read_octet.code
+second c = octet_some _ _ c.read_octet-2.ensures c.in-Octet-read_octet.is
 
-returns_4 : tie.Need-returns-4
-returns_4 c =
-    let k = c.before.before.before.before.before.before in
-    pair_more _ _ _ _ (component k.before.before.before.before.before) _ (number k) _ (second c.before) c.if2.true
+returns-then-last-ne-OCTET_PART : tie.Need-returns-then-last-ne-OCTET_PART
+returns-then-last-ne-OCTET_PART c =
+    pair_more _ _ _ _ (component c.before.before.before.before.before.before.before) _ (number c.before.before.before.before) _ (second c.before) c.if-last-ne-OCTET_PART.true
 
-returns_5 : tie.Need-returns-5
-returns_5 c =
-    let k = c.before.before.before.before.before.before in
-    pair_read _ _ _ _ (component k.before.before.before.before.before) _ (number k) _ (second c.before) c.if2.false
+returns : tie.Need-returns
+returns c =
+    pair_read _ _ _ _ (component c.before.before.before.before.before.before.before) _ (number c.before.before.before.before) _ (second c.before) c.if-last-ne-OCTET_PART.false
 
 pub read_pair_spec : {M : Type 1} → statement M
 read_pair_spec =
     tie.close
     (tie.spec
-    contents_start_requires
-    returns
-    sub_contents
-    part_contents_start
-    part_contents_end
-    read_octet_requires
-    enum_known_number
-    enum_told
-    returns_2
-    sub_last
-    part_last_start
-    part_last_end
-    read_octet_requires_2
-    enum_known_code
-    enum_told_2
-    returns_3
-    returns_4
-    returns_5)
+    contents_start-at-requires
+    returns-then-at-eq0
+    slice_bounds-contents-count
+    slice_bounds-contents-start
+    slice_bounds-contents-end
+    read_octet-requires
+    enum_known-number
+    enum_told-1
+    returns-in_default
+    slice_bounds-last-count
+    slice_bounds-last-start
+    slice_bounds-last-end
+    read_octet-requires-2
+    enum_known-code
+    enum_told-in_default-read_octet
+    returns-in_default-read_octet
+    returns-then-last-ne-OCTET_PART
+    returns)

@@ -11,135 +11,128 @@ use Rattle.frames.proofs.Components.{result_empty, result_unnumbered, result_uns
 use Rattle.frames.proofs.read_result.Statement.{statement}
 use Rattle.frames.proofs.read_result.Tie as tie
 
-contents_start_requires : tie.Need-contents-start-requires
-contents_start_requires c κs = search rules
+contents_start-at-requires : tie.Need-contents_start-at-requires
+contents_start-at-requires c κs = search rules
 
-returns : tie.Need-returns
-returns c = result_empty _ (start_none _ _ _ c.before.contents-start.ensures c.if1.true)
+returns-then-at-eq0 : tie.Need-returns-then-at-eq0
+returns-then-at-eq0 c = result_empty _ (start_none _ _ _ c.contents_start-at.ensures c.if-at-eq0.true)
 
 -- the component, and the invoke number in it
-abbrev octets : tie.Else1 → List ℕ
-octets c = c.before.before.before.args.octets.now
+abbrev octets : tie.Else-at-eq0 → List ℕ
+octets c = c.args.octets.now
 
-component : (c : tie.Else1) → Contents result_tag (octets c) c.before.contents-start.result
-component c = start_some _ _ _ c.before.contents-start.ensures c.if1.false
+component : (c : tie.Else-at-eq0) → Contents result_tag (octets c) c.contents_start-at.result
+component c = start_some _ _ _ c.contents_start-at.ensures c.if-at-eq0.false
 
-sub_contents : tie.Need-overflow-sub-contents
-sub_contents c = (component c).within
+slice_bounds-contents-count : tie.Need-slice_bounds-contents-count
+slice_bounds-contents-count c = (component c).within
 
-part_contents_start : tie.Need-slice-bounds-contents-start
-part_contents_start c = (component c).within
+slice_bounds-contents-start : tie.Need-slice_bounds-contents-start
+slice_bounds-contents-start c = (component c).within
 
-part_contents_end : tie.Need-slice-bounds-contents-end
-part_contents_end c = search rules
+slice_bounds-contents-end : tie.Need-slice_bounds-contents-end
+slice_bounds-contents-end c = search rules
 
-read_octet_requires : tie.Need-read-octet-requires
-read_octet_requires c κs = search rules
+read_octet-requires : tie.Need-read_octet-requires
+read_octet-requires c κs = search rules
 
-enum_known_number : tie.Need-enum-known-number
-enum_known_number c = search rules
+enum_known-number : tie.Need-enum_known-number
+enum_known-number c = search rules
 
-enum_told : tie.Need-enum-told
-enum_told c = search rules
+enum_told-1 : tie.Need-enum_told-1
+enum_told-1 c = search rules
 
-returns_2 : tie.Need-returns-2
-returns_2 c = result_unnumbered _ _ (component c.before.before.before.before) (octet_none _ _ c.before.before.read-octet.ensures c.enum_told.given.1)
+returns-in_default : tie.Need-returns-in_default
+returns-in_default c = result_unnumbered _ _ (component c.before.before.before) (octet_none _ _ c.read_octet.ensures c.in_default.is)
 
-abbrev contents : tie.After-known-told → List ℕ
-contents c = let q = c.before.before.before.before.before in from q.before.contents-start.result (octets q)
+abbrev contents : tie.In-Octet → List ℕ
+contents c = from c.contents_start-at.result (octets c.before.before.before)
 
-number : (c : tie.After-known-told) → OctetIs integer_tag (contents c) c.before.number.given.0.0
-number c = octet_some _ _ c.before.before.before.read-octet.ensures c.before.number.given.1
+number : (c : tie.In-Octet) → OctetIs integer_tag (contents c) c.in-Octet.number
+number c = octet_some _ _ c.read_octet.ensures c.in-Octet.is
 
-sub_outer : tie.Need-overflow-sub-outer
-sub_outer c = (number c).within
+slice_bounds-outer-count : tie.Need-slice_bounds-outer-count
+slice_bounds-outer-count c = (number c).within
 
-part_outer_start : tie.Need-slice-bounds-outer-start
-part_outer_start c = (number c).within
+slice_bounds-outer-start : tie.Need-slice_bounds-outer-start
+slice_bounds-outer-start c = (number c).within
 
-part_outer_end : tie.Need-slice-bounds-outer-end
-part_outer_end c = search rules
+slice_bounds-outer-end : tie.Need-slice_bounds-outer-end
+slice_bounds-outer-end c = search rules
 
-contents_start_requires_2 : tie.Need-contents-start-requires-2
-contents_start_requires_2 c κs = search rules
+contents_start-first-requires : tie.Need-contents_start-first-requires
+contents_start-first-requires c κs = search rules
 
-returns_3 : tie.Need-returns-3
-returns_3 c =
-    let k = c.before.before.before in
-    result_unsequenced _ _ (component k.before.before.before.before.before) _ (number k) (start_none _ _ _ c.before.contents-start2.ensures c.if2.true)
+returns-then-first-eq0 : tie.Need-returns-then-first-eq0
+returns-then-first-eq0 c =
+    result_unsequenced _ _ (component c.before.before.before.before.before.before) _ (number c.before.before.before) (start_none _ _ _ c.contents_start-first.ensures c.if-first-eq0.true)
 
 -- the sequence behind it
-sequence : (c : tie.Else2) → Contents sequence_tag (from 3 (contents c.before.before.before)) c.before.contents-start2.result
-sequence c = start_some _ _ _ c.before.contents-start2.ensures c.if2.false
+sequence : (c : tie.Else-first-eq0) → Contents sequence_tag (from 3 (contents c.before.before.before)) c.contents_start-first.result
+sequence c = start_some _ _ _ c.contents_start-first.ensures c.if-first-eq0.false
 
-sub_read_body : tie.Need-overflow-sub-read-body
-sub_read_body c = (sequence c).within
+slice_bounds-read_body-count : tie.Need-slice_bounds-read_body-count
+slice_bounds-read_body-count c = (sequence c).within
 
-part_read_body_start : tie.Need-slice-bounds-read-body-start
-part_read_body_start c = (sequence c).within
+slice_bounds-read_body-start : tie.Need-slice_bounds-read_body-start
+slice_bounds-read_body-start c = (sequence c).within
 
-part_read_body_end : tie.Need-slice-bounds-read-body-end
-part_read_body_end c = search rules
+slice_bounds-read_body-end : tie.Need-slice_bounds-read_body-end
+slice_bounds-read_body-end c = search rules
 
-read_body_requires : tie.Need-read-body-requires
-read_body_requires c κs = search rules
+read_body-requires : tie.Need-read_body-requires
+read_body-requires c κs = search rules
 
-enum_known_scheme : tie.Need-enum-known-scheme
-enum_known_scheme c = search rules
+enum_known-scheme : tie.Need-enum_known-scheme
+enum_known-scheme c = search rules
 
-enum_told_2 : tie.Need-enum-told-2
-enum_told_2 c = search rules
+enum_told-in_default-read_body : tie.Need-enum_told-in_default-read_body
+enum_told-in_default-read_body c = search rules
 
-returns_4 : tie.Need-returns-4
-returns_4 c =
-    let q = c.before.before.before.before in
-    let k = q.before.before.before in
-    result_wrong _ _ (component k.before.before.before.before.before) _ (number k) _ (sequence q) _
-    (rw c.enum-told2.given.1 at c.before.before.read-body.ensures)
+returns-in_default-read_body : tie.Need-returns-in_default-read_body
+returns-in_default-read_body c =
+    result_wrong _ _ (component c.before.before.before.before.before.before.before.before.before) _ (number c.before.before.before.before.before.before) _ (sequence c.before.before.before) _
+    (rw c.in_default-read_body.is at c.read_body.ensures)
 
 -- what is in the sequence
-abbrev inner : tie.After-known-told2 → List ℕ
-inner c = let q = c.before.before.before.before.before in from q.before.contents-start2.result (from 3 (contents q.before.before.before))
+abbrev inner : tie.In-Asks → List ℕ
+inner c = from c.contents_start-first.result (from 3 (contents c.before.before.before.before.before.before))
 
-body : (c : tie.After-known-told2) → told_body (Asks c.before.scheme.given.0.0 c.before.scheme.given.0.1.0) (inner c) ≡ body_of (inner c)
-body c = rw c.before.scheme.given.1 at c.before.before.before.read-body.ensures
+body : (c : tie.In-Asks) → told_body (Asks c.in-Asks.scheme c.in-Asks.count) (inner c) ≡ body_of (inner c)
+body c = rw c.in-Asks.is at c.read_body.ensures
 
-returns_5 : tie.Need-returns-5
-returns_5 c =
-    let q = c.before.before.before.before.before.before in
-    let k = q.before.before.before in
-    result_unfit _ _ (component k.before.before.before.before.before) _ (number k) _ (sequence q) _ _ (body c.before) c.if3.true
+returns-then-scheme-count : tie.Need-returns-then-scheme-count
+returns-then-scheme-count c =
+    result_unfit _ _ (component c.before.before.before.before.before.before.before.before.before.before) _ (number c.before.before.before.before.before.before.before) _ (sequence c.before.before.before.before) _ _ (body c.before) c.if-scheme-count.true
 
-returns_6 : tie.Need-returns-6
-returns_6 c =
-    let q = c.before.before.before.before.before.before in
-    let k = q.before.before.before in
-    result_read _ _ (component k.before.before.before.before.before) _ (number k) _ (sequence q) _ _ (body c.before) c.if3.false
+returns : tie.Need-returns
+returns c =
+    result_read _ _ (component c.before.before.before.before.before.before.before.before.before.before) _ (number c.before.before.before.before.before.before.before) _ (sequence c.before.before.before.before) _ _ (body c.before) c.if-scheme-count.false
 
 pub read_result_spec : {M : Type 1} → statement M
 read_result_spec =
     tie.close
     (tie.spec
-    contents_start_requires
-    returns
-    sub_contents
-    part_contents_start
-    part_contents_end
-    read_octet_requires
-    enum_known_number
-    enum_told
-    returns_2
-    sub_outer
-    part_outer_start
-    part_outer_end
-    contents_start_requires_2
-    returns_3
-    sub_read_body
-    part_read_body_start
-    part_read_body_end
-    read_body_requires
-    enum_known_scheme
-    enum_told_2
-    returns_4
-    returns_5
-    returns_6)
+    contents_start-at-requires
+    returns-then-at-eq0
+    slice_bounds-contents-count
+    slice_bounds-contents-start
+    slice_bounds-contents-end
+    read_octet-requires
+    enum_known-number
+    enum_told-1
+    returns-in_default
+    slice_bounds-outer-count
+    slice_bounds-outer-start
+    slice_bounds-outer-end
+    contents_start-first-requires
+    returns-then-first-eq0
+    slice_bounds-read_body-count
+    slice_bounds-read_body-start
+    slice_bounds-read_body-end
+    read_body-requires
+    enum_known-scheme
+    enum_told-in_default-read_body
+    returns-in_default-read_body
+    returns-then-scheme-count
+    returns)

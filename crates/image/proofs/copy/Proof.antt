@@ -9,60 +9,58 @@ use borrow.Author.Rules.{rules}
 use Rattle.image.proofs.copy.Statement.{statement}
 use Rattle.image.proofs.copy.Tie as tie
 
-abbrev invariant_loop : tie.invariant_loop
-invariant_loop words out₀ i₀ out i = (i ≤ length words) × (length out ≡ length out₀) × (out ≡ take i words ++ drop i out₀)
+abbrev invariant-loop-i : tie.invariant-loop-i
+invariant-loop-i words out₀ i₀ out i = (i ≤ length words) × (length out ≡ length out₀) × (out ≡ take i words ++ drop i out₀)
 
-abbrev decreases_loop : tie.decreases_loop
-decreases_loop words out₀ i₀ out i = length words - i
+abbrev decreases-loop-i : tie.decreases-loop-i
+decreases-loop-i words out₀ i₀ out i = length words - i
 
-loop_holds : tie.Need-loop-init invariant_loop decreases_loop
-loop_holds c = (omega arith, refl, refl)
+loop-i-init : tie.Need-loop-i-init invariant-loop-i decreases-loop-i
+loop-i-init c = (omega arith, refl, refl)
 
-mul_out : tie.Need-overflow-mul-out invariant_loop decreases_loop
-mul_out c = search rules
+offset_bounds-words-i : tie.Need-offset_bounds-words-i invariant-loop-i decreases-loop-i
+offset_bounds-words-i c = search rules
 
-shared_slice_read_out : tie.Need-shared-slice-read-out invariant_loop decreases_loop
-shared_slice_read_out c = search rules
+bounds-words-i : tie.Need-bounds-words-i invariant-loop-i decreases-loop-i
+bounds-words-i c = search rules
 
-mul_out_2 : tie.Need-overflow-mul-out-2 invariant_loop decreases_loop
-mul_out_2 c = search rules
+offset_bounds-out-i : tie.Need-offset_bounds-out-i invariant-loop-i decreases-loop-i
+offset_bounds-out-i c = search rules
 
-slice_write_out : tie.Need-slice-write-out invariant_loop decreases_loop
-slice_write_out c = search rules
+bounds-out-i : tie.Need-bounds-out-i invariant-loop-i decreases-loop-i
+bounds-out-i c = search rules
 
-add_i : tie.Need-overflow-add-i invariant_loop decreases_loop
-add_i c = search rules
+overflow_add-i : tie.Need-overflow_add-i invariant-loop-i decreases-loop-i
+overflow_add-i c = search rules
 
-loop_less : tie.Need-loop-smaller invariant_loop decreases_loop
-loop_less c = search rules
+loop-i-smaller : tie.Need-loop-i-smaller invariant-loop-i decreases-loop-i
+loop-i-smaller c = search rules
 
-loop_again : tie.Need-loop-preserved invariant_loop decreases_loop
-loop_again c =
-    let l = c.before.before in
-    let a = l.before.args in
-    (omega arith, simp length-set (omega arith), front_more a.words.now a.out.now l.loop.out l.loop.i _ (omega arith) (omega arith) refl l.loop.invariant.2)
+loop-i-preserved : tie.Need-loop-i-preserved invariant-loop-i decreases-loop-i
+loop-i-preserved c =
+    let a = c.args in
+    (omega arith, simp length-set (omega arith), front_more a.words.now a.out.now c.loop-i.out c.loop-i.i _ (omega arith) (omega arith) refl c.loop-i.invariant.2)
 
-same_length : tie.Need-same-length invariant_loop decreases_loop
-same_length c = search rules
+shape_of-out : tie.Need-shape_of-out invariant-loop-i decreases-loop-i
+shape_of-out c = search rules
 
-returns : tie.Need-returns invariant_loop decreases_loop
+returns : tie.Need-returns invariant-loop-i decreases-loop-i
 returns c =
-    let l = c.before in
-    front_done _ _ _ l.loop.i l.loop.invariant.0 c.loop-test.false l.loop.invariant.2
+    front_done _ _ _ c.loop-i.i c.loop-i.invariant.0 c.loop-i-test.false c.loop-i.invariant.2
 
 pub copy_spec : {M : Type 1} → statement M
 copy_spec =
     tie.close
     (tie.spec
-    invariant_loop
-    decreases_loop
-    loop_holds
-    mul_out
-    shared_slice_read_out
-    mul_out_2
-    slice_write_out
-    add_i
-    loop_less
-    loop_again
-    same_length
+    invariant-loop-i
+    decreases-loop-i
+    loop-i-init
+    offset_bounds-words-i
+    bounds-words-i
+    offset_bounds-out-i
+    bounds-out-i
+    overflow_add-i
+    loop-i-smaller
+    loop-i-preserved
+    shape_of-out
     returns)

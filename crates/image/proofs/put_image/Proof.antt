@@ -14,94 +14,87 @@ use borrow.Author.Rules.{rules}
 use Rattle.image.proofs.put_image.Statement.{statement}
 use Rattle.image.proofs.put_image.Tie as tie
 
-abbrev start : tie.After-store-words → tie.Start
+abbrev start : tie.After-store_words-rows → tie.Start
 start c = c.before.before.before.before.before
-
 -- there is room for all of them
 room : (s : tie.Start) → word_octets * (length s.args.table.now + length s.args.list.now) + trailer_octets ≤ length s.args.out.now
 room s = omega (arith, s.requires, length_image s.args.table.now s.args.list.now)
 
 -- the table's octets stand at the front
-one : (c : tie.After-store-words) → Stands (octets_of (start c).args.table.now) (start c).args.out.now c.store_words_lem.result c.store_words_lem.new.1.0
+one : (c : tie.After-store_words-rows) → Stands (octets_of (start c).args.table.now) (start c).args.out.now c.store_words_lem.result c.store_words_lem.new.1.0
 one c = c.store_words_lem.ensures
 
 -- the list's behind them
-abbrev first : tie.After-store-words2 → tie.After-store-words
+abbrev first : tie.After-store_words → tie.After-store_words-rows
 first c = c.before.before.before.before
-
-abbrev mid : tie.After-store-words2 → List ℕ
+abbrev mid : tie.After-store_words → List ℕ
 mid c =
     let n = (first c).store_words_lem.result in
     let new = (first c).store_words_lem.new.1.0 in
-    put_mid n (length new - n) new c.store-words2.new.1.0
+    put_mid n (length new - n) new c.store_words.new.out
 
-two : (c : tie.After-store-words2)
-    → Stands (octets_of (start (first c)).args.table.now ++ octets_of (start (first c)).args.list.now) (start (first c)).args.out.now ((first c).store_words_lem.result + c.store-words2.result) (mid c)
-two c = stands_behind (one (first c)) c.store-words2.ensures
+two : (c : tie.After-store_words)
+    → Stands (octets_of (start (first c)).args.table.now ++ octets_of (start (first c)).args.list.now) (start (first c)).args.out.now ((first c).store_words_lem.result + c.store_words.result) (mid c)
+two c = stands_behind (one (first c)) c.store_words.ensures
 
 -- as many octets as both have words
-both : (c : tie.After-store-words2)
-    → (first c).store_words_lem.result + c.store-words2.result ≡ word_octets * (length (start (first c)).args.table.now + length (start (first c)).args.list.now)
+both : (c : tie.After-store_words)
+    → (first c).store_words_lem.result + c.store_words.result ≡ word_octets * (length (start (first c)).args.table.now + length (start (first c)).args.list.now)
 both c =
     let s = start (first c) in
     (two c).count ∙ simp (length-append, length_octets_lem) (omega arith)
 
-store_words_requires : tie.Need-store-words-requires
-store_words_requires c κs = omega (arith, room c.before.before.before.before)
+store_words-rows-requires : tie.Need-store_words-rows-requires
+store_words-rows-requires c κs = omega (arith, room c.before.before.before.before)
 
-sub_store_words : tie.Need-overflow-sub-store-words
-sub_store_words c = stands_within (one c.before.before)
+slice_bounds-store_words-count : tie.Need-slice_bounds-store_words-count
+slice_bounds-store_words-count c = stands_within (one c.before.before)
 
-part_store_words_start : tie.Need-slice-bounds-store-words-start
-part_store_words_start c = stands_within (one c.before.before)
+slice_bounds-store_words-start : tie.Need-slice_bounds-store_words-start
+slice_bounds-store_words-start c = stands_within (one c.before.before)
 
-part_store_words_end : tie.Need-slice-bounds-store-words-end
-part_store_words_end c = search rules
+slice_bounds-store_words-end : tie.Need-slice_bounds-store_words-end
+slice_bounds-store_words-end c = search rules
 
-store_words_requires_2 : tie.Need-store-words-requires-2
-store_words_requires_2 c κs =
-    let f = c.before.before.before in
-    rw (stands_room (one f)) (omega (arith, room (start f), (one f).count, length_octets_lem (start f).args.table.now))
+store_words-requires : tie.Need-store_words-requires
+store_words-requires c κs =
+    rw (stands_room (one c.before.before.before)) (omega (arith, room (start c.before.before.before), (one c.before.before.before).count, length_octets_lem (start c.before.before.before).args.table.now))
 
-add_both : tie.Need-overflow-add-both
-add_both c = let k = c.before.before in omega (arith, room (start (first k)), both k)
+overflow_add-both : tie.Need-overflow_add-both
+overflow_add-both c = omega (arith, room (start (first c.before.before)), both c.before.before)
 
-slice_aggregate_store_words : tie.Need-slice-aggregate-store-words
-slice_aggregate_store_words c = search rules
+slice_bounds-store_words-end-2 : tie.Need-slice_bounds-store_words-end-2
+slice_bounds-store_words-end-2 c = search rules
 
-sub_store_words_2 : tie.Need-overflow-sub-store-words-2
-sub_store_words_2 c = stands_within (two c.before.before.before)
+slice_bounds-store_words-count-2 : tie.Need-slice_bounds-store_words-count-2
+slice_bounds-store_words-count-2 c = stands_within (two c.before.before.before)
 
-part_store_words_start_2 : tie.Need-slice-bounds-store-words-start-2
-part_store_words_start_2 c = stands_within (two c.before.before.before)
+slice_bounds-store_words-start-2 : tie.Need-slice_bounds-store_words-start-2
+slice_bounds-store_words-start-2 c = stands_within (two c.before.before.before)
 
-part_store_words_end_2 : tie.Need-slice-bounds-store-words-end-2
-part_store_words_end_2 c = search rules
+slice_bounds-store_words-end-3 : tie.Need-slice_bounds-store_words-end-3
+slice_bounds-store_words-end-3 c = search rules
 
-store_words_requires_3 : tie.Need-store-words-requires-3
-store_words_requires_3 c κs =
-    let k = c.before.before.before.before in
-    rw (stands_room (two k)) (omega (arith, room (start (first k)), both k))
+store_words-requires-2 : tie.Need-store_words-requires-2
+store_words-requires-2 c κs =
+    rw (stands_room (two c.before.before.before.before)) (omega (arith, room (start (first c.before.before.before.before)), both c.before.before.before.before))
 
 -- and the trailer's
-three : (c : tie.After-store-words3) → let k = c.before.before.before.before.before in
-    let s = start (first k) in
-    let n = (first k).store_words_lem.result + k.store-words2.result in
-    Stands (image_of s.args.table.now s.args.list.now) s.args.out.now (n + c.store-words3.result) (put_mid n (length (mid k) - n) (mid k) c.store-words3.new.1.0)
+three : (c : tie.After-store_words-2) → let s = start (first c.before.before.before.before.before) in
+    let n = (first c.before.before.before.before.before).store_words_lem.result + c.store_words.result in
+    Stands (image_of s.args.table.now s.args.list.now) s.args.out.now (n + c.store_words-2.result) (put_mid n (length (mid c.before.before.before.before.before) - n) (mid c.before.before.before.before.before) c.store_words-2.new.out)
 unfolding trailer_of
 three c =
-    let k = c.before.before.before.before.before in
-    let s = start (first k) in
-    rw (image_parts s.args.table.now s.args.list.now, ← both k) (stands_behind (two k) c.store-words3.ensures)
+    let s = start (first c.before.before.before.before.before) in
+    rw (image_parts s.args.table.now s.args.list.now, ← both c.before.before.before.before.before) (stands_behind (two c.before.before.before.before.before) c.store_words-2.ensures)
 
-add_result : tie.Need-overflow-add-result
-add_result c =
-    let t = c.before.before in
-    let s = start (first t.before.before.before.before.before) in
-    omega (arith, s.pre, (three t).count)
+overflow_add-result : tie.Need-overflow_add-result
+overflow_add-result c =
+    let s = start (first c.before.before.before.before.before.before.before) in
+    omega (arith, s.requires, (three c.before.before).count)
 
-same_length : tie.Need-same-length
-same_length c = search rules
+shape_of-out : tie.Need-shape_of-out
+shape_of-out c = search rules
 
 returns : tie.Need-returns
 returns c = three c.before.before
@@ -110,17 +103,17 @@ pub put_image_spec : {M : Type 1} → statement M
 put_image_spec =
     tie.close
     (tie.spec
-    store_words_requires
-    sub_store_words
-    part_store_words_start
-    part_store_words_end
-    store_words_requires_2
-    add_both
-    slice_aggregate_store_words
-    sub_store_words_2
-    part_store_words_start_2
-    part_store_words_end_2
-    store_words_requires_3
-    add_result
-    same_length
+    store_words-rows-requires
+    slice_bounds-store_words-count
+    slice_bounds-store_words-start
+    slice_bounds-store_words-end
+    store_words-requires
+    overflow_add-both
+    slice_bounds-store_words-end-2
+    slice_bounds-store_words-count-2
+    slice_bounds-store_words-start-2
+    slice_bounds-store_words-end-3
+    store_words-requires-2
+    overflow_add-result
+    shape_of-out
     returns)

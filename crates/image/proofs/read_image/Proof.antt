@@ -6,46 +6,45 @@ use borrow.Author.Rules.{rules}
 use Rattle.image.proofs.read_image.Statement.{statement}
 use Rattle.image.proofs.read_image.Tie as tie
 
-read_trailer_requires : tie.Need-read-trailer-requires
-read_trailer_requires c κs = search rules
+read_trailer-said-requires : tie.Need-read_trailer-said-requires
+read_trailer-said-requires c κs = search rules
 
-enum_known_said : tie.Need-enum-known-said
-enum_known_said c = search rules
+enum_known-said : tie.Need-enum_known-said
+enum_known-said c = search rules
 
-enum_known_said_2 : tie.Need-enum-known-said-2
-enum_known_said_2 c = search rules
+enum_known-said-in-Rows-1 : tie.Need-enum_known-said-in-Rows-1
+enum_known-said-in-Rows-1 c = search rules
 
-restore_requires : tie.Need-restore-requires
-restore_requires c κs = sym (ap said_read c.before.before.before.before.said2.given.1) ∙ c.before.before.before.before.before.before.read-trailer.ensures
+restore-requires : tie.Need-restore-requires
+restore-requires c κs = sym (ap said_read c.in-Rows.is) ∙ c.read_trailer-said.ensures
 
-returns : tie.Need-returns
-returns c =
-    let t = c.before.before.before in
-    let a = t.before.before.before.before.before.args in
-    reading_refused a.image.now a.table.now a.list.now a.figures.now _ (sym (ap said_read c.before.said.given.1) ∙ t.read-trailer.ensures)
+returns-in-Refused : tie.Need-returns-in-Refused
+returns-in-Refused c =
+    let a = c.args in
+    reading_refused a.image.now a.table.now a.list.now a.figures.now _ (sym (ap said_read c.in-Refused.is) ∙ c.read_trailer-said.ensures)
 
-same_length : tie.Need-same-length
-same_length c = search rules
+shape_of-table : tie.Need-shape_of-table
+shape_of-table c = search rules
 
-same_length_2 : tie.Need-same-length-2
-same_length_2 c = search rules
+shape_of-list : tie.Need-shape_of-list
+shape_of-list c = search rules
 
-same_length_3 : tie.Need-same-length-3
-same_length_3 c = search rules
+shape_of-figures : tie.Need-shape_of-figures
+shape_of-figures c = search rules
 
-returns_2 : tie.Need-returns-2
-returns_2 c = search rules
+returns-in-Rows : tie.Need-returns-in-Rows
+returns-in-Rows c = search rules
 
 pub read_image_spec : {M : Type 1} → statement M
 read_image_spec =
     tie.close
     (tie.spec
-    read_trailer_requires
-    enum_known_said
-    enum_known_said_2
-    restore_requires
-    returns
-    same_length
-    same_length_2
-    same_length_3
-    returns_2)
+    read_trailer-said-requires
+    enum_known-said
+    enum_known-said-in-Rows-1
+    restore-requires
+    returns-in-Refused
+    shape_of-table
+    shape_of-list
+    shape_of-figures
+    returns-in-Rows)

@@ -28,159 +28,150 @@ entries s = subscriber_words * s.args.subscribers
 whole : (s : tie.Start) → word_octets * (words s + entries s) + trailer_octets ≡ length s.args.image.now
 whole s = let k = known s in rw (k.numbers, k.subscribers) (right_length s.args.image.now k.right)
 
-abbrev start : tie.After-table-room → tie.Start
+abbrev start : tie.After-table_room-rows → tie.Start
 start c = c.before.before.before.before.before.before
-
 -- so many rows fit the arrays
-rows_fit : (c : tie.After-table-room) → words (start c) ≤ length c.table-room.result
-rows_fit c = let k = known (start c) in omega (arith, c.table-room.ensures, k.numbers, k.right.numbers)
+rows_fit : (c : tie.After-table_room-rows) → words (start c) ≤ length c.table_room-rows.result
+rows_fit c = let k = known (start c) in omega (arith, c.table_room-rows.ensures, k.numbers, k.right.numbers)
 
-others_fit : (c : tie.After-list-room) → entries (start c.before) ≤ length c.list-room.result
-others_fit c = let k = known (start c.before) in omega (arith, c.list-room.ensures, k.subscribers, k.right.subscribers)
+others_fit : (c : tie.After-list_room-others) → entries (start c.before) ≤ length c.list_room-others.result
+others_fit c = let k = known (start c.before) in omega (arith, c.list_room-others.ensures, k.subscribers, k.right.subscribers)
 
 -- both are loaded
-abbrev second : tie.After-others2 → tie.After-list-room
+abbrev second : tie.After-others-2-1 → tie.After-list_room-others
 second c = c.before.before.before.before.before.before
-
-abbrev first : tie.After-others2 → tie.After-table-room
+abbrev first : tie.After-others-2-1 → tie.After-table_room-rows
 first c = (second c).before
 
-abbrev from : tie.After-others2 → tie.Start
+abbrev from : tie.After-others-2-1 → tie.Start
 from c = start (first c)
 
-abbrev rows : tie.After-others2 → List ℕ
-rows c = take (words (from c)) (c.before.before.before.before.load-words.new.1.1.0 ++ drop (words (from c)) (first c).table-room.result)
+abbrev rows : tie.After-others-2-1 → List ℕ
+rows c = take (words (from c)) (c.load_words.new.words ++ drop (words (from c)) (first c).table_room-rows.result)
 
-abbrev others : tie.After-others2 → List ℕ
-others c = take (entries (from c)) (c.before.load-words2.new.1.1.0 ++ drop (entries (from c)) (second c).list-room.result)
+abbrev others : tie.After-others-2-1 → List ℕ
+others c = take (entries (from c)) (c.load_words-2.new.words ++ drop (entries (from c)) (second c).list_room-others.result)
 
-rows_count : (c : tie.After-others2) → words (from c) ≡ length (rows c)
+rows_count : (c : tie.After-others-2-1) → words (from c) ≡ length (rows c)
 rows_count c =
-    front_length (from c).args.image.now 0 (words (from c)) (first c).table-room.result _ (rows_fit (first c)) c.before.before.before.before.load-words.ensures
+    front_length (from c).args.image.now 0 (words (from c)) (first c).table_room-rows.result _ (rows_fit (first c)) c.load_words.ensures
 
-others_count : (c : tie.After-others2) → entries (from c) ≡ length (others c)
+others_count : (c : tie.After-others-2-1) → entries (from c) ≡ length (others c)
 others_count c =
-    front_length (from c).args.image.now (word_octets * words (from c)) (entries (from c)) (second c).list-room.result _ (others_fit (second c))
-    c.before.load-words2.ensures
+    front_length (from c).args.image.now (word_octets * words (from c)) (entries (from c)) (second c).list_room-others.result _ (others_fit (second c))
+    c.load_words-2.ensures
 
-rows_read : (c : tie.After-others2) → rows c ≡ table_in (from c).args.image.now
+rows_read : (c : tie.After-others-2-1) → rows c ≡ table_in (from c).args.image.now
 rows_read c =
-    front_loaded (from c).args.image.now 0 (words (from c)) (first c).table-room.result _ (rows_fit (first c)) c.before.before.before.before.load-words.ensures
+    front_loaded (from c).args.image.now 0 (words (from c)) (first c).table_room-rows.result _ (rows_fit (first c)) c.load_words.ensures
     ∙ table_by (from c).args.image.now (from c).args.numbers (known (from c)).numbers
 
-others_read : (c : tie.After-others2) → others c ≡ list_in (from c).args.image.now
+others_read : (c : tie.After-others-2-1) → others c ≡ list_in (from c).args.image.now
 others_read c =
-    front_loaded (from c).args.image.now (word_octets * words (from c)) (entries (from c)) (second c).list-room.result _ (others_fit (second c))
-    c.before.load-words2.ensures
+    front_loaded (from c).args.image.now (word_octets * words (from c)) (entries (from c)) (second c).list_room-others.result _ (others_fit (second c))
+    c.load_words-2.ensures
     ∙ list_by (from c).args.image.now (from c).args.numbers (from c).args.subscribers (known (from c)).numbers (known (from c)).subscribers
 
 -- there is room for them
-room : (c : tie.After-others2) → let a = (from c).args in (words (from c) ≤ length a.table.now) × (entries (from c) ≤ length a.list.now) × (figure_count ≤ length a.figures.now)
-room c = enough_room _ _ _ _ _ _ (first c).before.if1.false
+room : (c : tie.After-others-2-1) → let a = (from c).args in (words (from c) ≤ length a.table.now) × (entries (from c) ≤ length a.list.now) × (figure_count ≤ length a.figures.now)
+room c = enough_room _ _ _ _ _ _ (first c).if-table-words.false
 
-mul_words : tie.Need-overflow-mul-words
-mul_words c = let k = known c.before.before.before.before in omega (arith, k.numbers, k.right.numbers)
+overflow_mul-words : tie.Need-overflow_mul-words
+overflow_mul-words c = let k = known c.before.before.before.before in omega (arith, k.numbers, k.right.numbers)
 
-mul_entries : tie.Need-overflow-mul-entries
-mul_entries c = let k = known c.before.before.before.before in omega (arith, k.subscribers, k.right.subscribers)
+overflow_mul-entries : tie.Need-overflow_mul-entries
+overflow_mul-entries c = let k = known c.before.before.before.before in omega (arith, k.subscribers, k.right.subscribers)
+
+returns-then-table-words : tie.Need-returns-then-table-words
+returns-then-table-words c =
+    reading_room c.args.image.now c.args.table.now c.args.list.now c.args.figures.now _ _ (known c.before.before.before.before.before) c.if-table-words.true
+
+table_room-rows-requires : tie.Need-table_room-rows-requires
+table_room-rows-requires c κs = search rules
+
+list_room-others-requires : tie.Need-list_room-others-requires
+list_room-others-requires c κs = search rules
+
+slice_bounds-rows-end : tie.Need-slice_bounds-rows-end
+slice_bounds-rows-end c = rows_fit c.before
+
+slice_bounds-load_words-end : tie.Need-slice_bounds-load_words-end
+slice_bounds-load_words-end c = sym (length-take-le _ _ (rows_fit c.before.before))
+
+load_words-requires : tie.Need-load_words-requires
+load_words-requires c κs =
+    rw (length-take-le (words (start c.before.before)) c.table_room-rows.result (rows_fit c.before.before)) (omega (arith, whole (start c.before.before)))
+
+overflow_mul-words-2 : tie.Need-overflow_mul-words-2
+overflow_mul-words-2 c = omega (arith, whole (start c.before.before.before.before))
+
+slice_bounds-others-end : tie.Need-slice_bounds-others-end
+slice_bounds-others-end c = others_fit c.before.before.before
+
+slice_bounds-load_words-end-2 : tie.Need-slice_bounds-load_words-end-2
+slice_bounds-load_words-end-2 c = sym (length-take-le _ _ (others_fit c.before.before.before.before))
+
+load_words-requires-2 : tie.Need-load_words-requires-2
+load_words-requires-2 c κs =
+    rw (length-take-le (entries (start c.before.before.before.before.before)) c.list_room-others.result (others_fit c.before.before.before.before)) (omega (arith, whole (start c.before.before.before.before.before)))
+
+slice_bounds-rows-end-2 : tie.Need-slice_bounds-rows-end-2
+slice_bounds-rows-end-2 c =
+    front_room (from c).args.image.now 0 (words (from c)) (first c).table_room-rows.result _ (rows_fit (first c)) c.load_words.ensures
+
+slice_bounds-put_contents-end : tie.Need-slice_bounds-put_contents-end
+slice_bounds-put_contents-end c = rows_count c.before
+
+slice_bounds-others-end-2 : tie.Need-slice_bounds-others-end-2
+slice_bounds-others-end-2 c =
+    front_room (from c.before).args.image.now (word_octets * words (from c.before)) (entries (from c.before)) (second c.before).list_room-others.result _ (others_fit (second c.before)) c.load_words-2.ensures
+
+slice_bounds-put_contents-end-2 : tie.Need-slice_bounds-put_contents-end-2
+slice_bounds-put_contents-end-2 c = others_count c.before.before
+
+put_contents-requires : tie.Need-put_contents-requires
+put_contents-requires c κs =
+    let r = room c.before.before.before.before.before in
+    (rw (← rows_count c.before.before.before.before.before) r.0, rw (← others_count c.before.before.before.before.before) r.1, r.2)
+
+shape_of-table : tie.Need-shape_of-table
+shape_of-table c = search rules
+
+shape_of-list : tie.Need-shape_of-list
+shape_of-list c = search rules
+
+shape_of-figures : tie.Need-shape_of-figures
+shape_of-figures c = search rules
 
 returns : tie.Need-returns
 returns c =
-    let s = c.before.before.before.before.before in
-    reading_room s.args.image.now s.args.table.now s.args.list.now s.args.figures.now _ _ (known s) c.if1.true
-
-table_room_requires : tie.Need-table-room-requires
-table_room_requires c κs = search rules
-
-list_room_requires : tie.Need-list-room-requires
-list_room_requires c κs = search rules
-
-array_borrow_prefix_rows : tie.Need-array-borrow-prefix-rows
-array_borrow_prefix_rows c = rows_fit c.before
-
-slice_aggregate_load_words : tie.Need-slice-aggregate-load-words
-slice_aggregate_load_words c = sym (length-take-le _ _ (rows_fit c.before.before))
-
-load_words_requires : tie.Need-load-words-requires
-load_words_requires c κs =
-    let r = c.before.before in
-    rw (length-take-le (words (start r)) r.table-room.result (rows_fit r)) (omega (arith, whole (start r)))
-
-mul_load_words : tie.Need-overflow-mul-load-words
-mul_load_words c = omega (arith, whole (start c.before.before.before.before))
-
-array_borrow_prefix_others : tie.Need-array-borrow-prefix-others
-array_borrow_prefix_others c = others_fit c.before.before.before
-
-slice_aggregate_load_words_2 : tie.Need-slice-aggregate-load-words-2
-slice_aggregate_load_words_2 c = sym (length-take-le _ _ (others_fit c.before.before.before.before))
-
-load_words_requires_2 : tie.Need-load-words-requires-2
-load_words_requires_2 c κs =
-    let r = c.before.before.before.before in
-    rw (length-take-le (entries (start r.before)) r.list-room.result (others_fit r)) (omega (arith, whole (start r.before)))
-
-array_share_prefix_rows : tie.Need-array-share-prefix-rows
-array_share_prefix_rows c =
-    front_room (from c).args.image.now 0 (words (from c)) (first c).table-room.result _ (rows_fit (first c)) c.before.before.before.before.load-words.ensures
-
-slice_aggregate_put_contents : tie.Need-slice-aggregate-put-contents
-slice_aggregate_put_contents c = rows_count c.before
-
-array_share_prefix_others : tie.Need-array-share-prefix-others
-array_share_prefix_others c =
-    let o = c.before in
-    front_room (from o).args.image.now (word_octets * words (from o)) (entries (from o)) (second o).list-room.result _ (others_fit (second o)) o.before.load-words2.ensures
-
-slice_aggregate_put_contents_2 : tie.Need-slice-aggregate-put-contents-2
-slice_aggregate_put_contents_2 c = others_count c.before.before
-
-put_contents_requires : tie.Need-put-contents-requires
-put_contents_requires c κs =
-    let o = c.before.before.before.before.before in
-    let r = room o in
-    (rw (← rows_count o) r.0, rw (← others_count o) r.1, r.2)
-
-same_length : tie.Need-same-length
-same_length c = search rules
-
-same_length_2 : tie.Need-same-length-2
-same_length_2 c = search rules
-
-same_length_3 : tie.Need-same-length-3
-same_length_3 c = search rules
-
-returns_2 : tie.Need-returns-2
-returns_2 c =
-    let p = c.before.before.before.before.before.before in
-    let o = p.before.before.before.before.before.before in
-    let a = (from o).args in
-    reading_rest a.image.now a.table.now a.list.now a.figures.now _ _ (known (from o)) _ _ (rows_read o) (others_read o) (first o).before.if1.false
-    (made_read p.put-contents.result p.put-contents.new.1.1.0 p.put-contents.new.1.1.1.0 p.put-contents.new.1.1.1.1.0)
-    p.put-contents.ensures
+    let a = (from c.before.before.before.before.before.before.before.before.before.before.before.before).args in
+    reading_rest a.image.now a.table.now a.list.now a.figures.now _ _ (known (from c.before.before.before.before.before.before.before.before.before.before.before.before)) _ _ (rows_read c.before.before.before.before.before.before.before.before.before.before.before.before) (others_read c.before.before.before.before.before.before.before.before.before.before.before.before) (first c.before.before.before.before.before.before.before.before.before.before.before.before).if-table-words.false
+    (made_read c.put_contents.result c.put_contents.new.table c.put_contents.new.list c.put_contents.new.figures)
+    c.put_contents.ensures
 
 pub restore_spec : {M : Type 1} → statement M
 restore_spec =
     tie.close
     (tie.spec
-    mul_words
-    mul_entries
-    returns
-    table_room_requires
-    list_room_requires
-    array_borrow_prefix_rows
-    slice_aggregate_load_words
-    load_words_requires
-    mul_load_words
-    array_borrow_prefix_others
-    slice_aggregate_load_words_2
-    load_words_requires_2
-    array_share_prefix_rows
-    slice_aggregate_put_contents
-    array_share_prefix_others
-    slice_aggregate_put_contents_2
-    put_contents_requires
-    same_length
-    same_length_2
-    same_length_3
-    returns_2)
+    overflow_mul-words
+    overflow_mul-entries
+    returns-then-table-words
+    table_room-rows-requires
+    list_room-others-requires
+    slice_bounds-rows-end
+    slice_bounds-load_words-end
+    load_words-requires
+    overflow_mul-words-2
+    slice_bounds-others-end
+    slice_bounds-load_words-end-2
+    load_words-requires-2
+    slice_bounds-rows-end-2
+    slice_bounds-put_contents-end
+    slice_bounds-others-end-2
+    slice_bounds-put_contents-end-2
+    put_contents-requires
+    shape_of-table
+    shape_of-list
+    shape_of-figures
+    returns)

@@ -8,56 +8,56 @@ use borrow.Author.Rules.{rules}
 use Rattle.image.proofs.store_word.Statement.{statement}
 use Rattle.image.proofs.store_word.Tie as tie
 
-cast_out : tie.Need-overflow-cast-out
-cast_out c = search rules
+overflow_cast-out : tie.Need-overflow_cast-out
+overflow_cast-out c = search rules
 
-slice_write_out : tie.Need-slice-write-out
-slice_write_out c = search rules
+bounds-out-0 : tie.Need-bounds-out-0
+bounds-out-0 c = search rules
 
-cast_out_2 : tie.Need-overflow-cast-out-2
-cast_out_2 c = search rules
+overflow_cast-out-2 : tie.Need-overflow_cast-out-2
+overflow_cast-out-2 c = search rules
 
-slice_write_out_2 : tie.Need-slice-write-out-2
-slice_write_out_2 c = simp length-set (omega arith)
+bounds-out-1 : tie.Need-bounds-out-1
+bounds-out-1 c = simp length-set (omega arith)
 
-cast_out_3 : tie.Need-overflow-cast-out-3
-cast_out_3 c = search rules
+overflow_cast-out-3 : tie.Need-overflow_cast-out-3
+overflow_cast-out-3 c = search rules
 
-slice_write_out_3 : tie.Need-slice-write-out-3
-slice_write_out_3 c = simp length-set (omega arith)
+bounds-out-2 : tie.Need-bounds-out-2
+bounds-out-2 c = simp length-set (omega arith)
 
-cast_out_4 : tie.Need-overflow-cast-out-4
-cast_out_4 c = search rules
+overflow_cast-out-4 : tie.Need-overflow_cast-out-4
+overflow_cast-out-4 c = search rules
 
-slice_write_out_4 : tie.Need-slice-write-out-4
-slice_write_out_4 c = simp length-set (omega arith)
+bounds-out-3 : tie.Need-bounds-out-3
+bounds-out-3 c = simp length-set (omega arith)
 
-cast_out_5 : tie.Need-overflow-cast-out-5
-cast_out_5 c = search rules
+overflow_cast-out-5 : tie.Need-overflow_cast-out-5
+overflow_cast-out-5 c = search rules
 
-slice_write_out_5 : tie.Need-slice-write-out-5
-slice_write_out_5 c = simp length-set (omega arith)
+bounds-out-4 : tie.Need-bounds-out-4
+bounds-out-4 c = simp length-set (omega arith)
 
-cast_out_6 : tie.Need-overflow-cast-out-6
-cast_out_6 c = search rules
+overflow_cast-out-6 : tie.Need-overflow_cast-out-6
+overflow_cast-out-6 c = search rules
 
-slice_write_out_6 : tie.Need-slice-write-out-6
-slice_write_out_6 c = simp length-set (omega arith)
+bounds-out-5 : tie.Need-bounds-out-5
+bounds-out-5 c = simp length-set (omega arith)
 
-cast_out_7 : tie.Need-overflow-cast-out-7
-cast_out_7 c = search rules
+overflow_cast-out-7 : tie.Need-overflow_cast-out-7
+overflow_cast-out-7 c = search rules
 
-slice_write_out_7 : tie.Need-slice-write-out-7
-slice_write_out_7 c = simp length-set (omega arith)
+bounds-out-6 : tie.Need-bounds-out-6
+bounds-out-6 c = simp length-set (omega arith)
 
-cast_out_8 : tie.Need-overflow-cast-out-8
-cast_out_8 c = search rules
+overflow_cast-out-8 : tie.Need-overflow_cast-out-8
+overflow_cast-out-8 c = search rules
 
-slice_write_out_8 : tie.Need-slice-write-out-8
-slice_write_out_8 c = simp length-set (omega arith)
+bounds-out-7 : tie.Need-bounds-out-7
+bounds-out-7 c = simp length-set (omega arith)
 
-same_length : tie.Need-same-length
-same_length c = search rules
+shape_of-out : tie.Need-shape_of-out
+shape_of-out c = search rules
 
 returns : tie.Need-returns
 unfolding digits
@@ -67,21 +67,21 @@ pub store_word_spec : {M : Type 1} → statement M
 store_word_spec =
     tie.close
     (tie.spec
-    cast_out
-    slice_write_out
-    cast_out_2
-    slice_write_out_2
-    cast_out_3
-    slice_write_out_3
-    cast_out_4
-    slice_write_out_4
-    cast_out_5
-    slice_write_out_5
-    cast_out_6
-    slice_write_out_6
-    cast_out_7
-    slice_write_out_7
-    cast_out_8
-    slice_write_out_8
-    same_length
+    overflow_cast-out
+    bounds-out-0
+    overflow_cast-out-2
+    bounds-out-1
+    overflow_cast-out-3
+    bounds-out-2
+    overflow_cast-out-4
+    bounds-out-3
+    overflow_cast-out-5
+    bounds-out-4
+    overflow_cast-out-6
+    bounds-out-5
+    overflow_cast-out-7
+    bounds-out-6
+    overflow_cast-out-8
+    bounds-out-7
+    shape_of-out
     returns)

@@ -10,76 +10,73 @@ use borrow.Author.Rules.{rules}
 use Rattle.image.proofs.store_words.Statement.{statement}
 use Rattle.image.proofs.store_words.Tie as tie
 
-abbrev invariant_loop : tie.invariant_loop
-invariant_loop words out₀ at₀ i₀ out at i = (i ≤ length words) × (length out ≡ length out₀) × (at ≡ word_octets * i) × Stands (octets_of (take i words)) out₀ at out
+abbrev invariant-loop-i : tie.invariant-loop-i
+invariant-loop-i words out₀ at₀ i₀ out at i = (i ≤ length words) × (length out ≡ length out₀) × (at ≡ word_octets * i) × Stands (octets_of (take i words)) out₀ at out
 
-abbrev decreases_loop : tie.decreases_loop
-decreases_loop words out₀ at₀ i₀ out at i = length words - i
+abbrev decreases-loop-i : tie.decreases-loop-i
+decreases-loop-i words out₀ at₀ i₀ out at i = length words - i
 
-loop_holds : tie.Need-loop-init invariant_loop decreases_loop
-loop_holds c = let a = c.before.before.args in (omega arith, refl, refl, stored_none a.words.now a.out.now)
+loop-i-init : tie.Need-loop-i-init invariant-loop-i decreases-loop-i
+loop-i-init c = let a = c.args in (omega arith, refl, refl, stored_none a.words.now a.out.now)
 
-add_next : tie.Need-overflow-add-next invariant_loop decreases_loop
-add_next c = search rules
+overflow_add-next : tie.Need-overflow_add-next invariant-loop-i decreases-loop-i
+overflow_add-next c = search rules
 
-sub_store_word : tie.Need-overflow-sub-store-word invariant_loop decreases_loop
-sub_store_word c = search rules
+slice_bounds-store_word-count : tie.Need-slice_bounds-store_word-count invariant-loop-i decreases-loop-i
+slice_bounds-store_word-count c = search rules
 
-part_store_word_start : tie.Need-slice-bounds-store-word-start invariant_loop decreases_loop
-part_store_word_start c = search rules
+slice_bounds-store_word-start : tie.Need-slice_bounds-store_word-start invariant-loop-i decreases-loop-i
+slice_bounds-store_word-start c = search rules
 
-part_store_word_end : tie.Need-slice-bounds-store-word-end invariant_loop decreases_loop
-part_store_word_end c = omega arith
+slice_bounds-store_word-end : tie.Need-slice_bounds-store_word-end invariant-loop-i decreases-loop-i
+slice_bounds-store_word-end c = omega arith
 
-mul_store_word : tie.Need-overflow-mul-store-word invariant_loop decreases_loop
-mul_store_word c = search rules
+offset_bounds-words-i : tie.Need-offset_bounds-words-i invariant-loop-i decreases-loop-i
+offset_bounds-words-i c = search rules
 
-shared_slice_read_store_word : tie.Need-shared-slice-read-store-word invariant_loop decreases_loop
-shared_slice_read_store_word c = search rules
+bounds-words-i : tie.Need-bounds-words-i invariant-loop-i decreases-loop-i
+bounds-words-i c = search rules
 
-store_word_requires : tie.Need-store-word-requires invariant_loop decreases_loop
-store_word_requires c κs = search rules
+store_word-requires : tie.Need-store_word-requires invariant-loop-i decreases-loop-i
+store_word-requires c κs = search rules
 
-add_i : tie.Need-overflow-add-i invariant_loop decreases_loop
-add_i c = search rules
+overflow_add-i : tie.Need-overflow_add-i invariant-loop-i decreases-loop-i
+overflow_add-i c = search rules
 
-loop_less : tie.Need-loop-smaller invariant_loop decreases_loop
-loop_less c = search rules
+loop-i-smaller : tie.Need-loop-i-smaller invariant-loop-i decreases-loop-i
+loop-i-smaller c = search rules
 
-loop_again : tie.Need-loop-preserved invariant_loop decreases_loop
-loop_again c =
-    let t = c.before.before.before.before.before in
-    let l = t.before in
-    let a = l.before.before.before.args in
+loop-i-preserved : tie.Need-loop-i-preserved invariant-loop-i decreases-loop-i
+loop-i-preserved c =
+    let a = c.args in
     let next =
-    stored_more a.words.now a.out.now l.loop.out _ l.loop.i l.loop.at (l.loop.at + word_octets) (omega arith) refl (omega arith) l.loop.invariant.3
-    c.before.before.Store-word.ensures in
+    stored_more a.words.now a.out.now c.loop-i.out _ c.loop-i.i c.loop-i.at (c.loop-i.at + word_octets) (omega arith) refl (omega arith) c.loop-i.invariant.3
+    c.store_word.ensures in
     (omega arith, stands_length next (omega arith), omega arith, next)
 
-same_length : tie.Need-same-length invariant_loop decreases_loop
-same_length c = search rules
+shape_of-out : tie.Need-shape_of-out invariant-loop-i decreases-loop-i
+shape_of-out c = search rules
 
-returns : tie.Need-returns invariant_loop decreases_loop
+returns : tie.Need-returns invariant-loop-i decreases-loop-i
 returns c =
-    let l = c.before in
-    stored_done _ _ _ _ _ l.loop.invariant.0 c.loop-test.false l.loop.invariant.3
+    stored_done _ _ _ _ _ c.loop-i.invariant.0 c.loop-i-test.false c.loop-i.invariant.3
 
 pub store_words_spec : {M : Type 1} → statement M
 store_words_spec =
     tie.close
     (tie.spec
-    invariant_loop
-    decreases_loop
-    loop_holds
-    add_next
-    sub_store_word
-    part_store_word_start
-    part_store_word_end
-    mul_store_word
-    shared_slice_read_store_word
-    store_word_requires
-    add_i
-    loop_less
-    loop_again
-    same_length
+    invariant-loop-i
+    decreases-loop-i
+    loop-i-init
+    overflow_add-next
+    slice_bounds-store_word-count
+    slice_bounds-store_word-start
+    slice_bounds-store_word-end
+    offset_bounds-words-i
+    bounds-words-i
+    store_word-requires
+    overflow_add-i
+    loop-i-smaller
+    loop-i-preserved
+    shape_of-out
     returns)

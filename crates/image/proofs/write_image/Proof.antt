@@ -15,86 +15,78 @@ use borrow.Author.Rules.{rules}
 use Rattle.image.proofs.write_image.Statement.{statement}
 use Rattle.image.proofs.write_image.Tie as tie
 
-abbrev start : tie.After-list-sound → tie.Start
+abbrev start : tie.After-list_sound → tie.Start
 start c = c.before.before.before.before.before
-
-abbrev state : tie.After-list-sound → State
+abbrev state : tie.After-list_sound → State
 state c = beside (start c).args.table.now (start c).args.figures.now
 
 -- what the checks passed have shown
-sound_list_lem : (c : tie.Else1) → list_sound (start c.before).args.list.now ≡ true
-sound_list_lem c = sym c.before.list-sound.ensures ∙ not-false _ c.if1.false
+sound_list_lem : (c : tie.Else-not-list_sound) → list_sound (start c.before).args.list.now ≡ true
+sound_list_lem c = sym c.list_sound.ensures ∙ not-false _ c.if-not-list_sound.false-raw
 
-sound_state_lem : (c : tie.Else2) → state_sound (state c.before.before.before) ≡ true
-sound_state_lem c = state_passes (state c.before.before.before) _ c.before.refusal.ensures c.if2.false
+sound_state_lem : (c : tie.Else-refused-ne0) → state_sound (state c.before.before.before) ≡ true
+sound_state_lem c = state_passes (state c.before.before.before) _ c.refusal-refused.ensures c.if-refused-ne0.false
 
-room : (c : tie.Else3) → let a = (start c.before.before.before.before).args in length (image_of a.table.now a.list.now) ≤ length a.out.now
+room : (c : tie.Else-out-size) → let a = (start c.before.before.before.before).args in length (image_of a.table.now a.list.now) ≤ length a.out.now
 room c =
     let a = (start c.before.before.before.before).args in
-    omega (arith, c.if3.false, length_image a.table.now a.list.now)
+    omega (arith, c.if-out-size.false, length_image a.table.now a.list.now)
 
-list_sound_requires : tie.Need-list-sound-requires
-list_sound_requires c κs = search rules
+list_sound-requires : tie.Need-list_sound-requires
+list_sound-requires c κs = search rules
+
+returns-then-not-list_sound : tie.Need-returns-then-not-list_sound
+returns-then-not-list_sound c =
+    let a = (start c.before).args in
+    refuses_list (state c.before) a.list.now a.out.now (sym c.list_sound.ensures ∙ not-true _ c.if-not-list_sound.true-raw)
+
+refusal-refused-requires : tie.Need-refusal-refused-requires
+refusal-refused-requires c κs = search rules
+
+returns-then-refused-ne0 : tie.Need-returns-then-refused-ne0
+returns-then-refused-ne0 c =
+    let a = (start c.before.before.before).args in
+    refuses_state (state c.before.before.before) a.list.now a.out.now (sound_list_lem c.before.before) _ c.refusal-refused.ensures c.if-refused-ne0.true
+
+overflow_add-size : tie.Need-overflow_add-size
+overflow_add-size c = search rules
+
+overflow_mul-size : tie.Need-overflow_mul-size
+overflow_mul-size c = search rules
+
+overflow_add-size-2 : tie.Need-overflow_add-size-2
+overflow_add-size-2 c =
+    let a = (start c.before.before.before).args in
+    omega (arith, size_fits a.table.now a.list.now (state_table _ (sound_state_lem c)) (sound_list_lem c.before.before))
+
+returns-then-out-size : tie.Need-returns-then-out-size
+returns-then-out-size c =
+    let a = (start c.before.before.before.before).args in
+    refuses_room (state c.before.before.before.before) a.list.now a.out.now (sound_list_lem c.before.before.before) (sound_state_lem c.before) (omega (arith, c.if-out-size.true, length_image a.table.now a.list.now))
+
+put_image-requires : tie.Need-put_image-requires
+put_image-requires c κs = room c.before
+
+shape_of-out : tie.Need-shape_of-out
+shape_of-out c = search rules
 
 returns : tie.Need-returns
 returns c =
-    let a = (start c.before).args in
-    refuses_list (state c.before) a.list.now a.out.now (sym c.before.list-sound.ensures ∙ not-true _ c.if1.true)
-
-refusal_requires : tie.Need-refusal-requires
-refusal_requires c κs = search rules
-
-returns_2 : tie.Need-returns-2
-returns_2 c =
-    let e = c.before.before in
-    let a = (start e.before).args in
-    refuses_state (state e.before) a.list.now a.out.now (sound_list_lem e) _ c.before.refusal.ensures c.if2.true
-
-add_size : tie.Need-overflow-add-size
-add_size c = search rules
-
-mul_size : tie.Need-overflow-mul-size
-mul_size c = search rules
-
-add_size_2 : tie.Need-overflow-add-size-2
-add_size_2 c =
-    let e = c.before.before in
-    let a = (start e.before).args in
-    omega (arith, size_fits a.table.now a.list.now (state_table _ (sound_state_lem c)) (sound_list_lem e))
-
-returns_3 : tie.Need-returns-3
-returns_3 c =
-    let p = c.before in
-    let e = p.before.before in
-    let a = (start e.before).args in
-    refuses_room (state e.before) a.list.now a.out.now (sound_list_lem e) (sound_state_lem p) (omega (arith, c.if3.true, length_image a.table.now a.list.now))
-
-put_image_requires : tie.Need-put-image-requires
-put_image_requires c κs = room c.before
-
-same_length : tie.Need-same-length
-same_length c = search rules
-
-returns_4 : tie.Need-returns-4
-returns_4 c =
-    let o = c.before.before.before.before in
-    let p = o.before in
-    let e = p.before.before in
-    let a = (start e.before).args in
-    writes_image (state e.before) a.list.now a.out.now (sound_list_lem e) (sound_state_lem p) _ _ (room o) c.before.before.put-image.ensures
+    let a = (start c.before.before.before.before.before.before.before.before).args in
+    writes_image (state c.before.before.before.before.before.before.before.before) a.list.now a.out.now (sound_list_lem c.before.before.before.before.before.before.before) (sound_state_lem c.before.before.before.before.before) _ _ (room c.before.before.before.before) c.put_image.ensures
 
 pub write_image_spec : {M : Type 1} → statement M
 write_image_spec =
     tie.close
     (tie.spec
-    list_sound_requires
-    returns
-    refusal_requires
-    returns_2
-    add_size
-    mul_size
-    add_size_2
-    returns_3
-    put_image_requires
-    same_length
-    returns_4)
+    list_sound-requires
+    returns-then-not-list_sound
+    refusal-refused-requires
+    returns-then-refused-ne0
+    overflow_add-size
+    overflow_mul-size
+    overflow_add-size-2
+    returns-then-out-size
+    put_image-requires
+    shape_of-out
+    returns)

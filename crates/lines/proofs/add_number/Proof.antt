@@ -15,80 +15,71 @@ use borrow.Author.Rules.{rules}
 use Rattle.lines.proofs.add_number.Statement.{statement}
 use Rattle.lines.proofs.add_number.Tie as tie
 
-filling : (c : tie.Else1) → c.before.before.before.before.args.state.filling ≡ true
-filling c = not-false _ c.if1.false
+filling : (c : tie.Else-not-state) → c.args.state.filling ≡ true
+filling c = not-false _ c.if-not-state.false
 
-abbrev start : tie.Else2 → tie.Start
-start c = c.before.before.before.before.before.before.before
-
+abbrev start : tie.Else-not-may_follow → tie.Start
+start c = c.before.before.before.before.before.before
 may :
-    (c : tie.Else2)
+    (c : tie.Else-not-may_follow)
     → may_follow row_words most_numbers (start c).args.number.0 (take (row_words * (start c).args.state.numbers) (start c).args.table.now) ≡ true
-may c = sym c.before.may-follow.ensures ∙ not-false _ c.if2.false
+may c = sym c.may_follow.ensures ∙ not-false _ c.if-not-may_follow.false-raw
 
-below : (c : tie.Else2) → (start c).args.state.numbers < most_numbers
+below : (c : tie.Else-not-may_follow) → (start c).args.state.numbers < most_numbers
 below c = omega (arith, follows_below row_words most_numbers (start c).args.number.0 (row_words * (start c).args.state.numbers) (start c).args.table.now (start c).requires.0.0 (may c))
 
-mul_used : tie.Need-overflow-mul-used
-mul_used c = search rules
+overflow_mul-used : tie.Need-overflow_mul-used
+overflow_mul-used c = search rules
 
-question_requires : tie.Need-question-requires
-question_requires c κs = search rules
+question-requires : tie.Need-question-requires
+question-requires c κs = search rules
 
-same_length : tie.Need-same-length
-same_length c = search rules
+shape_of-out-then-not-state : tie.Need-shape_of-out-then-not-state
+shape_of-out-then-not-state c = search rules
+
+returns-then-not-state : tie.Need-returns-then-not-state
+returns-then-not-state c = λ list s.
+    did_as (numbered_late _ _ (not-true _ c.if-not-state.true)) (c.question.ensures _ list s)
+
+slice_bounds-may_follow-end : tie.Need-slice_bounds-may_follow-end
+slice_bounds-may_follow-end c = search rules
+
+slice_bounds-may_follow-end-2 : tie.Need-slice_bounds-may_follow-end-2
+slice_bounds-may_follow-end-2 c = sym (length-take-le _ _ c.requires.0.0)
+
+may_follow-requires : tie.Need-may_follow-requires
+may_follow-requires c κs = search rules
+
+question-requires-then-not-may_follow : tie.Need-question-requires-then-not-may_follow
+question-requires-then-not-may_follow c κs = search rules
+
+shape_of-table-then-not-may_follow : tie.Need-shape_of-table-then-not-may_follow
+shape_of-table-then-not-may_follow c = search rules
+
+shape_of-out-then-not-may_follow : tie.Need-shape_of-out-then-not-may_follow
+shape_of-out-then-not-may_follow c = search rules
+
+returns-then-not-may_follow : tie.Need-returns-then-not-may_follow
+returns-then-not-may_follow c = λ list s.
+    did_as (numbered_over _ _ (sym c.may_follow.ensures ∙ not-true _ c.if-not-may_follow.true-raw)) (c.question-then-not-may_follow.ensures _ list s)
+
+bounds-row-0 : tie.Need-bounds-row-0
+bounds-row-0 c = search rules
+
+slice_bounds-append-end : tie.Need-slice_bounds-append-end
+slice_bounds-append-end c = search rules
+
+append-requires : tie.Need-append-requires
+append-requires c κs = omega (arith, below c.before.before)
+
+shape_of-table : tie.Need-shape_of-table
+shape_of-table c = search rules
 
 returns : tie.Need-returns
 returns c = λ list s.
-    let q = c.before.before in
-    did_as (numbered_late _ _ (not-true _ q.before.before.if1.true)) (q.question.ensures _ list s)
-
-slice_reshare_prefix_may_follow : tie.Need-slice-reshare-prefix-may-follow
-slice_reshare_prefix_may_follow c = search rules
-
-slice_aggregate_may_follow : tie.Need-slice-aggregate-may-follow
-slice_aggregate_may_follow c = sym (length-take-le _ _ c.before.before.before.before.before.requires.0.0)
-
-may_follow_requires : tie.Need-may-follow-requires
-may_follow_requires c κs = search rules
-
-question_requires_2 : tie.Need-question-requires-2
-question_requires_2 c κs = search rules
-
-same_length_2 : tie.Need-same-length-2
-same_length_2 c = search rules
-
-same_length_3 : tie.Need-same-length-3
-same_length_3 c = search rules
-
-returns_2 : tie.Need-returns-2
-returns_2 c = λ list s.
-    let q = c.before.before in
-    let t = q.before.before in
-    did_as (numbered_over _ _ (sym t.before.may-follow.ensures ∙ not-true _ t.if2.true)) (q.question2.ensures _ list s)
-
-array_write_row : tie.Need-array-write-row
-array_write_row c = search rules
-
-slice_aggregate_append : tie.Need-slice-aggregate-append
-slice_aggregate_append c = search rules
-
-append_requires : tie.Need-append-requires
-append_requires c κs = omega (arith, below c.before.before)
-
-add_t25 : tie.Need-overflow-add-t25
-add_t25 c = search rules
-
-same_length_4 : tie.Need-same-length-4
-same_length_4 c = search rules
-
-returns_3 : tie.Need-returns-3
-returns_3 c = λ list s.
-    let a = c.before.before.before in
-    let e = a.before.before.before in
-    let f = filling e.before.before.before in
-    did_as (numbered_in _ _ f (may e)) (record {
-      numbers = put_count _ a.append.ensures (omega arith);
+    let f = filling c.before.before.before.before.before.before.before.before in
+    did_as (numbered_in _ _ f (may c.before.before.before.before.before.before)) (record {
+      numbers = put_count _ c.append.ensures (omega arith);
       subscribers = put_kept _ list s.subscribers;
       filling = sym f;
       delay = refl;
@@ -99,24 +90,27 @@ returns_3 c = λ list s.
       more_subscribers = omega arith;
     })
 
+overflow_add-next : tie.Need-overflow_add-next
+overflow_add-next c = search rules
+
 pub add_number_spec : {M : Type 1} → statement M
 add_number_spec =
     tie.close
     (tie.spec
-    mul_used
-    question_requires
-    same_length
-    returns
-    slice_reshare_prefix_may_follow
-    slice_aggregate_may_follow
-    may_follow_requires
-    question_requires_2
-    same_length_2
-    same_length_3
-    returns_2
-    array_write_row
-    slice_aggregate_append
-    append_requires
-    add_t25
-    same_length_4
-    returns_3)
+    overflow_mul-used
+    question-requires
+    shape_of-out-then-not-state
+    returns-then-not-state
+    slice_bounds-may_follow-end
+    slice_bounds-may_follow-end-2
+    may_follow-requires
+    question-requires-then-not-may_follow
+    shape_of-table-then-not-may_follow
+    shape_of-out-then-not-may_follow
+    returns-then-not-may_follow
+    bounds-row-0
+    slice_bounds-append-end
+    append-requires
+    overflow_add-next
+    shape_of-table
+    returns)

@@ -13,78 +13,72 @@ use borrow.Author.Rules.{rules}
 use Rattle.lines.proofs.add_subscriber.Statement.{statement}
 use Rattle.lines.proofs.add_subscriber.Tie as tie
 
-filling : (c : tie.Else1) → c.before.before.before.before.args.state.filling ≡ true
-filling c = not-false _ c.if1.false
+filling : (c : tie.Else-not-state) → c.args.state.filling ≡ true
+filling c = not-false _ c.if-not-state.false
 
-abbrev start : tie.Else2 → tie.Start
-start c = c.before.before.before.before.before.before.before
-
+abbrev start : tie.Else-not-may_follow → tie.Start
+start c = c.before.before.before.before.before.before
 may :
-    (c : tie.Else2)
+    (c : tie.Else-not-may_follow)
     → may_follow subscriber_words most_subscribers (start c).args.msisdn.0 (take (subscriber_words * (start c).args.state.subscribers) (start c).args.list.now) ≡ true
-may c = sym c.before.may-follow.ensures ∙ not-false _ c.if2.false
+may c = sym c.may_follow.ensures ∙ not-false _ c.if-not-may_follow.false-raw
 
-below : (c : tie.Else2) → (start c).args.state.subscribers < most_subscribers
+below : (c : tie.Else-not-may_follow) → (start c).args.state.subscribers < most_subscribers
 below c = omega (arith, follows_below subscriber_words most_subscribers (start c).args.msisdn.0 (subscriber_words * (start c).args.state.subscribers) (start c).args.list.now (start c).requires.0.0 (may c))
 
-mul_used : tie.Need-overflow-mul-used
-mul_used c = search rules
+overflow_mul-used : tie.Need-overflow_mul-used
+overflow_mul-used c = search rules
 
-question_requires : tie.Need-question-requires
-question_requires c κs = search rules
+question-requires : tie.Need-question-requires
+question-requires c κs = search rules
 
-same_length : tie.Need-same-length
-same_length c = search rules
+shape_of-out-then-not-state : tie.Need-shape_of-out-then-not-state
+shape_of-out-then-not-state c = search rules
+
+returns-then-not-state : tie.Need-returns-then-not-state
+returns-then-not-state c = λ table s.
+    did_as (subscribed_late _ _ _ (not-true _ c.if-not-state.true)) (c.question.ensures table _ s)
+
+slice_bounds-may_follow-end : tie.Need-slice_bounds-may_follow-end
+slice_bounds-may_follow-end c = search rules
+
+slice_bounds-may_follow-end-2 : tie.Need-slice_bounds-may_follow-end-2
+slice_bounds-may_follow-end-2 c = sym (length-take-le _ _ c.requires.0.0)
+
+may_follow-requires : tie.Need-may_follow-requires
+may_follow-requires c κs = search rules
+
+question-requires-then-not-may_follow : tie.Need-question-requires-then-not-may_follow
+question-requires-then-not-may_follow c κs = search rules
+
+shape_of-list-then-not-may_follow : tie.Need-shape_of-list-then-not-may_follow
+shape_of-list-then-not-may_follow c = search rules
+
+shape_of-out-then-not-may_follow : tie.Need-shape_of-out-then-not-may_follow
+shape_of-out-then-not-may_follow c = search rules
+
+returns-then-not-may_follow : tie.Need-returns-then-not-may_follow
+returns-then-not-may_follow c = λ table s.
+    did_as (subscribed_over _ _ _ (sym c.may_follow.ensures ∙ not-true _ c.if-not-may_follow.true-raw)) (c.question-then-not-may_follow.ensures table _ s)
+
+slice_bounds-append-end : tie.Need-slice_bounds-append-end
+slice_bounds-append-end c = search rules
+
+append-requires : tie.Need-append-requires
+append-requires c κs = omega (arith, below c.before.before)
+
+overflow_add-next : tie.Need-overflow_add-next
+overflow_add-next c = search rules
+
+shape_of-list : tie.Need-shape_of-list
+shape_of-list c = search rules
 
 returns : tie.Need-returns
 returns c = λ table s.
-    let q = c.before.before in
-    did_as (subscribed_late _ _ _ (not-true _ q.before.before.if1.true)) (q.question.ensures table _ s)
-
-slice_reshare_prefix_may_follow : tie.Need-slice-reshare-prefix-may-follow
-slice_reshare_prefix_may_follow c = search rules
-
-slice_aggregate_may_follow : tie.Need-slice-aggregate-may-follow
-slice_aggregate_may_follow c = sym (length-take-le _ _ c.before.before.before.before.before.requires.0.0)
-
-may_follow_requires : tie.Need-may-follow-requires
-may_follow_requires c κs = search rules
-
-question_requires_2 : tie.Need-question-requires-2
-question_requires_2 c κs = search rules
-
-same_length_2 : tie.Need-same-length-2
-same_length_2 c = search rules
-
-same_length_3 : tie.Need-same-length-3
-same_length_3 c = search rules
-
-returns_2 : tie.Need-returns-2
-returns_2 c = λ table s.
-    let q = c.before.before in
-    let t = q.before.before in
-    did_as (subscribed_over _ _ _ (sym t.before.may-follow.ensures ∙ not-true _ t.if2.true)) (q.question2.ensures table _ s)
-
-slice_aggregate_append : tie.Need-slice-aggregate-append
-slice_aggregate_append c = search rules
-
-append_requires : tie.Need-append-requires
-append_requires c κs = omega (arith, below c.before.before)
-
-add_t25 : tie.Need-overflow-add-t25
-add_t25 c = search rules
-
-same_length_4 : tie.Need-same-length-4
-same_length_4 c = search rules
-
-returns_3 : tie.Need-returns-3
-returns_3 c = λ table s.
-    let a = c.before.before.before in
-    let e = a.before.before.before in
-    let f = filling e.before.before.before in
-    did_as (subscribed_in _ _ _ f (may e)) (record {
+    let f = filling c.before.before.before.before.before.before.before.before in
+    did_as (subscribed_in _ _ _ f (may c.before.before.before.before.before.before)) (record {
       numbers = put_kept _ table s.numbers;
-      subscribers = put_count _ a.append.ensures (omega arith);
+      subscribers = put_count _ c.append.ensures (omega arith);
       filling = sym f;
       delay = refl;
       fresh = refl;
@@ -98,19 +92,19 @@ pub add_subscriber_spec : {M : Type 1} → statement M
 add_subscriber_spec =
     tie.close
     (tie.spec
-    mul_used
-    question_requires
-    same_length
-    returns
-    slice_reshare_prefix_may_follow
-    slice_aggregate_may_follow
-    may_follow_requires
-    question_requires_2
-    same_length_2
-    same_length_3
-    returns_2
-    slice_aggregate_append
-    append_requires
-    add_t25
-    same_length_4
-    returns_3)
+    overflow_mul-used
+    question-requires
+    shape_of-out-then-not-state
+    returns-then-not-state
+    slice_bounds-may_follow-end
+    slice_bounds-may_follow-end-2
+    may_follow-requires
+    question-requires-then-not-may_follow
+    shape_of-list-then-not-may_follow
+    shape_of-out-then-not-may_follow
+    returns-then-not-may_follow
+    slice_bounds-append-end
+    append-requires
+    overflow_add-next
+    shape_of-list
+    returns)

@@ -9,64 +9,62 @@ use Rattle.lines.proofs.Memory.{append_more, append_done}
 use Rattle.lines.proofs.append.Statement.{statement}
 use Rattle.lines.proofs.append.Tie as tie
 
-abbrev invariant_loop : tie.invariant_loop
-invariant_loop row used words₀ i₀ words i = (i ≤ length row) × (length words ≡ length words₀) × (words ≡ paste words₀ used row i)
+abbrev invariant-loop-i : tie.invariant-loop-i
+invariant-loop-i row used words₀ i₀ words i = (i ≤ length row) × (length words ≡ length words₀) × (words ≡ paste words₀ used row i)
 
-abbrev decreases_loop : tie.decreases_loop
-decreases_loop row used words₀ i₀ words i = length row - i
+abbrev decreases-loop-i : tie.decreases-loop-i
+decreases-loop-i row used words₀ i₀ words i = length row - i
 
-loop_holds : tie.Need-loop-init invariant_loop decreases_loop
-loop_holds c = (omega arith, omega arith, paste-zero c.args.words.now c.args.used c.args.row.now)
+loop-i-init : tie.Need-loop-i-init invariant-loop-i decreases-loop-i
+loop-i-init c = (omega arith, omega arith, paste-zero c.args.words.now c.args.used c.args.row.now)
 
-mul_words : tie.Need-overflow-mul-words invariant_loop decreases_loop
-mul_words c = search rules
+offset_bounds-row-i : tie.Need-offset_bounds-row-i invariant-loop-i decreases-loop-i
+offset_bounds-row-i c = search rules
 
-shared_slice_read_words : tie.Need-shared-slice-read-words invariant_loop decreases_loop
-shared_slice_read_words c = search rules
+bounds-row-i : tie.Need-bounds-row-i invariant-loop-i decreases-loop-i
+bounds-row-i c = search rules
 
-add_words : tie.Need-overflow-add-words invariant_loop decreases_loop
-add_words c = search rules
+overflow_add-words : tie.Need-overflow_add-words invariant-loop-i decreases-loop-i
+overflow_add-words c = search rules
 
-mul_words_2 : tie.Need-overflow-mul-words-2 invariant_loop decreases_loop
-mul_words_2 c = search rules
+offset_bounds-words-used : tie.Need-offset_bounds-words-used invariant-loop-i decreases-loop-i
+offset_bounds-words-used c = search rules
 
-slice_write_words : tie.Need-slice-write-words invariant_loop decreases_loop
-slice_write_words c = search rules
+bounds-words-used : tie.Need-bounds-words-used invariant-loop-i decreases-loop-i
+bounds-words-used c = search rules
 
-add_i : tie.Need-overflow-add-i invariant_loop decreases_loop
-add_i c = search rules
+overflow_add-i : tie.Need-overflow_add-i invariant-loop-i decreases-loop-i
+overflow_add-i c = search rules
 
-loop_less : tie.Need-loop-smaller invariant_loop decreases_loop
-loop_less c = search rules
+loop-i-smaller : tie.Need-loop-i-smaller invariant-loop-i decreases-loop-i
+loop-i-smaller c = search rules
 
-loop_again : tie.Need-loop-preserved invariant_loop decreases_loop
-loop_again c =
-    let l = c.before.before in
-    let a = l.before.args in
-    (omega arith, simp length-set (omega arith), append_more a.row.now a.words.now l.loop.words a.used l.loop.i c.before.loop-test.true l.before.requires l.loop.invariant.2)
+loop-i-preserved : tie.Need-loop-i-preserved invariant-loop-i decreases-loop-i
+loop-i-preserved c =
+    let a = c.args in
+    (omega arith, simp length-set (omega arith), append_more a.row.now a.words.now c.loop-i.words a.used c.loop-i.i c.loop-i-test.true c.requires c.loop-i.invariant.2)
 
-same_length : tie.Need-same-length invariant_loop decreases_loop
-same_length c = search rules
+shape_of-words : tie.Need-shape_of-words invariant-loop-i decreases-loop-i
+shape_of-words c = search rules
 
-returns : tie.Need-returns invariant_loop decreases_loop
+returns : tie.Need-returns invariant-loop-i decreases-loop-i
 returns c =
-    let l = c.before in
-    append_done _ _ _ _ l.loop.i l.loop.invariant.0 c.loop-test.false l.before.requires l.loop.invariant.2
+    append_done _ _ _ _ c.loop-i.i c.loop-i.invariant.0 c.loop-i-test.false c.requires c.loop-i.invariant.2
 
 pub append_spec : {M : Type 1} → statement M
 append_spec =
     tie.close
     (tie.spec
-    invariant_loop
-    decreases_loop
-    loop_holds
-    mul_words
-    shared_slice_read_words
-    add_words
-    mul_words_2
-    slice_write_words
-    add_i
-    loop_less
-    loop_again
-    same_length
+    invariant-loop-i
+    decreases-loop-i
+    loop-i-init
+    offset_bounds-row-i
+    bounds-row-i
+    overflow_add-words
+    offset_bounds-words-used
+    bounds-words-used
+    overflow_add-i
+    loop-i-smaller
+    loop-i-preserved
+    shape_of-words
     returns)

@@ -15,110 +15,99 @@ use borrow.Author.Rules.{rules}
 use Rattle.lines.proofs.ask.Statement.{statement}
 use Rattle.lines.proofs.ask.Tie as tie
 
-abbrev start : tie.After-known-told → tie.Start
-start c = c.before.before.before.before.before.before.before.before.before.before.before.before.before
-
+abbrev start : tie.In-Count → tie.Start
+start c = c.before.before.before.before.before.before.before.before.before.before.before
 packs :
-    (c : tie.After-known-told)
+    (c : tie.In-Count)
     → Counted (octets_for (length (start c).args.string.now)) (takes (start c).args.string.now) (packed (start c).args.string.now) (start c).args.packed.now
-    c.before.before.before.before.before.pack.new.1.0 c.before.written.given.0.0
-packs c = pack_count _ _ _ _ c.before.before.before.before.before.pack.ensures _ c.before.written.given.1
+    c.pack-written.new.out c.in-Count.n
+packs c = pack_count _ _ _ _ c.pack-written.ensures _ c.in-Count.is
 
-abbrev asking : tie.After-request → tie.Start
-asking c = start c.before.before.before.before.before
+abbrev asking : tie.After-request-answer → tie.Start
+asking c = start c.before.before.before.before
 
 -- the node is asked with the packed string
 answers :
-    (c : tie.After-request)
-    → made (said_request c.request.result) (beside c.request.new.0 c.request.new.1.0) c.request.new.1.1.1.0
+    (c : tie.After-request-answer)
+    → made (said_request c.request-answer.result) (beside c.request-answer.new.table c.request-answer.new.figures) c.request-answer.new.reply
     ≡ asked (asking c).args.requester (asking c).args.string.now (beside (asking c).args.table.now (asking c).args.figures.now) (asking c).args.list.now
 answers c =
-    let k = packs c.before.before.before.before.before in
+    let k = packs c.before.before.before.before in
     let s = (asking c).args in
-    rw k.start at c.request.ensures ∙ asked_fit s.requester s.string.now (beside s.table.now s.figures.now) s.list.now k.sound
+    rw k.start at c.request-answer.ensures ∙ asked_fit s.requester s.string.now (beside s.table.now s.figures.now) s.list.now k.sound
 
-pack_requires : tie.Need-pack-requires
-pack_requires c κs = search rules
+pack-written-requires : tie.Need-pack-written-requires
+pack-written-requires c κs = search rules
 
-enum_known_written : tie.Need-enum-known-written
-enum_known_written c = search rules
+enum_known-written : tie.Need-enum_known-written
+enum_known-written c = search rules
 
-slice_aggregate_put_numbered : tie.Need-slice-aggregate-put-numbered
-slice_aggregate_put_numbered c = search rules
+put_numbered-requires : tie.Need-put_numbered-requires
+put_numbered-requires c κs = search rules
 
-put_numbered_requires : tie.Need-put-numbered-requires
-put_numbered_requires c κs = search rules
+shape_of-packed-in_default : tie.Need-shape_of-packed-in_default
+shape_of-packed-in_default c = search rules
 
-same_length : tie.Need-same-length
-same_length c = search rules
+shape_of-out-in_default : tie.Need-shape_of-out-in_default
+shape_of-out-in_default c = search rules
 
-same_length_2 : tie.Need-same-length-2
-same_length_2 c = search rules
+returns-in_default : tie.Need-returns-in_default
+returns-in_default c =
+    answered_by _ _ _ _ (asked_unfit c.args.requester c.args.string.now (beside c.args.table.now c.args.figures.now) c.args.list.now (pack_fails _ _ _ c.pack-written.result c.pack-written.ensures c.requires.0 c.in_default.in_default-own.keys2)) (asked_replies _ _ _ _).0 c.put_numbered.ensures
+
+slice_bounds-request-end : tie.Need-slice_bounds-request-end
+slice_bounds-request-end c = search rules
+
+slice_bounds-request-end-2 : tie.Need-slice_bounds-request-end-2
+slice_bounds-request-end-2 c = (packs c.before.before.before).within
+
+slice_bounds-request-end-3 : tie.Need-slice_bounds-request-end-3
+slice_bounds-request-end-3 c = sym (length-take-le _ _ (packs c.before.before.before).within)
+
+request-answer-requires : tie.Need-request-answer-requires
+request-answer-requires c κs = search rules
+
+slice_bounds-put_request_answer-end : tie.Need-slice_bounds-put_request_answer-end
+slice_bounds-put_request_answer-end c = search rules
+
+put_request_answer-requires : tie.Need-put_request_answer-requires
+put_request_answer-requires c κs =
+    (printable_by _ _ _ _ (answers c.before.before.before.before.before.before.before) (asked_replies _ _ _ _).0, (asking c.before.before.before.before.before.before.before).requires.1)
+
+shape_of-table : tie.Need-shape_of-table
+shape_of-table c = search rules
+
+shape_of-figures : tie.Need-shape_of-figures
+shape_of-figures c = search rules
+
+shape_of-packed : tie.Need-shape_of-packed
+shape_of-packed c = search rules
+
+shape_of-out : tie.Need-shape_of-out
+shape_of-out c = search rules
 
 returns : tie.Need-returns
 returns c =
-    let p = c.before.before in
-    let k = p.before.before.before in
-    let w = k.before.before.before in
-    let s = w.before.before.before.before.before.before.before.before in
-    answered_by _ _ _ _ (asked_unfit s.args.requester s.args.string.now (beside s.args.table.now s.args.figures.now) s.args.list.now (pack_fails _ _ _ w.pack.result w.pack.ensures s.requires.0 k.match.keys2)) (asked_replies _ _ _ _).0 p.put-numbered.ensures
-
-slice_aggregate_request : tie.Need-slice-aggregate-request
-slice_aggregate_request c = search rules
-
-slice_reshare_prefix_request : tie.Need-slice-reshare-prefix-request
-slice_reshare_prefix_request c = (packs c.before.before.before).within
-
-slice_aggregate_request_2 : tie.Need-slice-aggregate-request-2
-slice_aggregate_request_2 c = sym (length-take-le _ _ (packs c.before.before.before.before).within)
-
-request_requires : tie.Need-request-requires
-request_requires c κs = search rules
-
-slice_aggregate_put_request_answer : tie.Need-slice-aggregate-put-request-answer
-slice_aggregate_put_request_answer c = search rules
-
-put_request_answer_requires : tie.Need-put-request-answer-requires
-put_request_answer_requires c κs =
-    let r = c.before.before.before.before.before.before.before in
-    (printable_by _ _ _ _ (answers r) (asked_replies _ _ _ _).0, (asking r).requires.1)
-
-same_length_3 : tie.Need-same-length-3
-same_length_3 c = search rules
-
-same_length_4 : tie.Need-same-length-4
-same_length_4 c = search rules
-
-same_length_5 : tie.Need-same-length-5
-same_length_5 c = search rules
-
-same_length_6 : tie.Need-same-length-6
-same_length_6 c = search rules
-
-returns_2 : tie.Need-returns-2
-returns_2 c =
-    let p = c.before.before in
-    answered_by _ _ _ _ (answers p.before.before.before.before.before.before.before.before) (asked_replies _ _ _ _).0 p.put-request-answer.ensures
+    answered_by _ _ _ _ (answers c.before.before.before.before.before.before.before.before.before.before) (asked_replies _ _ _ _).0 c.put_request_answer.ensures
 
 pub ask_spec : {M : Type 1} → statement M
 ask_spec =
     tie.close
     (tie.spec
-    pack_requires
-    enum_known_written
-    slice_aggregate_put_numbered
-    put_numbered_requires
-    same_length
-    same_length_2
-    returns
-    slice_aggregate_request
-    slice_reshare_prefix_request
-    slice_aggregate_request_2
-    request_requires
-    slice_aggregate_put_request_answer
-    put_request_answer_requires
-    same_length_3
-    same_length_4
-    same_length_5
-    same_length_6
-    returns_2)
+    pack-written-requires
+    enum_known-written
+    put_numbered-requires
+    shape_of-packed-in_default
+    shape_of-out-in_default
+    returns-in_default
+    slice_bounds-request-end
+    slice_bounds-request-end-2
+    slice_bounds-request-end-3
+    request-answer-requires
+    slice_bounds-put_request_answer-end
+    put_request_answer-requires
+    shape_of-table
+    shape_of-figures
+    shape_of-packed
+    shape_of-out
+    returns)

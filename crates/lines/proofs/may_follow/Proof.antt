@@ -4,15 +4,15 @@ use borrow.Author.Rules.{rules}
 use Rattle.lines.proofs.may_follow.Statement.{statement}
 use Rattle.lines.proofs.may_follow.Tie as tie
 
-div_rows : tie.Need-nonzero-div-rows
-div_rows c = search rules
+nonzero_div-rows : tie.Need-nonzero_div-rows
+nonzero_div-rows c = search rules
 
-last_key_requires : tie.Need-last-key-requires
-last_key_requires c κs = search rules
+last_key-last-requires : tie.Need-last_key-last-requires
+last_key-last-requires c κs = search rules
 
 returns : tie.Need-returns
 unfolding may_follow
-returns c = rw c.last-key.ensures
+returns c = rw c.last_key-last.ensures
 
 pub may_follow_spec : {M : Type 1} → statement M
-may_follow_spec = tie.close (tie.spec div_rows last_key_requires returns)
+may_follow_spec = tie.close (tie.spec nonzero_div-rows last_key-last-requires returns)

@@ -6,18 +6,15 @@ use borrow.Author.Rules.{rules}
 use Rattle.lines.proofs.question.Statement.{statement}
 use Rattle.lines.proofs.question.Tie as tie
 
-slice_aggregate_put : tie.Need-slice-aggregate-put
-slice_aggregate_put c = search rules
+put-printed-requires : tie.Need-put-printed-requires
+put-printed-requires c κs = search rules
 
-put_requires : tie.Need-put-requires
-put_requires c κs = search rules
-
-same_length : tie.Need-same-length
-same_length c = search rules
+shape_of-out : tie.Need-shape_of-out
+shape_of-out c = search rules
 
 returns : tie.Need-returns
 returns c = λ table list s.
-    record { numbers = put_kept _ table s.numbers; subscribers = put_kept _ list s.subscribers; filling = refl; delay = refl; fresh = refl; figures = s.figures; printed = c.before.before.put.ensures; more_numbers = omega arith; more_subscribers = omega arith }
+    record { numbers = put_kept _ table s.numbers; subscribers = put_kept _ list s.subscribers; filling = refl; delay = refl; fresh = refl; figures = s.figures; printed = c.put-printed.ensures; more_numbers = omega arith; more_subscribers = omega arith }
 
 pub question_spec : {M : Type 1} → statement M
-question_spec = tie.close (tie.spec slice_aggregate_put put_requires same_length returns)
+question_spec = tie.close (tie.spec put-printed-requires shape_of-out returns)

@@ -5,25 +5,31 @@ use borrow.Author.Rules.{rules}
 use Rattle.lines.proofs.report.Statement.{statement}
 use Rattle.lines.proofs.report.Tie as tie
 
-result_requires : tie.Need-result-requires
-result_requires c κs = search rules
+result-answer-requires : tie.Need-result-answer-requires
+result-answer-requires c κs = search rules
 
-put_result_answer_requires : tie.Need-put-result-answer-requires
-put_result_answer_requires c κs = search rules
+put_result_answer-requires : tie.Need-put_result_answer-requires
+put_result_answer-requires c κs = search rules
 
-same_length : tie.Need-same-length
-same_length c = search rules
+shape_of-table : tie.Need-shape_of-table
+shape_of-table c = search rules
 
-same_length_2 : tie.Need-same-length-2
-same_length_2 c = search rules
+shape_of-figures : tie.Need-shape_of-figures
+shape_of-figures c = search rules
 
-same_length_3 : tie.Need-same-length-3
-same_length_3 c = search rules
+shape_of-out : tie.Need-shape_of-out
+shape_of-out c = search rules
 
 returns : tie.Need-returns
-returns c = let p = c.before.before in answered_by _ _ _ _ p.before.before.before.before.before.before.result.ensures (result_replies _ _ _ _).0 p.put-result-answer.ensures
+returns c = answered_by _ _ _ _ c.result-answer.ensures (result_replies _ _ _ _).0 c.put_result_answer.ensures
 
 pub report_spec : {M : Type 1} → statement M
 report_spec =
     tie.close
-    (tie.spec result_requires put_result_answer_requires same_length same_length_2 same_length_3 returns)
+    (tie.spec
+    result-answer-requires
+    put_result_answer-requires
+    shape_of-table
+    shape_of-figures
+    shape_of-out
+    returns)

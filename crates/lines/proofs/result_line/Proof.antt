@@ -14,81 +14,73 @@ use Rattle.lines.proofs.result_line.Statement.{statement}
 use Rattle.lines.proofs.result_line.Tie as tie
 
 -- the letter and the space are put
-abbrev head : tie.After-report → tie.After-put
+abbrev head : tie.After-report-n → tie.After-put-at
 head c = c.before.before.before.before.before.before
+abbrev start : tie.After-put-at → tie.Start
+start c = c.before.before.before.before.before.before.before.before
+room : (c : tie.After-report-n) → (head c).put-at.result + c.report-n.result < length (put_mid (head c).put-at.result (length (head c).put-at.new.out - (head c).put-at.result) (head c).put-at.new.out c.report-n.new.out)
+room c = line_room_lem (head c).put-at.ensures c.report-n.ensures c.report-n.auto.1.1.1.1.1.0 (omega arith)
 
-abbrev start : tie.After-put → tie.Start
-start c = c.before.before.before.before.before.before.before
+overflow_mul-words : tie.Need-overflow_mul-words
+overflow_mul-words c = search rules
 
-room : (c : tie.After-report) → (head c).put.result + c.report.result < length (put_mid (head c).put.result (length (head c).put.new.1.0 - (head c).put.result) (head c).put.new.1.0 c.report.new.1.1.1.1.1.0)
-room c = line_room_lem (head c).put.ensures c.report.ensures c.report.auto.1.1.1.1.1.0 (omega arith)
+put-at-requires : tie.Need-put-at-requires
+put-at-requires c κs = search rules
 
-mul_words : tie.Need-overflow-mul-words
-mul_words c = search rules
+slice_bounds-report-end : tie.Need-slice_bounds-report-end
+slice_bounds-report-end c = search rules
 
-slice_aggregate_put : tie.Need-slice-aggregate-put
-slice_aggregate_put c = search rules
+slice_bounds-report-end-2 : tie.Need-slice_bounds-report-end-2
+slice_bounds-report-end-2 c = sym (length-take-le _ _ (start c.before.before.before).requires.0)
 
-put_requires : tie.Need-put-requires
-put_requires c κs = search rules
+slice_bounds-report-end-3 : tie.Need-slice_bounds-report-end-3
+slice_bounds-report-end-3 c = search rules
 
-slice_relend_prefix_report : tie.Need-slice-relend-prefix-report
-slice_relend_prefix_report c = search rules
+slice_bounds-report-count : tie.Need-slice_bounds-report-count
+slice_bounds-report-count c = search rules
 
-slice_aggregate_report : tie.Need-slice-aggregate-report
-slice_aggregate_report c = sym (length-take-le _ _ (start c.before.before.before).requires.0)
+slice_bounds-report-start : tie.Need-slice_bounds-report-start
+slice_bounds-report-start c = search rules
 
-slice_aggregate_report_2 : tie.Need-slice-aggregate-report-2
-slice_aggregate_report_2 c = search rules
+slice_bounds-report-end-4 : tie.Need-slice_bounds-report-end-4
+slice_bounds-report-end-4 c = search rules
 
-sub_report : tie.Need-overflow-sub-report
-sub_report c = search rules
+report-n-requires : tie.Need-report-n-requires
+report-n-requires c κs = search rules
 
-part_report_start : tie.Need-slice-bounds-report-start
-part_report_start c = search rules
+overflow_add-at : tie.Need-overflow_add-at
+overflow_add-at c = search rules
 
-part_report_end : tie.Need-slice-bounds-report-end
-part_report_end c = search rules
+end_line-requires : tie.Need-end_line-requires
+end_line-requires c κs = room c.before.before.before.before.before.before
 
-report_requires : tie.Need-report-requires
-report_requires c κs = search rules
+shape_of-table : tie.Need-shape_of-table
+shape_of-table c = search rules
 
-add_end_line : tie.Need-overflow-add-end-line
-add_end_line c = search rules
-
-end_line_requires : tie.Need-end-line-requires
-end_line_requires c κs = room c.before.before.before.before.before.before
-
-same_length : tie.Need-same-length
-same_length c = search rules
-
-same_length_2 : tie.Need-same-length-2
-same_length_2 c = search rules
+shape_of-out : tie.Need-shape_of-out
+shape_of-out c = search rules
 
 returns : tie.Need-returns
 unfolding reported
 returns c = λ list s.
-    let e = c.before.before in
-    let r = e.before.before.before.before.before.before.before in
-    let a = start (head r) in
-    line_did (λ state. notices.taking_result state a.args.number a.args.kind a.args.clock) s (λ t. result_right a.args.number a.args.clock a.good.1.0.1 t a.args.kind) (head r).put.ensures r.report.ensures (r.report.auto.1.1.1.0 ∙ length-take-le _ _ s.numbers) (room r) e.end_line.ensures.0 e.end_line.ensures.1
+    let a = start (head c.before.before.before.before.before.before.before.before.before) in
+    line_did (λ state. notices.taking_result state a.args.number a.args.kind a.args.clock) s (λ t. result_right a.args.number a.args.clock a.good.1.0.1 t a.args.kind) (head c.before.before.before.before.before.before.before.before.before).put-at.ensures c.report-n.ensures (c.report-n.auto.1.1.1.0 ∙ length-take-le _ _ s.numbers) (room c.before.before.before.before.before.before.before.before.before) c.end_line.ensures.0 c.end_line.ensures.1
 
 pub result_line_spec : {M : Type 1} → statement M
 result_line_spec =
     tie.close
     (tie.spec
-    mul_words
-    slice_aggregate_put
-    put_requires
-    slice_relend_prefix_report
-    slice_aggregate_report
-    slice_aggregate_report_2
-    sub_report
-    part_report_start
-    part_report_end
-    report_requires
-    add_end_line
-    end_line_requires
-    same_length
-    same_length_2
+    overflow_mul-words
+    put-at-requires
+    slice_bounds-report-end
+    slice_bounds-report-end-2
+    slice_bounds-report-end-3
+    slice_bounds-report-count
+    slice_bounds-report-start
+    slice_bounds-report-end-4
+    report-n-requires
+    overflow_add-at
+    end_line-requires
+    shape_of-table
+    shape_of-out
     returns)

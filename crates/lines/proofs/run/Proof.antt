@@ -5,27 +5,25 @@ use borrow.Author.Rules.{rules}
 use Rattle.lines.proofs.run.Statement.{statement}
 use Rattle.lines.proofs.run.Tie as tie
 
-packed_room_requires : tie.Need-packed-room-requires
-packed_room_requires c κs = search rules
+packed_room-packed-requires : tie.Need-packed_room-packed-requires
+packed_room-packed-requires c κs = search rules
 
-slice_aggregate_run_lines : tie.Need-slice-aggregate-run-lines
-slice_aggregate_run_lines c = search rules
+slice_bounds-run_lines-end : tie.Need-slice_bounds-run_lines-end
+slice_bounds-run_lines-end c = search rules
 
-run_lines_requires : tie.Need-run-lines-requires
+run_lines-requires : tie.Need-run_lines-requires
 unfolding octets_for
-run_lines_requires c κs =
-    let p = c.before.before.before.before in
-    let s = p.before.before.before.before.before in
-    (s.requires, omega (arith, s.requires.short, p.packed-room.ensures))
+run_lines-requires c κs =
+    (c.requires, omega (arith, c.requires.short, c.packed_room-packed.ensures))
 
-same_length : tie.Need-same-length
-same_length c = search rules
+shape_of-table : tie.Need-shape_of-table
+shape_of-table c = search rules
 
-same_length_2 : tie.Need-same-length-2
-same_length_2 c = search rules
+shape_of-list : tie.Need-shape_of-list
+shape_of-list c = search rules
 
-same_length_3 : tie.Need-same-length-3
-same_length_3 c = search rules
+shape_of-out : tie.Need-shape_of-out
+shape_of-out c = search rules
 
 returns : tie.Need-returns
 returns c = search rules
@@ -34,10 +32,10 @@ pub run_spec : {M : Type 1} → statement M
 run_spec =
     tie.close
     (tie.spec
-    packed_room_requires
-    slice_aggregate_run_lines
-    run_lines_requires
-    same_length
-    same_length_2
-    same_length_3
+    packed_room-packed-requires
+    slice_bounds-run_lines-end
+    run_lines-requires
+    shape_of-table
+    shape_of-list
+    shape_of-out
     returns)

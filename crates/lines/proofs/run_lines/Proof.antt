@@ -15,137 +15,135 @@ use borrow.Author.Rules.{rules}
 use Rattle.lines.proofs.run_lines.Statement.{statement}
 use Rattle.lines.proofs.run_lines.Tie as tie
 
-abbrev invariant_loop : tie.invariant_loop
-invariant_loop input table₀ list₀ packed₀ out₀ state₀ at₀ n₀ table list packed out state at n =
+abbrev invariant-loop-at : tie.invariant-loop-at
+invariant-loop-at input table₀ list₀ packed₀ out₀ state₀ at₀ n₀ table list packed out state at n =
     Run input table₀ list₀ out₀ state at n table list out × (length packed ≡ length packed₀)
 
-abbrev decreases_loop : tie.decreases_loop
-decreases_loop input table₀ list₀ packed₀ out₀ state₀ at₀ n₀ table list packed out state at n = length input - at
+abbrev decreases-loop-at : tie.decreases-loop-at
+decreases-loop-at input table₀ list₀ packed₀ out₀ state₀ at₀ n₀ table list packed out state at n = length input - at
 
-abbrev start : tie.At-loop invariant_loop decreases_loop → tie.Start invariant_loop decreases_loop
+abbrev start : tie.At-loop-at invariant-loop-at decreases-loop-at → tie.Start invariant-loop-at decreases-loop-at
 start c = c.before.before.before.before.before.before
 
 -- where the line ends
 found :
-    (c : tie.After-place-of invariant_loop decreases_loop)
-    → (c.place_of.result ≡ index_of line_feed (drop c.before.before.before.loop.at (start c.before.before.before).args.input.now))
-    × (c.place_of.result ≤ length (drop c.before.before.before.loop.at (start c.before.before.before).args.input.now))
-found c = rw rest_of at c.place_of.ensures
+    (c : tie.After-place_of-end invariant-loop-at decreases-loop-at)
+    → (c.place_of-end.result ≡ index_of line_feed (drop c.loop-at.at (start c.before.before.before).args.input.now))
+    × (c.place_of-end.result ≤ length (drop c.loop-at.at (start c.before.before.before).args.input.now))
+found c = rw rest_of at c.place_of-end.ensures
 
-room : (c : tie.In-loop invariant_loop decreases_loop) → c.before.loop.n + 61 ≤ length c.before.loop.out
-room c = so_far c.before.loop.invariant.0 (start c.before).pre.0 c.loop-test.true
+room : (c : tie.In-loop-at invariant-loop-at decreases-loop-at) → c.loop-at.n + 61 ≤ length c.loop-at.out
+room c = so_far c.loop-at.invariant.0 (start c.before).requires.0 c.loop-at-test.true
 
-abbrev head : tie.After-do-line invariant_loop decreases_loop → tie.At-loop invariant_loop decreases_loop
+abbrev head : tie.After-do_line-done invariant-loop-at decreases-loop-at → tie.At-loop-at invariant-loop-at decreases-loop-at
 head c = c.before.before.before.before.before.before.before.before.before
 
 did :
-    (c : tie.After-do-line invariant_loop decreases_loop)
-    → Did (line_effect (take c.before.before.before.before.before.before.place_of.result (drop (head c).loop.at (start (head c)).args.input.now)) (program_in (head c).loop.state (head c).loop.table (head c).loop.list))
-    (head c).loop.state (head c).loop.table (head c).loop.list (take (length (head c).loop.out - (head c).loop.n) (drop (head c).loop.n (head c).loop.out))
-    c.do-line.result c.do-line.new.1.1.0 c.do-line.new.1.1.1.0 c.do-line.new.1.1.1.1.1.0
-did c = rw (rest_of (head c).loop.at (start (head c)).args.input.now) at c.do-line.ensures
+    (c : tie.After-do_line-done invariant-loop-at decreases-loop-at)
+    → Did (line_effect (take c.place_of-end.result (drop (head c).loop-at.at (start (head c)).args.input.now)) (program_in (head c).loop-at.state (head c).loop-at.table (head c).loop-at.list))
+    (head c).loop-at.state (head c).loop-at.table (head c).loop-at.list (take (length (head c).loop-at.out - (head c).loop-at.n) (drop (head c).loop-at.n (head c).loop-at.out))
+    c.do_line-done.result c.do_line-done.new.table c.do_line-done.new.list c.do_line-done.new.out
+did c = rw (rest_of (head c).loop-at.at (start (head c)).args.input.now) at c.do_line-done.ensures
 
-printed : (c : tie.After-do-line invariant_loop decreases_loop) → c.do-line.result.printed ≤ 7 * (c.before.before.before.before.before.before.place_of.result + 1)
+printed : (c : tie.After-do_line-done invariant-loop-at decreases-loop-at) → c.do_line-done.result.printed ≤ 7 * (c.place_of-end.result + 1)
 printed c =
-    let k = c.do-line.auto.1.1 in
-    printed_most (head c).loop.invariant.0 (start (head c)).pre.0 c.before.before.before.before.before.before.before.before.loop-test.true (found c.before.before.before.before.before.before) (did c) k.0 k.1.0 k.1.1.1.0
+    let k = c.do_line-done.auto.1.1 in
+    printed_most (head c).loop-at.invariant.0 (start (head c)).requires.0 c.loop-at-test.true (found c.before.before.before.before.before) (did c) k.0 k.1.0 k.1.1.1.0
 
 -- the line ends within the input, which is short
-ends : (c : tie.After-do-line invariant_loop decreases_loop) → (head c).loop.at + (c.before.before.before.before.before.before.place_of.result + 1) ≤ most_input + 1
+ends : (c : tie.After-do_line-done invariant-loop-at decreases-loop-at) → (head c).loop-at.at + (c.place_of-end.result + 1) ≤ most_input + 1
 ends c =
     let s = start (head c) in
-    omega (arith, c.before.before.before.before.before.before.before.before.loop-test.true, (found c.before.before.before.before.before.before).1, length-drop (head c).loop.at s.args.input.now, s.pre.0.short)
+    omega (arith, c.loop-at-test.true, (found c.before.before.before.before.before).1, length-drop (head c).loop-at.at s.args.input.now, s.requires.0.short)
 
-loop_holds : tie.Need-loop-init invariant_loop decreases_loop
-loop_holds c = (run_start _ _ _ _ c.before.before.before.before.before.requires.0, omega arith)
+loop-at-init : tie.Need-loop-at-init invariant-loop-at decreases-loop-at
+loop-at-init c = (run_start _ _ _ _ c.requires.0, omega arith)
 
-sub_rest : tie.Need-overflow-sub-rest invariant_loop decreases_loop
-sub_rest c = search rules
+slice_bounds-rest-count : tie.Need-slice_bounds-rest-count invariant-loop-at decreases-loop-at
+slice_bounds-rest-count c = search rules
 
-part_rest_start : tie.Need-slice-bounds-rest-start invariant_loop decreases_loop
-part_rest_start c = search rules
+slice_bounds-rest-start : tie.Need-slice_bounds-rest-start invariant-loop-at decreases-loop-at
+slice_bounds-rest-start c = search rules
 
-part_rest_end : tie.Need-slice-bounds-rest-end invariant_loop decreases_loop
-part_rest_end c = search rules
+slice_bounds-rest-end : tie.Need-slice_bounds-rest-end invariant-loop-at decreases-loop-at
+slice_bounds-rest-end c = search rules
 
-place_of_requires : tie.Need-place-of-requires invariant_loop decreases_loop
-place_of_requires c κs = search rules
+place_of-end-requires : tie.Need-place_of-end-requires invariant-loop-at decreases-loop-at
+place_of-end-requires c κs = search rules
 
-slice_aggregate_do_line : tie.Need-slice-aggregate-do-line invariant_loop decreases_loop
-slice_aggregate_do_line c = sym (length-take-le _ _ c.before.place_of.ensures.1)
+slice_bounds-do_line-end : tie.Need-slice_bounds-do_line-end invariant-loop-at decreases-loop-at
+slice_bounds-do_line-end c = sym (length-take-le _ _ c.place_of-end.ensures.1)
 
-sub_do_line : tie.Need-overflow-sub-do-line invariant_loop decreases_loop
-sub_do_line c = omega (arith, room c.before.before.before.before.before.before)
+slice_bounds-do_line-count : tie.Need-slice_bounds-do_line-count invariant-loop-at decreases-loop-at
+slice_bounds-do_line-count c = omega (arith, room c.before.before.before.before.before)
 
-part_do_line_start : tie.Need-slice-bounds-do-line-start invariant_loop decreases_loop
-part_do_line_start c = omega (arith, room c.before.before.before.before.before.before)
+slice_bounds-do_line-start : tie.Need-slice_bounds-do_line-start invariant-loop-at decreases-loop-at
+slice_bounds-do_line-start c = omega (arith, room c.before.before.before.before.before)
 
-part_do_line_end : tie.Need-slice-bounds-do-line-end invariant_loop decreases_loop
-part_do_line_end c = search rules
+slice_bounds-do_line-end-in-loop-at : tie.Need-slice_bounds-do_line-end-in-loop-at invariant-loop-at decreases-loop-at
+slice_bounds-do_line-end-in-loop-at c = search rules
 
-do_line_requires : tie.Need-do-line-requires invariant_loop decreases_loop
+do_line-done-requires : tie.Need-do_line-done-requires invariant-loop-at decreases-loop-at
 unfolding octets_for
-do_line_requires c κs =
-    let h = c.before.before.before.before.before.before.before in
-    let s = start h.before in
-    (h.before.loop.invariant.0.stands, (simp (length-take, length-drop) (omega (arith, s.pre.1, h.before.loop.invariant.1)), simp (length-take, length-drop) (omega (arith, room h))))
+do_line-done-requires c κs =
+    let s = start c.before.before.before.before.before.before.before in
+    (c.loop-at.invariant.0.stands, (simp (length-take, length-drop) (omega (arith, s.requires.1, c.loop-at.invariant.1)), simp (length-take, length-drop) (omega (arith, room c.before.before.before.before.before.before))))
 
-add_n : tie.Need-overflow-add-n invariant_loop decreases_loop
-add_n c = let d = c.before.before.before.before.before.before.before.before.before.before in omega (arith, printed d, (head d).loop.invariant.0.most, ends d)
+overflow_add-n : tie.Need-overflow_add-n invariant-loop-at decreases-loop-at
+overflow_add-n c = omega (arith, printed c.before.before.before.before.before.before.before.before.before.before, (head c.before.before.before.before.before.before.before.before.before.before).loop-at.invariant.0.most, ends c.before.before.before.before.before.before.before.before.before.before)
 
-add_at : tie.Need-overflow-add-at invariant_loop decreases_loop
-add_at c = omega (arith, ends c.before.before.before.before.before.before.before.before.before.before)
+overflow_add-at : tie.Need-overflow_add-at invariant-loop-at decreases-loop-at
+overflow_add-at c = omega (arith, ends c.before.before.before.before.before.before.before.before.before.before)
 
-add_at_2 : tie.Need-overflow-add-at-2 invariant_loop decreases_loop
-add_at_2 c = omega (arith, ends c.before.before.before.before.before.before.before.before.before.before)
+overflow_add-at-in-loop-at : tie.Need-overflow_add-at-in-loop-at invariant-loop-at decreases-loop-at
+overflow_add-at-in-loop-at c = omega (arith, ends c.before.before.before.before.before.before.before.before.before.before)
 
-loop_less : tie.Need-loop-smaller invariant_loop decreases_loop
-loop_less c = search rules
+loop-at-smaller : tie.Need-loop-at-smaller invariant-loop-at decreases-loop-at
+loop-at-smaller c = search rules
 
-loop_again : tie.Need-loop-preserved invariant_loop decreases_loop
-loop_again c =
-    let d = c.before.before.before.before.before.before.before.before.before.before in
-    let k = d.do-line.auto.1.1 in
-    (run_step (head d).loop.invariant.0 (start (head d)).pre.0 d.before.before.before.before.before.before.before.before.loop-test.true (found d.before.before.before.before.before.before) (did d) k.0 k.1.0 k.1.1.1.0, k.1.1.0 ∙ (head d).loop.invariant.1)
+loop-at-preserved : tie.Need-loop-at-preserved invariant-loop-at decreases-loop-at
+loop-at-preserved c =
+    let k = c.do_line-done.auto.1.1 in
+    (run_step (head c.before.before.before.before.before.before.before.before.before.before).loop-at.invariant.0 (start (head c.before.before.before.before.before.before.before.before.before.before)).requires.0 c.loop-at-test.true (found c.before.before.before.before.before.before.before.before.before.before.before.before.before.before.before) (did c.before.before.before.before.before.before.before.before.before.before) k.0 k.1.0 k.1.1.1.0, k.1.1.0 ∙ (head c.before.before.before.before.before.before.before.before.before.before).loop-at.invariant.1)
 
-same_length : tie.Need-same-length invariant_loop decreases_loop
-same_length c = c.before.loop.invariant.0.table_long
+shape_of-table : tie.Need-shape_of-table invariant-loop-at decreases-loop-at
+shape_of-table c = c.loop-at.invariant.0.table_long
 
-same_length_2 : tie.Need-same-length-2 invariant_loop decreases_loop
-same_length_2 c = c.before.loop.invariant.0.list_long
+shape_of-list : tie.Need-shape_of-list invariant-loop-at decreases-loop-at
+shape_of-list c = c.loop-at.invariant.0.list_long
 
-same_length_3 : tie.Need-same-length-3 invariant_loop decreases_loop
-same_length_3 c = c.before.loop.invariant.1
+shape_of-packed : tie.Need-shape_of-packed invariant-loop-at decreases-loop-at
+shape_of-packed c = c.loop-at.invariant.1
 
-same_length_4 : tie.Need-same-length-4 invariant_loop decreases_loop
-same_length_4 c = c.before.loop.invariant.0.out_long
+shape_of-out : tie.Need-shape_of-out invariant-loop-at decreases-loop-at
+shape_of-out c = c.loop-at.invariant.0.out_long
 
-returns : tie.Need-returns invariant_loop decreases_loop
-returns c = run_end _ _ _ _ _ _ _ _ _ _ c.before.loop.invariant.0 (start c.before).pre.0 c.loop-test.false
+returns : tie.Need-returns invariant-loop-at decreases-loop-at
+returns c = run_end _ _ _ _ _ _ _ _ _ _ c.loop-at.invariant.0 (start c.before).requires.0 c.loop-at-test.false
 
 pub run_lines_spec : {M : Type 1} → statement M
 run_lines_spec =
     tie.close
     (tie.spec
-    invariant_loop
-    decreases_loop
-    loop_holds
-    sub_rest
-    part_rest_start
-    part_rest_end
-    place_of_requires
-    slice_aggregate_do_line
-    sub_do_line
-    part_do_line_start
-    part_do_line_end
-    do_line_requires
-    add_n
-    add_at
-    add_at_2
-    loop_less
-    loop_again
-    same_length
-    same_length_2
-    same_length_3
-    same_length_4
+    invariant-loop-at
+    decreases-loop-at
+    loop-at-init
+    slice_bounds-rest-count
+    slice_bounds-rest-start
+    slice_bounds-rest-end
+    place_of-end-requires
+    slice_bounds-do_line-end
+    slice_bounds-do_line-count
+    slice_bounds-do_line-start
+    slice_bounds-do_line-end-in-loop-at
+    do_line-done-requires
+    overflow_add-n
+    overflow_add-at
+    overflow_add-at-in-loop-at
+    loop-at-smaller
+    loop-at-preserved
+    shape_of-table
+    shape_of-list
+    shape_of-packed
+    shape_of-out
     returns)

@@ -14,81 +14,73 @@ use Rattle.lines.proofs.sending_line.Statement.{statement}
 use Rattle.lines.proofs.sending_line.Tie as tie
 
 -- the letter and the space are put
-abbrev head : tie.After-send → tie.After-put
+abbrev head : tie.After-send-n → tie.After-put-at
 head c = c.before.before.before.before.before.before
+abbrev start : tie.After-put-at → tie.Start
+start c = c.before.before.before.before.before.before.before.before
+room : (c : tie.After-send-n) → (head c).put-at.result + c.send-n.result < length (put_mid (head c).put-at.result (length (head c).put-at.new.out - (head c).put-at.result) (head c).put-at.new.out c.send-n.new.out)
+room c = line_room_lem (head c).put-at.ensures c.send-n.ensures c.send-n.auto.1.1.1.1.1.0 (omega arith)
 
-abbrev start : tie.After-put → tie.Start
-start c = c.before.before.before.before.before.before.before
+overflow_mul-words : tie.Need-overflow_mul-words
+overflow_mul-words c = search rules
 
-room : (c : tie.After-send) → (head c).put.result + c.send.result < length (put_mid (head c).put.result (length (head c).put.new.1.0 - (head c).put.result) (head c).put.new.1.0 c.send.new.1.1.1.1.1.0)
-room c = line_room_lem (head c).put.ensures c.send.ensures c.send.auto.1.1.1.1.1.0 (omega arith)
+put-at-requires : tie.Need-put-at-requires
+put-at-requires c κs = search rules
 
-mul_words : tie.Need-overflow-mul-words
-mul_words c = search rules
+slice_bounds-send-end : tie.Need-slice_bounds-send-end
+slice_bounds-send-end c = search rules
 
-slice_aggregate_put : tie.Need-slice-aggregate-put
-slice_aggregate_put c = search rules
+slice_bounds-send-end-2 : tie.Need-slice_bounds-send-end-2
+slice_bounds-send-end-2 c = sym (length-take-le _ _ (start c.before.before.before).requires.0)
 
-put_requires : tie.Need-put-requires
-put_requires c κs = search rules
+slice_bounds-send-end-3 : tie.Need-slice_bounds-send-end-3
+slice_bounds-send-end-3 c = search rules
 
-slice_relend_prefix_send : tie.Need-slice-relend-prefix-send
-slice_relend_prefix_send c = search rules
+slice_bounds-send-count : tie.Need-slice_bounds-send-count
+slice_bounds-send-count c = search rules
 
-slice_aggregate_send : tie.Need-slice-aggregate-send
-slice_aggregate_send c = sym (length-take-le _ _ (start c.before.before.before).requires.0)
+slice_bounds-send-start : tie.Need-slice_bounds-send-start
+slice_bounds-send-start c = search rules
 
-slice_aggregate_send_2 : tie.Need-slice-aggregate-send-2
-slice_aggregate_send_2 c = search rules
+slice_bounds-send-end-4 : tie.Need-slice_bounds-send-end-4
+slice_bounds-send-end-4 c = search rules
 
-sub_send : tie.Need-overflow-sub-send
-sub_send c = search rules
+send-n-requires : tie.Need-send-n-requires
+send-n-requires c κs = search rules
 
-part_send_start : tie.Need-slice-bounds-send-start
-part_send_start c = search rules
+overflow_add-at : tie.Need-overflow_add-at
+overflow_add-at c = search rules
 
-part_send_end : tie.Need-slice-bounds-send-end
-part_send_end c = search rules
+end_line-requires : tie.Need-end_line-requires
+end_line-requires c κs = room c.before.before.before.before.before.before
 
-send_requires : tie.Need-send-requires
-send_requires c κs = search rules
+shape_of-table : tie.Need-shape_of-table
+shape_of-table c = search rules
 
-add_end_line : tie.Need-overflow-add-end-line
-add_end_line c = search rules
-
-end_line_requires : tie.Need-end-line-requires
-end_line_requires c κs = room c.before.before.before.before.before.before
-
-same_length : tie.Need-same-length
-same_length c = search rules
-
-same_length_2 : tie.Need-same-length-2
-same_length_2 c = search rules
+shape_of-out : tie.Need-shape_of-out
+shape_of-out c = search rules
 
 returns : tie.Need-returns
 unfolding dispatched
 returns c = λ list s.
-    let e = c.before.before in
-    let r = e.before.before.before.before.before.before.before in
-    let a = start (head r) in
-    line_did (λ state. notices.sending_notice state lent_buffer a.args.number a.args.state.delay a.args.clock) s (λ t. sending_right a.args.number a.args.clock a.good.1.0.1 t a.args.state.delay) (head r).put.ensures r.send.ensures (r.send.auto.1.1.1.0 ∙ length-take-le _ _ s.numbers) (room r) e.end_line.ensures.0 e.end_line.ensures.1
+    let a = start (head c.before.before.before.before.before.before.before.before.before) in
+    line_did (λ state. notices.sending_notice state lent_buffer a.args.number a.args.state.delay a.args.clock) s (λ t. sending_right a.args.number a.args.clock a.good.1.0.1 t a.args.state.delay) (head c.before.before.before.before.before.before.before.before.before).put-at.ensures c.send-n.ensures (c.send-n.auto.1.1.1.0 ∙ length-take-le _ _ s.numbers) (room c.before.before.before.before.before.before.before.before.before) c.end_line.ensures.0 c.end_line.ensures.1
 
 pub sending_line_spec : {M : Type 1} → statement M
 sending_line_spec =
     tie.close
     (tie.spec
-    mul_words
-    slice_aggregate_put
-    put_requires
-    slice_relend_prefix_send
-    slice_aggregate_send
-    slice_aggregate_send_2
-    sub_send
-    part_send_start
-    part_send_end
-    send_requires
-    add_end_line
-    end_line_requires
-    same_length
-    same_length_2
+    overflow_mul-words
+    put-at-requires
+    slice_bounds-send-end
+    slice_bounds-send-end-2
+    slice_bounds-send-end-3
+    slice_bounds-send-count
+    slice_bounds-send-start
+    slice_bounds-send-end-4
+    send-n-requires
+    overflow_add-at
+    end_line-requires
+    shape_of-table
+    shape_of-out
     returns)

@@ -9,28 +9,25 @@ use Rattle.lines.proofs.Memory.{put_kept, put_nothing, did_as, delayed_not, dela
 use Rattle.lines.proofs.set_delay.Statement.{statement}
 use Rattle.lines.proofs.set_delay.Tie as tie
 
-delay_allowed_requires : tie.Need-delay-allowed-requires
-delay_allowed_requires c κs = search rules
+delay_allowed-requires : tie.Need-delay_allowed-requires
+delay_allowed-requires c κs = search rules
 
-tested : (c : tie.After-delay-allowed) (b : Bool) → let a = c.before.before.args in (a.first && c.delay-allowed.result) ≡ b → (a.first && delay_allowed a.seconds) ≡ b
-tested c b e = ap (λ (x : Bool). c.before.before.args.first && x) (sym c.delay-allowed.ensures) ∙ e
+tested : (c : tie.After-delay_allowed) (b : Bool) → let a = c.args in (a.first && c.delay_allowed.result) ≡ b → (a.first && delay_allowed a.seconds) ≡ b
+tested c b e = ap (λ (x : Bool). c.args.first && x) (sym c.delay_allowed.ensures) ∙ e
 
-question_requires : tie.Need-question-requires
-question_requires c κs = search rules
+question-requires : tie.Need-question-requires
+question-requires c κs = search rules
 
-same_length : tie.Need-same-length
-same_length c = search rules
+shape_of-out-then-not-first-delay_allowed : tie.Need-shape_of-out-then-not-first-delay_allowed
+shape_of-out-then-not-first-delay_allowed c = search rules
+
+returns-then-not-first-delay_allowed : tie.Need-returns-then-not-first-delay_allowed
+returns-then-not-first-delay_allowed c = λ table list s.
+    did_as (delayed_not _ _ _ (tested c.before.before.before.before.before _ (not-true _ c.if-not-first-delay_allowed.true-raw))) (c.question.ensures table list s)
 
 returns : tie.Need-returns
 returns c = λ table list s.
-    let q = c.before.before in
-    let t = q.before.before in
-    did_as (delayed_not _ _ _ (tested t.before _ (not-true _ t.if1.true))) (q.question.ensures table list s)
-
-returns_2 : tie.Need-returns-2
-returns_2 c = λ table list s.
-    let e = c.before in
-    did_as (delayed_so _ _ _ (tested e.before _ (not-false _ e.if1.false))) (record {
+    did_as (delayed_so _ _ _ (tested c.before.before _ (not-false _ c.if-not-first-delay_allowed.false-raw))) (record {
       numbers = put_kept _ table s.numbers;
       subscribers = put_kept _ list s.subscribers;
       filling = refl;
@@ -43,4 +40,9 @@ returns_2 c = λ table list s.
     })
 
 pub set_delay_spec : {M : Type 1} → statement M
-set_delay_spec = tie.close (tie.spec delay_allowed_requires question_requires same_length returns returns_2)
+set_delay_spec = tie.close (tie.spec
+    delay_allowed-requires
+    question-requires
+    shape_of-out-then-not-first-delay_allowed
+    returns-then-not-first-delay_allowed
+    returns)

@@ -33,186 +33,174 @@ A c = c.args.additional.now
 abbrev F : tie.Start → Request
 F c = with_additional c.args.fields (A c)
 
-abbrev start : tie.After-flags-of → tie.Start
+abbrev start : tie.After-flags_of-flags → tie.Start
 start c = c.before.before.before.before.before.before.before
-
 abbrev flags : tie.Start → ℕ
 flags c = flags_of c.args.list.now c.args.requester.0
 
-no_follow_me : (c : tie.Then1) → has_follow_me (flags (start c.before)) ≡ false
-no_follow_me c = rw (← c.before.flags_of.ensures) (ne_eqb _ _ c.if1.true)
+no_follow_me : (c : tie.Then-flags-ne1) → has_follow_me (flags (start c.before)) ≡ false
+no_follow_me c = rw (← c.flags_of-flags.ensures) (ne_eqb _ _ c.if-flags-ne1.true)
 
-follow_me : (c : tie.Else1) → has_follow_me (flags (start c.before)) ≡ true
-follow_me c = rw (← c.before.flags_of.ensures) (eq-eqb _ _ c.if1.false)
+follow_me : (c : tie.Else-flags-ne1) → has_follow_me (flags (start c.before)) ≡ true
+follow_me c = rw (← c.flags_of-flags.ensures) (eq-eqb _ _ c.if-flags-ne1.false)
 
 -- what the requester may do
-abbrev asks : tie.After-is-forbidden → tie.Start
+abbrev asks : tie.After-is_forbidden → tie.Start
 asks c = start c.before.before
 
-abbrev barred : tie.After-is-forbidden → Bool
+abbrev barred : tie.After-is_forbidden → Bool
 barred c = let s = asks c in is_forced s.args.fields.erasing && not (is_supervisor (flags s))
 
-forbidden : (c : tie.Then2) → barred c.before ≡ true
-forbidden c = rw (← c.before.before.before.flags_of.ensures) (sym c.before.is-forbidden.ensures ∙ c.if2.true)
+forbidden : (c : tie.Then-is_forbidden) → barred c.before ≡ true
+forbidden c = rw (← c.flags_of-flags.ensures) (sym c.is_forbidden.ensures ∙ c.if-is_forbidden.true)
 
-permitted : (c : tie.Else2) → barred c.before ≡ false
-permitted c = rw (← c.before.before.before.flags_of.ensures) (sym c.before.is-forbidden.ensures ∙ c.if2.false)
+permitted : (c : tie.Else-is_forbidden) → barred c.before ≡ false
+permitted c = rw (← c.flags_of-flags.ensures) (sym c.is_forbidden.ensures ∙ c.if-is_forbidden.false)
 
 -- what the additional field says of a crew
 count : (s : tie.Start) (crew : Crew) → s.args.fields.crew ≡ crew → count_of (A s) ≡ crew
 count s crew e = sym s.requires.1.1 ∙ e
 
-codes : (c : tie.After-known-told) → count_of (A (asks c.before.before.before.before)) ≡ Codes c.before.crew.given.0.0
-codes c = count (asks c.before.before.before.before) _ c.before.crew.given.1
+codes : (c : tie.In-Codes) → count_of (A (asks c.before.before)) ≡ Codes c.in-Codes.n
+codes c = count (asks c.before.before) _ c.in-Codes.is
 
-flags_of_requires : tie.Need-flags-of-requires
-flags_of_requires c κs = search rules
+flags_of-flags-requires : tie.Need-flags_of-flags-requires
+flags_of-flags-requires c κs = search rules
 
-say_requires : tie.Need-say-requires
-say_requires c κs = search rules
+say-requires : tie.Need-say-requires
+say-requires c κs = search rules
 
-same_length : tie.Need-same-length
-same_length c = search rules
+shape_of-reply-then-flags-ne1 : tie.Need-shape_of-reply-then-flags-ne1
+shape_of-reply-then-flags-ne1 c = search rules
 
-returns : tie.Need-returns
-returns c =
-    let q = c.before.before in
-    let b = q.before.before in
-    let s = start b.before in
-    says_42 (T s) (flags s) (B s) s.args.requester (F s) _ _ (no_follow_me b) q.say.ensures
+returns-then-flags-ne1 : tie.Need-returns-then-flags-ne1
+returns-then-flags-ne1 c =
+    let s = start c.before.before.before.before.before in
+    says_42 (T s) (flags s) (B s) s.args.requester (F s) _ _ (no_follow_me c.before.before.before.before) c.say.ensures
 
-is_forbidden_requires : tie.Need-is-forbidden-requires
-is_forbidden_requires c κs = search rules
+is_forbidden-requires : tie.Need-is_forbidden-requires
+is_forbidden-requires c κs = search rules
 
-say_requires_2 : tie.Need-say-requires-2
-say_requires_2 c κs = search rules
+say-requires-then-is_forbidden : tie.Need-say-requires-then-is_forbidden
+say-requires-then-is_forbidden c κs = search rules
 
-same_length_2 : tie.Need-same-length-2
-same_length_2 c = search rules
+shape_of-reply-then-is_forbidden : tie.Need-shape_of-reply-then-is_forbidden
+shape_of-reply-then-is_forbidden c = search rules
 
-returns_2 : tie.Need-returns-2
-returns_2 c =
-    let q = c.before.before in
-    let b = q.before.before in
-    let s = asks b.before in
-    says_22 (T s) (flags s) (B s) s.args.requester (F s) (follow_me b.before.before) _ _ (forbidden b) q.say2.ensures
+returns-then-is_forbidden : tie.Need-returns-then-is_forbidden
+returns-then-is_forbidden c =
+    let s = asks c.before.before.before.before.before in
+    says_22 (T s) (flags s) (B s) s.args.requester (F s) (follow_me c.before.before.before.before.before.before) _ _ (forbidden c.before.before.before.before) c.say-then-is_forbidden.ensures
 
-enum_told : tie.Need-enum-told
-enum_told c = search rules
+enum_told-1 : tie.Need-enum_told-1
+enum_told-1 c = search rules
 
-ask_single_requires : tie.Need-ask-single-requires
-ask_single_requires c κs =
+ask_single-requires : tie.Need-ask_single-requires
+ask_single-requires c κs =
+    let s = asks c.before.before.before.before.before in
+    (s.requires.0.0, s.requires.0.2, (sound_rules (F s) s.requires.1.0).erasing)
+
+enum_known-crew : tie.Need-enum_known-crew
+enum_known-crew c = search rules
+
+overflow_mul-digits : tie.Need-overflow_mul-digits
+overflow_mul-digits c = let s = asks c.before.before in omega (arith, crew_most s.args.fields (A s) _ s.requires.1.0 (codes c))
+
+overflow_sub-digits : tie.Need-overflow_sub-digits
+overflow_sub-digits c = let s = asks c.before.before in crew_within s.args.fields (A s) _ s.requires.1.0 (codes c)
+
+slice_bounds-digits-count : tie.Need-slice_bounds-digits-count
+slice_bounds-digits-count c = search rules
+
+slice_bounds-digits-start : tie.Need-slice_bounds-digits-start
+slice_bounds-digits-start c = search rules
+
+slice_bounds-digits-end : tie.Need-slice_bounds-digits-end
+slice_bounds-digits-end c = search rules
+
+request_crew-requires : tie.Need-request_crew-requires
+request_crew-requires c κs =
     let s = asks c.before.before.before.before.before.before in
-    (s.pre.0.0, s.pre.0.2, (sound_rules (F s) s.pre.1.0).erasing)
-
-enum_known_crew : tie.Need-enum-known-crew
-enum_known_crew c = search rules
-
-mul_digits : tie.Need-overflow-mul-digits
-mul_digits c = let s = asks c.before.before.before.before in omega (arith, crew_most s.args.fields (A s) _ s.pre.1.0 (codes c))
-
-sub_digits : tie.Need-overflow-sub-digits
-sub_digits c = let s = asks c.before.before.before.before in crew_within s.args.fields (A s) _ s.pre.1.0 (codes c)
-
-sub_digits_2 : tie.Need-overflow-sub-digits-2
-sub_digits_2 c = search rules
-
-part_digits_start : tie.Need-slice-bounds-digits-start
-part_digits_start c = search rules
-
-part_digits_end : tie.Need-slice-bounds-digits-end
-part_digits_end c = search rules
-
-request_crew_requires : tie.Need-request-crew-requires
-request_crew_requires c κs =
-    let k = c.before.before.before.before in
-    let s = asks k.before.before.before.before in
     let f = s.args.fields in (
-      (s.pre.0.0, crew_carried f (A s) _ s.pre.1.0 (codes k), s.pre.0.3),
+      (s.requires.0.0, crew_carried f (A s) _ s.requires.1.0 (codes c.before.before.before.before), s.requires.0.3),
       (
         (
-          crew_number_lem f (A s) _ s.pre.1.0 (codes k),
-          rw rest_of (crew_digits f (A s) _ s.pre.1.0 (codes k)),
-          rw rest_of (crew_few f (A s) _ s.pre.1.0 (codes k)),
+          crew_number_lem f (A s) _ s.requires.1.0 (codes c.before.before.before.before),
+          rw rest_of (crew_digits f (A s) _ s.requires.1.0 (codes c.before.before.before.before)),
+          rw rest_of (crew_few f (A s) _ s.requires.1.0 (codes c.before.before.before.before)),
         ),
-        s.pre.0.2,
+        s.requires.0.2,
       ),
     )
 
-enum_told_2 : tie.Need-enum-told-2
-enum_told_2 c = search rules
+enum_told-in-Broken : tie.Need-enum_told-in-Broken
+enum_told-in-Broken c = search rules
 
-same_length_3 : tie.Need-same-length-3
-same_length_3 c = search rules
+shape_of-table-in-Single : tie.Need-shape_of-table-in-Single
+shape_of-table-in-Single c = search rules
 
-same_length_4 : tie.Need-same-length-4
-same_length_4 c = search rules
+shape_of-figures-in-Single : tie.Need-shape_of-figures-in-Single
+shape_of-figures-in-Single c = search rules
 
-same_length_5 : tie.Need-same-length-5
-same_length_5 c = search rules
+shape_of-reply-in-Single : tie.Need-shape_of-reply-in-Single
+shape_of-reply-in-Single c = search rules
 
-returns_3 : tie.Need-returns-3
-returns_3 c =
-    let q = c.before.before.before.before.before.before in
-    let e = q.before.before.before.before in
-    let b = e.before.before in
-    let s = asks b.before in
-    q.ask-single.ensures
-    ∙ sym (passes (T s) (flags s) (B s) s.args.requester (F s) (follow_me b.before.before) (permitted b)
-    ∙ single_asked_lem (T s) (B s) s.args.requester s.args.fields (A s) (single_crew (A s) (count s _ e.enum_told.given.1)))
+returns-in-Single : tie.Need-returns-in-Single
+returns-in-Single c =
+    let s = asks c.before.before.before.before.before.before.before.before.before.before.before.before in
+    c.ask_single.ensures
+    ∙ sym (passes (T s) (flags s) (B s) s.args.requester (F s) (follow_me c.before.before.before.before.before.before.before.before.before.before.before.before.before) (permitted c.before.before.before.before.before.before.before.before.before.before.before)
+    ∙ single_asked_lem (T s) (B s) s.args.requester s.args.fields (A s) (single_crew (A s) (count s _ c.in-Single.is)))
 
-same_length_6 : tie.Need-same-length-6
-same_length_6 c = search rules
+shape_of-table-in-Codes : tie.Need-shape_of-table-in-Codes
+shape_of-table-in-Codes c = search rules
 
-same_length_7 : tie.Need-same-length-7
-same_length_7 c = search rules
+shape_of-figures-in-Codes : tie.Need-shape_of-figures-in-Codes
+shape_of-figures-in-Codes c = search rules
 
-same_length_8 : tie.Need-same-length-8
-same_length_8 c = search rules
+shape_of-reply-in-Codes : tie.Need-shape_of-reply-in-Codes
+shape_of-reply-in-Codes c = search rules
 
-returns_4 : tie.Need-returns-4
-returns_4 c =
-    let q = c.before.before.before.before.before.before in
-    let k = q.before.before.before.before.before in
-    let b = k.before.before.before in
-    let s = asks b.before in
-    rw rest_of at q.request-crew.ensures
-    ∙ sym (passes (T s) (flags s) (B s) s.args.requester (F s) (follow_me b.before.before) (permitted b)
-    ∙ crew_asked s.args.fields (A s) _ s.pre.1.0 (codes k) (T s) (B s) s.args.requester)
+returns-in-Codes : tie.Need-returns-in-Codes
+returns-in-Codes c =
+    let s = asks c.before.before.before.before.before.before.before.before.before.before.before.before.before in
+    rw rest_of at c.request_crew.ensures
+    ∙ sym (passes (T s) (flags s) (B s) s.args.requester (F s) (follow_me c.before.before.before.before.before.before.before.before.before.before.before.before.before.before) (permitted c.before.before.before.before.before.before.before.before.before.before.before.before)
+    ∙ crew_asked s.args.fields (A s) _ s.requires.1.0 (codes c.before.before.before.before.before.before.before.before.before.before.before) (T s) (B s) s.args.requester)
 
-returns_5 : tie.Need-returns-5
-returns_5 c =
-    let s = asks c.before.before.before in
-    absurd (no_broken (F s) s.pre.1.0 (count s _ c.enum-told2.given.1))
+returns-in-Broken : tie.Need-returns-in-Broken
+returns-in-Broken c =
+    let s = asks c.before.before in
+    absurd (no_broken (F s) s.requires.1.0 (count s _ c.in-Broken.is))
 
 pub ask_spec : {M : Type 1} → statement M
 ask_spec =
     tie.close
     (tie.spec
-    flags_of_requires
-    say_requires
-    same_length
-    returns
-    is_forbidden_requires
-    say_requires_2
-    same_length_2
-    returns_2
-    enum_told
-    ask_single_requires
-    enum_known_crew
-    mul_digits
-    sub_digits
-    sub_digits_2
-    part_digits_start
-    part_digits_end
-    request_crew_requires
-    enum_told_2
-    same_length_3
-    same_length_4
-    same_length_5
-    returns_3
-    same_length_6
-    same_length_7
-    same_length_8
-    returns_4
-    returns_5)
+    flags_of-flags-requires
+    say-requires
+    shape_of-reply-then-flags-ne1
+    returns-then-flags-ne1
+    is_forbidden-requires
+    say-requires-then-is_forbidden
+    shape_of-reply-then-is_forbidden
+    returns-then-is_forbidden
+    enum_told-1
+    ask_single-requires
+    enum_known-crew
+    overflow_mul-digits
+    overflow_sub-digits
+    slice_bounds-digits-count
+    slice_bounds-digits-start
+    slice_bounds-digits-end
+    request_crew-requires
+    enum_told-in-Broken
+    shape_of-table-in-Single
+    shape_of-figures-in-Single
+    shape_of-reply-in-Single
+    returns-in-Single
+    shape_of-table-in-Codes
+    shape_of-figures-in-Codes
+    shape_of-reply-in-Codes
+    returns-in-Codes
+    returns-in-Broken)

@@ -39,146 +39,133 @@ C c = c.args.scheme
 abbrev S : tie.Start → List ℕ
 S c = c.args.string.now
 
-abbrev from1 : tie.After-is-number → tie.Start
+abbrev from1 : tie.After-is_number → tie.Start
 from1 c = c.before.before.before.before.before.before
-
 -- the requester is a number
-number : (c : tie.Else1) → is_number (Q (from1 c.before)).0 ≡ true
-number c = sym c.before.is_number.ensures ∙ not-false _ c.if1.false
+number : (c : tie.Else-not-is_number) → is_number (Q (from1 c.before)).0 ≡ true
+number c = sym c.is_number.ensures ∙ not-false _ c.if-not-is_number.false-raw
 
-is_number_requires : tie.Need-is-number-requires
-is_number_requires c κs = search rules
+is_number-requires : tie.Need-is_number-requires
+is_number-requires c κs = search rules
 
-returns : tie.Need-returns
-returns c =
+returns-then-not-is_number : tie.Need-returns-then-not-is_number
+returns-then-not-is_number c =
     let s = from1 c.before in
-    sym (error_35_requester (T s) (L s) (B s) (Q s) (C s) (S s) s.pre.2 s.pre.1 s.pre.0 (sym c.before.is_number.ensures ∙ not-true _ c.if1.true))
+    sym (error_35_requester (T s) (L s) (B s) (Q s) (C s) (S s) s.requires.2 s.requires.1 s.requires.0 (sym c.is_number.ensures ∙ not-true _ c.if-not-is_number.true-raw))
 
-returns_2 : tie.Need-returns-2
-returns_2 c =
-    let e = c.before in
-    let s = from1 e.before in
-    sym (error_71 (T s) (L s) (B s) (Q s) (C s) (S s) s.pre.2 s.pre.1 s.pre.0 (number e) c.if2.true)
+returns-then-scheme-ne-CODING_SCHEME : tie.Need-returns-then-scheme-ne-CODING_SCHEME
+returns-then-scheme-ne-CODING_SCHEME c =
+    let s = from1 c.before.before in
+    sym (error_71 (T s) (L s) (B s) (Q s) (C s) (S s) s.requires.2 s.requires.1 s.requires.0 (number c.before) c.if-scheme-ne-CODING_SCHEME.true)
 
-returns_3 : tie.Need-returns-3
-returns_3 c =
-    let e = c.before.before in
-    let s = from1 e.before in
-    sym (error_35_empty (T s) (L s) (B s) (Q s) (C s) (S s) s.pre.2 s.pre.1 s.pre.0 (number e) c.before.if2.false c.if3.true)
+returns-then-string-eq0 : tie.Need-returns-then-string-eq0
+returns-then-string-eq0 c =
+    let s = from1 c.before.before.before in
+    sym (error_35_empty (T s) (L s) (B s) (Q s) (C s) (S s) s.requires.2 s.requires.1 s.requires.0 (number c.before.before) c.if-scheme-ne-CODING_SCHEME.false c.if-string-eq0.true)
 
-returns_4 : tie.Need-returns-4
-returns_4 c =
-    let e = c.before.before.before in
-    let s = from1 e.before in
-    sym (error_36_long (T s) (L s) (B s) (Q s) (C s) (S s) s.pre.2 s.pre.1 s.pre.0 (number e) c.before.before.if2.false c.before.if3.false c.if4.true)
+returns-then-string-gt-MOST_STRING_OCTETS : tie.Need-returns-then-string-gt-MOST_STRING_OCTETS
+returns-then-string-gt-MOST_STRING_OCTETS c =
+    let s = from1 c.before.before.before.before in
+    sym (error_36_long (T s) (L s) (B s) (Q s) (C s) (S s) s.requires.2 s.requires.1 s.requires.0 (number c.before.before.before) c.if-scheme-ne-CODING_SCHEME.false c.if-string-eq0.false c.if-string-gt-MOST_STRING_OCTETS.true)
 
-read_request_requires : tie.Need-read-request-requires
-read_request_requires c κs = search rules
+read_request-read-requires : tie.Need-read_request-read-requires
+read_request-read-requires c κs = search rules
 
-enum_known_reading : tie.Need-enum-known-reading
-enum_known_reading c = search rules
+enum_known-reading : tie.Need-enum_known-reading
+enum_known-reading c = search rules
 
-enum_told : tie.Need-enum-told
-enum_told c = search rules
+enum_told-1 : tie.Need-enum_told-1
+enum_told-1 c = search rules
 
 -- the reader's answer, and where the requester was tested
-abbrev tested : tie.After-read-request → tie.Else1
+abbrev tested : tie.After-read_request-read → tie.Else-not-is_number
 tested r = r.before.before.before.before
-
-abbrev asker : tie.After-read-request → tie.Start
+abbrev asker : tie.After-read_request-read → tie.Start
 asker r = from1 (tested r).before
 
-returns_5 : tie.Need-returns-5
-returns_5 c =
-    let r = c.before.before in
-    let l = r.before in
-    let s = asker r in
-    sym (error_36_unread (T s) (L s) (B s) (Q s) (C s) (S s) s.pre.2 s.pre.1 s.pre.0 (number (tested r)) l.before.before.if2.false l.before.if3.false l.if4.false
-    (not_read (S s) _ r.read-request.ensures c.enum_told.given.1))
+returns-in_default : tie.Need-returns-in_default
+returns-in_default c =
+    let s = asker c.before in
+    sym (error_36_unread (T s) (L s) (B s) (Q s) (C s) (S s) s.requires.2 s.requires.1 s.requires.0 (number (tested c.before)) c.if-scheme-ne-CODING_SCHEME.false c.if-string-eq0.false c.if-string-gt-MOST_STRING_OCTETS.false
+    (not_read (S s) _ c.read_request-read.ensures c.in_default.is))
 
-abbrev reader : tie.After-known-told → tie.After-read-request
-reader c = c.before.before.before
+abbrev reader : tie.In-Read → tie.After-read_request-read
+reader c = c.before
+abbrev fields : tie.In-Read → Fields
+fields c = c.in-Read.fields
 
-abbrev fields : tie.After-known-told → Fields
-fields c = c.before.reading.given.0.0
-
-abbrev string : tie.After-known-told → List ℕ
+abbrev string : tie.In-Read → List ℕ
 string c = S (asker (reader c))
 
-add_end : tie.Need-overflow-add-end
-add_end c =
-    let k = c.before.before in
-    let r = reader k in
-    omega (arith, read_short (string k) r.read-request.result r.read-request.ensures (fields k) k.before.reading.given.1)
+overflow_add-end : tie.Need-overflow_add-end
+overflow_add-end c =
+    let r = reader c.before.before in
+    omega (arith, read_short (string c.before.before) r.read_request-read.result r.read_request-read.ensures (fields c.before.before) c.in-Read.is)
 
-sub_additional : tie.Need-overflow-sub-additional
-sub_additional c = search rules
+slice_bounds-additional-count : tie.Need-slice_bounds-additional-count
+slice_bounds-additional-count c = search rules
 
-part_additional_start : tie.Need-slice-bounds-additional-start
-part_additional_start c = search rules
+slice_bounds-additional-start : tie.Need-slice_bounds-additional-start
+slice_bounds-additional-start c = search rules
 
-part_additional_end : tie.Need-slice-bounds-additional-end
-part_additional_end c =
-    let k = c.before.before.before in
-    let r = reader k in
-    read_within (string k) r.read-request.result r.read-request.ensures (fields k) k.before.reading.given.1
+slice_bounds-additional-end : tie.Need-slice_bounds-additional-end
+slice_bounds-additional-end c =
+    let r = reader c.before.before in
+    read_within (string c.before.before) r.read_request-read.result r.read_request-read.ensures (fields c.before.before) c.in-Read.is
 
-ask_requires : tie.Need-ask-requires
-ask_requires c κs =
-    let k = c.before.before.before.before.before.before.before in
-    let r = reader k in
+ask-requires : tie.Need-ask-requires
+ask-requires c κs =
+    let r = reader c.before.before.before.before.before.before in
     let s = asker r in
-    let told = k.before.reading.given.1 in
-    let part = read_part (string k) r.read-request.result r.read-request.ensures (fields k) told in (
-      (s.pre.0, s.pre.1, s.pre.2, number (tested r)),
+    let told = c.in-Read.is in
+    let part = read_part (string c.before.before.before.before.before.before) r.read_request-read.result r.read_request-read.ensures (fields c.before.before.before.before.before.before) told in (
+      (s.requires.0, s.requires.1, s.requires.2, number (tested r)),
       (
-        ap (λ (l : List ℕ). request_sound (with_additional (fields k) l)) part ∙ read_sound (string k) r.read-request.result r.read-request.ensures (fields k) told,
-        read_crew (string k) r.read-request.result r.read-request.ensures (fields k) told ∙ ap count_of (sym part),
+        ap (λ (l : List ℕ). request_sound (with_additional (fields c.before.before.before.before.before.before) l)) part ∙ read_sound (string c.before.before.before.before.before.before) r.read_request-read.result r.read_request-read.ensures (fields c.before.before.before.before.before.before) told,
+        read_crew (string c.before.before.before.before.before.before) r.read_request-read.result r.read_request-read.ensures (fields c.before.before.before.before.before.before) told ∙ ap count_of (sym part),
       ),
     )
 
-same_length : tie.Need-same-length
-same_length c = search rules
+shape_of-table : tie.Need-shape_of-table
+shape_of-table c = search rules
 
-same_length_2 : tie.Need-same-length-2
-same_length_2 c = search rules
+shape_of-figures : tie.Need-shape_of-figures
+shape_of-figures c = search rules
 
-same_length_3 : tie.Need-same-length-3
-same_length_3 c = search rules
+shape_of-reply : tie.Need-shape_of-reply
+shape_of-reply c = search rules
 
-returns_6 : tie.Need-returns-6
-returns_6 c =
-    let a = c.before.before.before.before.before.before in
-    let k = a.before.before.before.before.before.before.before.before in
-    let r = reader k in
+returns : tie.Need-returns
+returns c =
+    let r = reader c.before.before.before.before.before.before.before.before.before.before.before.before.before in
     let l = r.before in
     let s = asker r in
-    let told = k.before.reading.given.1 in
-    let reads = was_read (S s) r.read-request.result r.read-request.ensures (fields k) told in
-    let passed = none_refuses (T s) (L s) (B s) (Q s) (C s) (S s) s.pre.2 s.pre.1 s.pre.0 (number (tested r)) l.before.before.if2.left l.before.if3.left l.if4.left _ reads in
-    a.ask.ensures
-    ∙ ap (λ (x : List ℕ). asked_by (T s) (flags_of (L s) (Q s).0) (B s) (Q s) (with_additional (fields k) x)) (read_part (S s) r.read-request.result r.read-request.ensures (fields k) told)
-    ∙ sym (request_asked (T s) (L s) (B s) (Q s) (C s) (S s) _ s.pre.0 passed reads)
+    let told = c.in-Read.is in
+    let reads = was_read (S s) r.read_request-read.result r.read_request-read.ensures (fields c.before.before.before.before.before.before.before.before.before.before.before.before.before) told in
+    let passed = none_refuses (T s) (L s) (B s) (Q s) (C s) (S s) s.requires.2 s.requires.1 s.requires.0 (number (tested r)) l.if-scheme-ne-CODING_SCHEME.left l.if-string-eq0.left l.if-string-gt-MOST_STRING_OCTETS.left _ reads in
+    c.ask.ensures
+    ∙ ap (λ (x : List ℕ). asked_by (T s) (flags_of (L s) (Q s).0) (B s) (Q s) (with_additional (fields c.before.before.before.before.before.before.before.before.before.before.before.before.before) x)) (read_part (S s) r.read_request-read.result r.read_request-read.ensures (fields c.before.before.before.before.before.before.before.before.before.before.before.before.before) told)
+    ∙ sym (request_asked (T s) (L s) (B s) (Q s) (C s) (S s) _ s.requires.0 passed reads)
 
 pub ask_string_spec : {M : Type 1} → statement M
 ask_string_spec =
     tie.close
     (tie.spec
-    is_number_requires
-    returns
-    returns_2
-    returns_3
-    returns_4
-    read_request_requires
-    enum_known_reading
-    enum_told
-    returns_5
-    add_end
-    sub_additional
-    part_additional_start
-    part_additional_end
-    ask_requires
-    same_length
-    same_length_2
-    same_length_3
-    returns_6)
+    is_number-requires
+    returns-then-not-is_number
+    returns-then-scheme-ne-CODING_SCHEME
+    returns-then-string-eq0
+    returns-then-string-gt-MOST_STRING_OCTETS
+    read_request-read-requires
+    enum_known-reading
+    enum_told-1
+    returns-in_default
+    overflow_add-end
+    slice_bounds-additional-count
+    slice_bounds-additional-start
+    slice_bounds-additional-end
+    ask-requires
+    shape_of-table
+    shape_of-figures
+    shape_of-reply
+    returns)

@@ -32,82 +32,76 @@ abbrev S : tie.Start → List ℕ
 S c = c.args.string.now
 
 -- from one passed check to the one before it
-abbrev from1 : tie.Else1 → tie.Start
+abbrev from1 : tie.Else-reply-lt-BUFFER_ROOM → tie.Start
 from1 c = c.before.before.before.before.before.before
-
-abbrev up2 : tie.Else2 → tie.Else1
+abbrev up2 : tie.Else-not-list_sound → tie.Else-reply-lt-BUFFER_ROOM
 up2 c = c.before.before
-
-abbrev up3 : tie.Else3 → tie.Else2
-up3 c = c.before.before.before.before
-
+abbrev up3 : tie.Else-refused-ne0 → tie.Else-not-list_sound
+up3 c = c.before.before
 -- what a passed check says
-room : (c : tie.Else1) → buffer_room ≤ length (B (from1 c))
-room c = c.if1.false
+room : (c : tie.Else-reply-lt-BUFFER_ROOM) → buffer_room ≤ length (B (from1 c))
+room c = c.if-reply-lt-BUFFER_ROOM.false
 
-sound_list : (c : tie.Else2) → list_sound (L (from1 (up2 c))) ≡ true
-sound_list c = sym c.before.list-sound.ensures ∙ not-false _ c.if2.false
+sound_list : (c : tie.Else-not-list_sound) → list_sound (L (from1 (up2 c))) ≡ true
+sound_list c = sym c.list_sound.ensures ∙ not-false _ c.if-not-list_sound.false-raw
 
-sound_state : (c : tie.Else3) → state_sound (T (from1 (up2 (up3 c)))) ≡ true
-sound_state c = state_passes _ _ c.before.refusal.ensures c.if3.false
+sound_state : (c : tie.Else-refused-ne0) → state_sound (T (from1 (up2 (up3 c)))) ≡ true
+sound_state c = state_passes _ _ c.refusal-refused.ensures c.if-refused-ne0.false
+
+returns-then-reply-lt-BUFFER_ROOM : tie.Need-returns-then-reply-lt-BUFFER_ROOM
+returns-then-reply-lt-BUFFER_ROOM c = sym (refused_1 (T c.before.before.before.before.before.before) (L c.before.before.before.before.before.before) (B c.before.before.before.before.before.before) (Q c.before.before.before.before.before.before) _ (S c.before.before.before.before.before.before) c.if-reply-lt-BUFFER_ROOM.true)
+
+list_sound-requires : tie.Need-list_sound-requires
+list_sound-requires c κs = search rules
+
+returns-then-not-list_sound : tie.Need-returns-then-not-list_sound
+returns-then-not-list_sound c =
+    let s = from1 c.before.before in
+    sym (refused_8 (T s) (L s) (B s) (Q s) _ (S s) (room c.before.before) (sym c.list_sound.ensures ∙ not-true _ c.if-not-list_sound.true-raw))
+
+refusal-refused-requires : tie.Need-refusal-refused-requires
+refusal-refused-requires c κs = search rules
+
+shape_of-table-then-refused-ne0 : tie.Need-shape_of-table-then-refused-ne0
+shape_of-table-then-refused-ne0 c = search rules
+
+shape_of-figures-then-refused-ne0 : tie.Need-shape_of-figures-then-refused-ne0
+shape_of-figures-then-refused-ne0 c = search rules
+
+returns-then-refused-ne0 : tie.Need-returns-then-refused-ne0
+returns-then-refused-ne0 c =
+    let s = from1 (up2 c.before.before) in
+    refused_state (T s) (L s) (B s) (Q s) _ (S s) (room (up2 c.before.before)) (sound_list c.before.before) _ c.refusal-refused.ensures c.if-refused-ne0.true
+
+ask_string-requires : tie.Need-ask_string-requires
+ask_string-requires c κs =
+    (sound_state c.before.before.before, sound_list (up3 c.before.before.before), room (up2 (up3 c.before.before.before)))
+
+shape_of-table : tie.Need-shape_of-table
+shape_of-table c = search rules
+
+shape_of-figures : tie.Need-shape_of-figures
+shape_of-figures c = search rules
+
+shape_of-reply : tie.Need-shape_of-reply
+shape_of-reply c = search rules
 
 returns : tie.Need-returns
-returns c = let s = c.before.before.before.before.before.before in sym (refused_1 (T s) (L s) (B s) (Q s) _ (S s) c.if1.true)
-
-list_sound_requires : tie.Need-list-sound-requires
-list_sound_requires c κs = search rules
-
-returns_2 : tie.Need-returns-2
-returns_2 c =
-    let e = c.before.before in
-    let s = from1 e in
-    sym (refused_8 (T s) (L s) (B s) (Q s) _ (S s) (room e) (sym c.before.list-sound.ensures ∙ not-true _ c.if2.true))
-
-refusal_requires : tie.Need-refusal-requires
-refusal_requires c κs = search rules
-
-same_length : tie.Need-same-length
-same_length c = search rules
-
-same_length_2 : tie.Need-same-length-2
-same_length_2 c = search rules
-
-returns_3 : tie.Need-returns-3
-returns_3 c =
-    let e = c.before.before.before.before in
-    let s = from1 (up2 e) in
-    refused_state (T s) (L s) (B s) (Q s) _ (S s) (room (up2 e)) (sound_list e) _ c.before.refusal.ensures c.if3.true
-
-ask_string_requires : tie.Need-ask-string-requires
-ask_string_requires c κs =
-    let e = c.before.before.before in
-    (sound_state e, sound_list (up3 e), room (up2 (up3 e)))
-
-same_length_3 : tie.Need-same-length-3
-same_length_3 c = search rules
-
-same_length_4 : tie.Need-same-length-4
-same_length_4 c = search rules
-
-same_length_5 : tie.Need-same-length-5
-same_length_5 c = search rules
-
-returns_4 : tie.Need-returns-4
-returns_4 c = search rules
+returns c = search rules
 
 pub request_spec : {M : Type 1} → statement M
 request_spec =
     tie.close
     (tie.spec
-    returns
-    list_sound_requires
-    returns_2
-    refusal_requires
-    same_length
-    same_length_2
-    returns_3
-    ask_string_requires
-    same_length_3
-    same_length_4
-    same_length_5
-    returns_4)
+    returns-then-reply-lt-BUFFER_ROOM
+    list_sound-requires
+    returns-then-not-list_sound
+    refusal-refused-requires
+    shape_of-table-then-refused-ne0
+    shape_of-figures-then-refused-ne0
+    returns-then-refused-ne0
+    ask_string-requires
+    shape_of-table
+    shape_of-figures
+    shape_of-reply
+    returns)

@@ -14,106 +14,98 @@ use Rattle.node.proofs.result.Tie as tie
 abbrev T : tie.Start → State
 T c = beside c.args.table.now c.args.figures.now
 
-abbrev from1 : tie.Else1 → tie.Start
-from1 c = c.before.before.before.before.before.before
-
-sound : (c : tie.Else1) → state_sound (T (from1 c)) ≡ true
-sound c = state_passes _ _ c.before.refusal.ensures c.if1.false
+abbrev from1 : tie.Else-refused-ne0 → tie.Start
+from1 c = c.before.before.before.before
+sound : (c : tie.Else-refused-ne0) → state_sound (T (from1 c)) ≡ true
+sound c = state_passes _ _ c.refusal-refused.ensures c.if-refused-ne0.false
 
 -- where the row was found
-abbrev up : tie.After-known-told → tie.Else1
-up c = c.before.before.before.before.before.before.before
+abbrev up : tie.In-At → tie.Else-refused-ne0
+up c = c.before.before.before.before
+place : (c : tie.In-At) → row_for (T (from1 (up c))) (from1 (up c)).args.number.0 ≡ At c.in-At.row
+place c = sym c.row_of-found.ensures ∙ c.in-At.is
 
-place : (c : tie.After-known-told) → row_for (T (from1 (up c))) (from1 (up c)).args.number.0 ≡ At c.before.found.given.0.0
-place c = sym c.before.before.before.row_of.ensures ∙ c.before.found.given.1
+refusal-refused-requires : tie.Need-refusal-refused-requires
+refusal-refused-requires c κs = search rules
 
-refusal_requires : tie.Need-refusal-requires
-refusal_requires c κs = search rules
+shape_of-table-then-refused-ne0 : tie.Need-shape_of-table-then-refused-ne0
+shape_of-table-then-refused-ne0 c = search rules
 
-same_length : tie.Need-same-length
-same_length c = search rules
+shape_of-figures-then-refused-ne0 : tie.Need-shape_of-figures-then-refused-ne0
+shape_of-figures-then-refused-ne0 c = search rules
 
-same_length_2 : tie.Need-same-length-2
-same_length_2 c = search rules
+returns-then-refused-ne0 : tie.Need-returns-then-refused-ne0
+returns-then-refused-ne0 c = result_state (T c.before.before.before.before) c.args.number _ _ _ c.refusal-refused.ensures c.if-refused-ne0.true
+
+is_number-requires : tie.Need-is_number-requires
+is_number-requires c κs = search rules
+
+shape_of-table-then-not-is_number : tie.Need-shape_of-table-then-not-is_number
+shape_of-table-then-not-is_number c = search rules
+
+shape_of-figures-then-not-is_number : tie.Need-shape_of-figures-then-not-is_number
+shape_of-figures-then-not-is_number c = search rules
+
+returns-then-not-is_number : tie.Need-returns-then-not-is_number
+returns-then-not-is_number c =
+    let s = from1 c.before.before in
+    sym (result_7 (T s) s.args.number _ _ (sound c.before.before) (sym c.is_number.ensures ∙ not-true _ c.if-not-is_number.true-raw))
+
+row_of-found-requires : tie.Need-row_of-found-requires
+row_of-found-requires c κs = state_table _ (sound c.before.before)
+
+enum_known-found : tie.Need-enum_known-found
+enum_known-found c = search rules
+
+enum_told-1 : tie.Need-enum_told-1
+enum_told-1 c = search rules
+
+shape_of-table-in_default : tie.Need-shape_of-table-in_default
+shape_of-table-in_default c = search rules
+
+shape_of-figures-in_default : tie.Need-shape_of-figures-in_default
+shape_of-figures-in_default c = search rules
+
+returns-in_default : tie.Need-returns-in_default
+returns-in_default c =
+    let s = from1 c.before.before.before.before in
+    sym (result_misses (T s) s.args.number _ _ (sound c.before.before.before.before) (sym c.row_of-found.ensures ∙ c.in_default.is))
+
+result_at-requires : tie.Need-result_at-requires
+result_at-requires c κs =
+    let s = from1 (up c.before.before) in
+    (sound (up c.before.before), (row_found (T s).table s.args.number.0 _ (place c.before.before)).0)
+
+shape_of-table : tie.Need-shape_of-table
+shape_of-table c = search rules
+
+shape_of-figures : tie.Need-shape_of-figures
+shape_of-figures c = search rules
 
 returns : tie.Need-returns
-returns c = let s = c.before.before.before.before.before.before in result_state (T s) s.args.number _ _ _ c.before.refusal.ensures c.if1.true
-
-is_number_requires : tie.Need-is-number-requires
-is_number_requires c κs = search rules
-
-same_length_3 : tie.Need-same-length-3
-same_length_3 c = search rules
-
-same_length_4 : tie.Need-same-length-4
-same_length_4 c = search rules
-
-returns_2 : tie.Need-returns-2
-returns_2 c =
-    let e = c.before.before in
-    let s = from1 e in
-    sym (result_7 (T s) s.args.number _ _ (sound e) (sym c.before.is_number.ensures ∙ not-true _ c.if2.true))
-
-row_of_requires : tie.Need-row-of-requires
-row_of_requires c κs = state_table _ (sound c.before.before.before)
-
-enum_known_found : tie.Need-enum-known-found
-enum_known_found c = search rules
-
-enum_told : tie.Need-enum-told
-enum_told c = search rules
-
-same_length_5 : tie.Need-same-length-5
-same_length_5 c = search rules
-
-same_length_6 : tie.Need-same-length-6
-same_length_6 c = search rules
-
-returns_3 : tie.Need-returns-3
-returns_3 c =
-    let r = c.before.before in
-    let e = r.before.before.before.before in
-    let s = from1 e in
-    sym (result_misses (T s) s.args.number _ _ (sound e) (sym r.row_of.ensures ∙ c.enum_told.given.1))
-
-result_at_requires : tie.Need-result-at-requires
-result_at_requires c κs =
-    let k = c.before.before in
-    let s = from1 (up k) in
-    (sound (up k), (row_found (T s).table s.args.number.0 _ (place k)).0)
-
-same_length_7 : tie.Need-same-length-7
-same_length_7 c = search rules
-
-same_length_8 : tie.Need-same-length-8
-same_length_8 c = search rules
-
-returns_4 : tie.Need-returns-4
-returns_4 c =
-    let a = c.before.before.before.before in
-    let k = a.before.before.before in
-    let s = from1 (up k) in
-    a.result_at.ensures ∙ sym (result_visits (T s) s.args.number _ _ (sound (up k)) _ (place k))
+returns c =
+    let s = from1 (up c.before.before.before.before.before.before.before) in
+    c.result_at.ensures ∙ sym (result_visits (T s) s.args.number _ _ (sound (up c.before.before.before.before.before.before.before)) _ (place c.before.before.before.before.before.before.before))
 
 pub result_spec : {M : Type 1} → statement M
 result_spec =
     tie.close
     (tie.spec
-    refusal_requires
-    same_length
-    same_length_2
-    returns
-    is_number_requires
-    same_length_3
-    same_length_4
-    returns_2
-    row_of_requires
-    enum_known_found
-    enum_told
-    same_length_5
-    same_length_6
-    returns_3
-    result_at_requires
-    same_length_7
-    same_length_8
-    returns_4)
+    refusal-refused-requires
+    shape_of-table-then-refused-ne0
+    shape_of-figures-then-refused-ne0
+    returns-then-refused-ne0
+    is_number-requires
+    shape_of-table-then-not-is_number
+    shape_of-figures-then-not-is_number
+    returns-then-not-is_number
+    row_of-found-requires
+    enum_known-found
+    enum_told-1
+    shape_of-table-in_default
+    shape_of-figures-in_default
+    returns-in_default
+    result_at-requires
+    shape_of-table
+    shape_of-figures
+    returns)

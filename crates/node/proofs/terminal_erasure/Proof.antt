@@ -23,106 +23,97 @@ T c = beside c.args.table.now c.args.figures.now
 abbrev B : tie.Start → List ℕ
 B c = c.args.reply.now
 
-abbrev from1 : tie.Else1 → tie.Start
+abbrev from1 : tie.Else-reply-lt-BUFFER_ROOM → tie.Start
 from1 c = c.before.before.before.before
-
-abbrev up2 : tie.Else2 → tie.Else1
-up2 c = c.before.before.before.before
-
-abbrev tested : tie.After-is-number2 → tie.Start
+abbrev up2 : tie.Else-refused-ne0 → tie.Else-reply-lt-BUFFER_ROOM
+up2 c = c.before.before
+abbrev tested : tie.After-is_number-2 → tie.Start
 tested c = from1 (up2 c.before.before)
 
 -- what a passed check says
-room : (c : tie.Else1) → buffer_room ≤ length (B (from1 c))
-room c = c.if1.false
+room : (c : tie.Else-reply-lt-BUFFER_ROOM) → buffer_room ≤ length (B (from1 c))
+room c = c.if-reply-lt-BUFFER_ROOM.false
 
-sound : (c : tie.Else2) → state_sound (T (from1 (up2 c))) ≡ true
-sound c = state_passes _ _ c.before.refusal.ensures c.if2.false
+sound : (c : tie.Else-refused-ne0) → state_sound (T (from1 (up2 c))) ≡ true
+sound c = state_passes _ _ c.refusal-refused.ensures c.if-refused-ne0.false
 
 -- what the two tests say together
-said : (c : tie.After-is-number2) → both_numbers (tested c).args.number (tested c).args.holder ≡ (c.before.is_number.result && c.is-number2.result)
-said c = rw (c.before.is_number.ensures, c.is-number2.ensures)
+said : (c : tie.After-is_number-2) → both_numbers (tested c).args.number (tested c).args.holder ≡ (c.is_number.result && c.is_number-2.result)
+said c = rw (c.is_number.ensures, c.is_number-2.ensures)
 
-returns : tie.Need-returns
-returns c = let s = c.before.before.before.before in sym (terminal_1 (T s) (B s) s.args.number s.args.holder c.if1.true)
+returns-then-reply-lt-BUFFER_ROOM : tie.Need-returns-then-reply-lt-BUFFER_ROOM
+returns-then-reply-lt-BUFFER_ROOM c = sym (terminal_1 (T c.before.before.before.before) (B c.before.before.before.before) c.args.number c.args.holder c.if-reply-lt-BUFFER_ROOM.true)
 
-refusal_requires : tie.Need-refusal-requires
-refusal_requires c κs = search rules
+refusal-refused-requires : tie.Need-refusal-refused-requires
+refusal-refused-requires c κs = search rules
 
-same_length : tie.Need-same-length
-same_length c = search rules
+shape_of-table-then-refused-ne0 : tie.Need-shape_of-table-then-refused-ne0
+shape_of-table-then-refused-ne0 c = search rules
 
-same_length_2 : tie.Need-same-length-2
-same_length_2 c = search rules
+shape_of-figures-then-refused-ne0 : tie.Need-shape_of-figures-then-refused-ne0
+shape_of-figures-then-refused-ne0 c = search rules
 
-returns_2 : tie.Need-returns-2
-returns_2 c =
-    let e = c.before.before.before.before in
-    let s = from1 e in
-    terminal_state (T s) (B s) s.args.number s.args.holder (room e) _ c.before.refusal.ensures c.if2.true
+returns-then-refused-ne0 : tie.Need-returns-then-refused-ne0
+returns-then-refused-ne0 c =
+    let s = from1 c.before.before in
+    terminal_state (T s) (B s) s.args.number s.args.holder (room c.before.before) _ c.refusal-refused.ensures c.if-refused-ne0.true
 
-is_number_requires : tie.Need-is-number-requires
-is_number_requires c κs = search rules
+is_number-requires : tie.Need-is_number-requires
+is_number-requires c κs = search rules
 
-is_number_requires_2 : tie.Need-is-number-requires-2
-is_number_requires_2 c κs = search rules
+is_number-requires-2 : tie.Need-is_number-requires-2
+is_number-requires-2 c κs = search rules
 
-same_length_3 : tie.Need-same-length-3
-same_length_3 c = search rules
+shape_of-table-then-not-is_number : tie.Need-shape_of-table-then-not-is_number
+shape_of-table-then-not-is_number c = search rules
 
-same_length_4 : tie.Need-same-length-4
-same_length_4 c = search rules
+shape_of-figures-then-not-is_number : tie.Need-shape_of-figures-then-not-is_number
+shape_of-figures-then-not-is_number c = search rules
 
-returns_3 : tie.Need-returns-3
-returns_3 c =
-    let e = c.before.before.before in
+returns-then-not-is_number : tie.Need-returns-then-not-is_number
+returns-then-not-is_number c =
     let s = tested c.before in
-    sym (terminal_7 (T s) (B s) s.args.number s.args.holder (room (up2 e)) (sound e) (said c.before ∙ not-true _ c.if3.true))
+    sym (terminal_7 (T s) (B s) s.args.number s.args.holder (room (up2 c.before.before.before)) (sound c.before.before.before) (said c.before ∙ not-true _ c.if-not-is_number.true-raw))
 
 -- both are numbers
-numbers : (c : tie.Else3) → both_numbers (tested c.before).args.number (tested c.before).args.holder ≡ true
-numbers c = said c.before ∙ not-false _ c.if3.false
+numbers : (c : tie.Else-not-is_number) → both_numbers (tested c.before).args.number (tested c.before).args.holder ≡ true
+numbers c = said c.before ∙ not-false _ c.if-not-is_number.false-raw
 
-ask_single_requires : tie.Need-ask-single-requires
-ask_single_requires c κs =
-    let k = c.before.before.before in
-    let e = k.before.before.before in
-    let a = (tested k.before).args in
-    (sound e, room (up2 e), and_right (is_number a.number.0) (is_number a.holder.0) (numbers k))
+ask_single-requires : tie.Need-ask_single-requires
+ask_single-requires c κs =
+    let a = (tested c.before.before.before.before).args in
+    (sound c.before.before.before.before.before.before, room (up2 c.before.before.before.before.before.before), and_right (is_number a.number.0) (is_number a.holder.0) (numbers c.before.before.before))
 
-same_length_5 : tie.Need-same-length-5
-same_length_5 c = search rules
+shape_of-table : tie.Need-shape_of-table
+shape_of-table c = search rules
 
-same_length_6 : tie.Need-same-length-6
-same_length_6 c = search rules
+shape_of-figures : tie.Need-shape_of-figures
+shape_of-figures c = search rules
 
-same_length_7 : tie.Need-same-length-7
-same_length_7 c = search rules
+shape_of-reply : tie.Need-shape_of-reply
+shape_of-reply c = search rules
 
-returns_4 : tie.Need-returns-4
-returns_4 c =
-    let a = c.before.before.before.before.before.before in
-    let k = a.before.before.before.before in
-    let e = k.before.before.before in
-    let s = tested k.before in
-    a.ask-single.ensures ∙ sym (terminal_asks (T s) (B s) s.args.number s.args.holder (room (up2 e)) (sound e) (numbers k))
+returns : tie.Need-returns
+returns c =
+    let s = tested c.before.before.before.before.before.before.before.before.before.before.before in
+    c.ask_single.ensures ∙ sym (terminal_asks (T s) (B s) s.args.number s.args.holder (room (up2 c.before.before.before.before.before.before.before.before.before.before.before.before.before)) (sound c.before.before.before.before.before.before.before.before.before.before.before.before.before) (numbers c.before.before.before.before.before.before.before.before.before.before))
 
 pub terminal_erasure_spec : {M : Type 1} → statement M
 terminal_erasure_spec =
     tie.close
     (tie.spec
-    returns
-    refusal_requires
-    same_length
-    same_length_2
-    returns_2
-    is_number_requires
-    is_number_requires_2
-    same_length_3
-    same_length_4
-    returns_3
-    ask_single_requires
-    same_length_5
-    same_length_6
-    same_length_7
-    returns_4)
+    returns-then-reply-lt-BUFFER_ROOM
+    refusal-refused-requires
+    shape_of-table-then-refused-ne0
+    shape_of-figures-then-refused-ne0
+    returns-then-refused-ne0
+    is_number-requires
+    is_number-requires-2
+    shape_of-table-then-not-is_number
+    shape_of-figures-then-not-is_number
+    returns-then-not-is_number
+    ask_single-requires
+    shape_of-table
+    shape_of-figures
+    shape_of-reply
+    returns)

@@ -3,16 +3,15 @@ use Rattle.numbers.proofs.Least.{starts_for, least_tells}
 use Rattle.numbers.proofs.is_number.Statement.{statement}
 use Rattle.numbers.proofs.is_number.Tie as tie
 
-least_for_requires : tie.Need-least-for-requires
-least_for_requires c κs = search rules
+least_for-requires : tie.Need-least_for-requires
+least_for-requires c κs = search rules
 
-is_from_requires : tie.Need-is-from-requires
-is_from_requires c κs = rw c.least-for.ensures (starts_for _).small
+is_from-requires : tie.Need-is_from-requires
+is_from-requires c κs = rw c.least_for.ensures (starts_for _).small
 
 returns : tie.Need-returns
 returns c =
-    let a = c.before.before in
-    c.is-from.ensures ∙ rw c.before.least-for.ensures (least_tells a.args.word)
+    c.is_from.ensures ∙ rw c.least_for.ensures (least_tells c.args.word)
 
 pub is_number_spec : {M : Type 1} → statement M
-is_number_spec = tie.close (tie.spec least_for_requires is_from_requires returns)
+is_number_spec = tie.close (tie.spec least_for-requires is_from-requires returns)

@@ -5,34 +5,39 @@ use Rattle.numbers.proofs.Reading.{too_few, too_many, reads}
 use Rattle.numbers.proofs.read_number.Statement.{statement}
 use Rattle.numbers.proofs.read_number.Tie as tie
 
-leading_digits_requires : tie.Need-leading-digits-requires
-leading_digits_requires c κs = search rules
+leading_digits-n-requires : tie.Need-leading_digits-n-requires
+leading_digits-n-requires c κs = search rules
 
-returns : tie.Need-returns
-returns c = sym (too_few _ c.before.leading-digits.result c.before.leading-digits.ensures (omega arith))
+returns-then-n-lt-FEWEST_DIGITS : tie.Need-returns-then-n-lt-FEWEST_DIGITS
+returns-then-n-lt-FEWEST_DIGITS c = sym (too_few _ c.leading_digits-n.result c.leading_digits-n.ensures (omega arith))
 
-returns_2 : tie.Need-returns-2
-returns_2 c = let d = c.before.before.leading-digits in sym (too_many _ d.result d.ensures (omega arith))
+returns-then-n-gt-MOST_DIGITS : tie.Need-returns-then-n-gt-MOST_DIGITS
+returns-then-n-gt-MOST_DIGITS c = let d = c.leading_digits-n in sym (too_many _ d.result d.ensures (omega arith))
 
 -- what was counted stands at the front
-counted : (c : tie.After-leading-digits) → Front is_digit c.leading-digits.result c.before.before.args.part.now
-counted c = rw c.leading-digits.ensures (leading_front is_digit c.before.before.args.part.now)
+counted : (c : tie.After-leading_digits-n) → Front is_digit c.leading_digits-n.result c.args.part.now
+counted c = rw c.leading_digits-n.ensures (leading_front is_digit c.args.part.now)
 
-size : (c : tie.After-leading-digits) → length (take c.leading-digits.result c.before.before.args.part.now) ≡ c.leading-digits.result
-size c = length-take-le c.leading-digits.result c.before.before.args.part.now (counted c).within
+size : (c : tie.After-leading_digits-n) → length (take c.leading_digits-n.result c.args.part.now) ≡ c.leading_digits-n.result
+size c = length-take-le c.leading_digits-n.result c.args.part.now (counted c).within
 
-slice_aggregate_stored_of : tie.Need-slice-aggregate-stored-of
-slice_aggregate_stored_of c = sym (size c.before.before.before)
+slice_bounds-stored_of-end : tie.Need-slice_bounds-stored_of-end
+slice_bounds-stored_of-end c = sym (size c.before.before)
 
-stored_of_requires : tie.Need-stored-of-requires
-stored_of_requires c κs = let d = c.before.before.before in ((counted d).passes, omega (arith, size d))
+stored_of-requires : tie.Need-stored_of-requires
+stored_of-requires c κs = ((counted c.before.before).passes, omega (arith, size c.before.before))
 
-returns_3 : tie.Need-returns-3
-returns_3 c =
-    let d = c.before.before.before.before in
-    let n = d.leading-digits in
-    sym (reads d.before.before.args.part.now c.Stored-of.result n.result n.ensures (omega arith) (omega arith) c.Stored-of.ensures)
+returns : tie.Need-returns
+returns c =
+    let n = c.leading_digits-n in
+    sym (reads c.args.part.now c.stored_of.result n.result n.ensures (omega arith) (omega arith) c.stored_of.ensures)
 
 pub read_number_spec : {M : Type 1} → statement M
 read_number_spec =
-    tie.close (tie.spec leading_digits_requires returns returns_2 slice_aggregate_stored_of stored_of_requires returns_3)
+    tie.close (tie.spec
+    leading_digits-n-requires
+    returns-then-n-lt-FEWEST_DIGITS
+    returns-then-n-gt-MOST_DIGITS
+    slice_bounds-stored_of-end
+    stored_of-requires
+    returns)

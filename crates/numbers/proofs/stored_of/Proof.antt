@@ -5,69 +5,67 @@ use Rattle.numbers.proofs.Reading.{Turn, turn, stored_fits}
 use Rattle.numbers.proofs.stored_of.Statement.{statement}
 use Rattle.numbers.proofs.stored_of.Tie as tie
 
-abbrev invariant_loop : tie.invariant_loop
-invariant_loop digits word₀ i₀ word i = (i ≤ length digits) × (are_digits (drop i digits) ≡ true) × (pushed word (drop i digits) ≡ stored_form digits)
+abbrev invariant-loop-i : tie.invariant-loop-i
+invariant-loop-i digits word₀ i₀ word i = (i ≤ length digits) × (are_digits (drop i digits) ≡ true) × (pushed word (drop i digits) ≡ stored_form digits)
 
-abbrev decreases_loop : tie.decreases_loop
-decreases_loop digits word₀ i₀ word i = length digits - i
+abbrev decreases-loop-i : tie.decreases-loop-i
+decreases-loop-i digits word₀ i₀ word i = length digits - i
 
-loop_holds : tie.Need-loop-init invariant_loop decreases_loop
+loop-i-init : tie.Need-loop-i-init invariant-loop-i decreases-loop-i
 unfolding stored_form
-loop_holds c = (zero-le, c.requires.0, refl)
+loop-i-init c = (zero-le, c.requires.0, refl)
 
 turned :
-    (c : tie.In-loop invariant_loop decreases_loop)
-    → Turn c.before.before.args.digits.now c.before.loop.i c.before.loop.word (stored_form c.before.before.args.digits.now)
+    (c : tie.In-loop-i invariant-loop-i decreases-loop-i)
+    → Turn c.args.digits.now c.loop-i.i c.loop-i.word (stored_form c.args.digits.now)
 turned c =
-    let h = c.before in
-    turn h.before.args.digits.now h.loop.i h.loop.word _ c.loop-test.true h.loop.invariant.1 h.loop.invariant.2
+    turn c.args.digits.now c.loop-i.i c.loop-i.word _ c.loop-i-test.true c.loop-i.invariant.1 c.loop-i.invariant.2
 
-fits : (c : tie.In-loop invariant_loop decreases_loop) → let h = c.before in 10 * h.loop.word + (get_or h.before.args.digits.now h.loop.i 0 - 48) < 2 * 10 ^ most_digits
-fits c = let h = c.before in stored_fits h.before.args.digits.now _ _ h.before.requires.0 h.before.requires.1 (turned c).same
+fits : (c : tie.In-loop-i invariant-loop-i decreases-loop-i) → 10 * c.loop-i.word + (get_or c.args.digits.now c.loop-i.i 0 - 48) < 2 * 10 ^ most_digits
+fits c = stored_fits c.args.digits.now _ _ c.requires.0 c.requires.1 (turned c).same
 
-mul_word : tie.Need-overflow-mul-word invariant_loop decreases_loop
-mul_word c = omega (arith, fits c)
+overflow_mul-word : tie.Need-overflow_mul-word invariant-loop-i decreases-loop-i
+overflow_mul-word c = omega (arith, fits c)
 
-shared_slice_read_word : tie.Need-shared-slice-read-word invariant_loop decreases_loop
-shared_slice_read_word c = search rules
+bounds-digits-i : tie.Need-bounds-digits-i invariant-loop-i decreases-loop-i
+bounds-digits-i c = search rules
 
-sub_word : tie.Need-overflow-sub-word invariant_loop decreases_loop
-sub_word c = (turned c.before).low
+overflow_sub-word : tie.Need-overflow_sub-word invariant-loop-i decreases-loop-i
+overflow_sub-word c = (turned c.before).low
 
-cast_word : tie.Need-overflow-cast-word invariant_loop decreases_loop
-cast_word c = omega (arith, turned c.before)
+overflow_cast-word : tie.Need-overflow_cast-word invariant-loop-i decreases-loop-i
+overflow_cast-word c = omega (arith, turned c.before)
 
-add_word : tie.Need-overflow-add-word invariant_loop decreases_loop
-add_word c = omega (arith, turned c.before, fits c.before)
+overflow_add-word : tie.Need-overflow_add-word invariant-loop-i decreases-loop-i
+overflow_add-word c = omega (arith, turned c.before, fits c.before)
 
-add_i : tie.Need-overflow-add-i invariant_loop decreases_loop
-add_i c = search rules
+overflow_add-i : tie.Need-overflow_add-i invariant-loop-i decreases-loop-i
+overflow_add-i c = search rules
 
-loop_less : tie.Need-loop-smaller invariant_loop decreases_loop
-loop_less c = search rules
+loop-i-smaller : tie.Need-loop-i-smaller invariant-loop-i decreases-loop-i
+loop-i-smaller c = search rules
 
-loop_again : tie.Need-loop-preserved invariant_loop decreases_loop
-loop_again c = let t = turned c.before in (omega arith, t.digits, t.same)
+loop-i-preserved : tie.Need-loop-i-preserved invariant-loop-i decreases-loop-i
+loop-i-preserved c = let t = turned c.before in (omega arith, t.digits, t.same)
 
-returns : tie.Need-returns invariant_loop decreases_loop
+returns : tie.Need-returns invariant-loop-i decreases-loop-i
 unfolding pushed
 returns c =
-    let h = c.before in
-    rw (drop_of_length-le h.before.args.digits.now c.loop-test.false) at h.loop.invariant.2
+    rw (drop_of_length-le c.args.digits.now c.loop-i-test.false) at c.loop-i.invariant.2
 
 pub stored_of_spec : {M : Type 1} → statement M
 stored_of_spec =
     tie.close
     (tie.spec
-    invariant_loop
-    decreases_loop
-    loop_holds
-    mul_word
-    shared_slice_read_word
-    sub_word
-    cast_word
-    add_word
-    add_i
-    loop_less
-    loop_again
+    invariant-loop-i
+    decreases-loop-i
+    loop-i-init
+    overflow_mul-word
+    bounds-digits-i
+    overflow_sub-word
+    overflow_cast-word
+    overflow_add-word
+    overflow_add-i
+    loop-i-smaller
+    loop-i-preserved
     returns)

@@ -6,16 +6,16 @@ use Rattle.packing.specs.Packing.{value_of}
 use Rattle.packing.proofs.filler.Statement.{statement}
 use Rattle.packing.proofs.filler.Tie as tie
 
-cast_result : tie.Need-overflow-cast-result
-cast_result c = search rules
+overflow_cast-result : tie.Need-overflow_cast-result
+overflow_cast-result c = search rules
+
+returns-then-count-eq7 : tie.Need-returns-then-count-eq7
+unfolding value_of
+returns-then-count-eq7 c = (rw (eq-eqb c.args.count 7 c.if-count-eq7.true), omega arith)
 
 returns : tie.Need-returns
 unfolding value_of
-returns c = (rw (eq-eqb c.before.args.count 7 c.if1.true), omega arith)
-
-returns_2 : tie.Need-returns-2
-unfolding value_of
-returns_2 c = (rw (ne_eqb c.before.args.count 7 c.if1.false), omega arith)
+returns c = (rw (ne_eqb c.args.count 7 c.if-count-eq7.false), omega arith)
 
 pub filler_spec : {M : Type 1} → statement M
-filler_spec = tie.close (tie.spec cast_result returns returns_2)
+filler_spec = tie.close (tie.spec overflow_cast-result returns-then-count-eq7 returns)

@@ -9,23 +9,23 @@ use Rattle.packing.proofs.Squeezing.{fours_spread, twos_spread, widen}
 use Rattle.packing.proofs.spread.Statement.{statement}
 use Rattle.packing.proofs.spread.Tie as tie
 
-mul_fours : tie.Need-overflow-mul-fours
-mul_fours c = omega (arith, and_le_r (c.args.held / 2 ^ 28) 0x0fffffff)
+overflow_mul-fours : tie.Need-overflow_mul-fours
+overflow_mul-fours c = omega (arith, and_le_r (c.args.held / 2 ^ 28) 0x0fffffff)
 
-add_fours : tie.Need-overflow-add-fours
-add_fours c = omega (arith, and_le_r (c.args.held / 2 ^ 28) 0x0fffffff)
+overflow_add-fours : tie.Need-overflow_add-fours
+overflow_add-fours c = omega (arith, and_le_r (c.args.held / 2 ^ 28) 0x0fffffff)
 
-mul_twos : tie.Need-overflow-mul-twos
-mul_twos c = omega (arith, and_le_r (fours_spread c.args.held / 2 ^ 14) 0x00003fff00003fff)
+overflow_mul-twos : tie.Need-overflow_mul-twos
+overflow_mul-twos c = omega (arith, and_le_r (fours_spread c.args.held / 2 ^ 14) 0x00003fff00003fff)
 
-add_twos : tie.Need-overflow-add-twos
-add_twos c = omega (arith, and_le_r (c.args.held / 2 ^ 28) 0x0fffffff, and_le_r (fours_spread c.args.held / 2 ^ 14) 0x00003fff00003fff)
+overflow_add-twos : tie.Need-overflow_add-twos
+overflow_add-twos c = omega (arith, and_le_r (c.args.held / 2 ^ 28) 0x0fffffff, and_le_r (fours_spread c.args.held / 2 ^ 14) 0x00003fff00003fff)
 
-mul_result : tie.Need-overflow-mul-result
-mul_result c = omega (arith, and_le_r (twos_spread c.args.held / 128) 0x007f007f007f007f)
+overflow_mul-result : tie.Need-overflow_mul-result
+overflow_mul-result c = omega (arith, and_le_r (twos_spread c.args.held / 128) 0x007f007f007f007f)
 
-add_result : tie.Need-overflow-add-result
-add_result c = omega (arith, and_le_r (c.args.held / 2 ^ 28) 0x0fffffff, and_le_r (fours_spread c.args.held / 2 ^ 14) 0x00003fff00003fff, and_le_r (twos_spread c.args.held / 128) 0x007f007f007f007f)
+overflow_add-result : tie.Need-overflow_add-result
+overflow_add-result c = omega (arith, and_le_r (c.args.held / 2 ^ 28) 0x0fffffff, and_le_r (fours_spread c.args.held / 2 ^ 14) 0x00003fff00003fff, and_le_r (twos_spread c.args.held / 128) 0x007f007f007f007f)
 
 returns : tie.Need-returns
 returns c =
@@ -34,4 +34,11 @@ returns c =
 
 pub spread_spec : {M : Type 1} → statement M
 spread_spec =
-    tie.close (tie.spec mul_fours add_fours mul_twos add_twos mul_result add_result returns)
+    tie.close (tie.spec
+    overflow_mul-fours
+    overflow_add-fours
+    overflow_mul-twos
+    overflow_add-twos
+    overflow_mul-result
+    overflow_add-result
+    returns)

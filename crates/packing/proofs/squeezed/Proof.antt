@@ -10,23 +10,23 @@ use Rattle.packing.proofs.Squeezing.{twos_squeezed, fours_squeezed, narrow}
 use Rattle.packing.proofs.squeezed.Statement.{statement}
 use Rattle.packing.proofs.squeezed.Tie as tie
 
-mul_twos : tie.Need-overflow-mul-twos
-mul_twos c = omega (arith, and_le_r (c.args.wide / 256) 0x00ff00ff00ff00ff)
+overflow_mul-twos : tie.Need-overflow_mul-twos
+overflow_mul-twos c = omega (arith, and_le_r (c.args.wide / 256) 0x00ff00ff00ff00ff)
 
-sub_twos : tie.Need-overflow-sub-twos
-sub_twos c = omega (arith, and_le_l (c.args.wide / 256) 0x00ff00ff00ff00ff)
+overflow_sub-twos : tie.Need-overflow_sub-twos
+overflow_sub-twos c = omega (arith, and_le_l (c.args.wide / 256) 0x00ff00ff00ff00ff)
 
-mul_fours : tie.Need-overflow-mul-fours
-mul_fours c = omega (arith, and_le_r (twos_squeezed c.args.wide / 2 ^ 16) 0x0000ffff0000ffff)
+overflow_mul-fours : tie.Need-overflow_mul-fours
+overflow_mul-fours c = omega (arith, and_le_r (twos_squeezed c.args.wide / 2 ^ 16) 0x0000ffff0000ffff)
 
-sub_fours : tie.Need-overflow-sub-fours
-sub_fours c = omega (arith, and_le_l (twos_squeezed c.args.wide / 2 ^ 16) 0x0000ffff0000ffff)
+overflow_sub-fours : tie.Need-overflow_sub-fours
+overflow_sub-fours c = omega (arith, and_le_l (twos_squeezed c.args.wide / 2 ^ 16) 0x0000ffff0000ffff)
 
-mul_result : tie.Need-overflow-mul-result
-mul_result c = omega (arith, and_le_r (fours_squeezed c.args.wide / 2 ^ 32) 0xffffffff)
+overflow_mul-result : tie.Need-overflow_mul-result
+overflow_mul-result c = omega (arith, and_le_r (fours_squeezed c.args.wide / 2 ^ 32) 0xffffffff)
 
-sub_result : tie.Need-overflow-sub-result
-sub_result c = omega (arith, and_le_l (fours_squeezed c.args.wide / 2 ^ 32) 0xffffffff)
+overflow_sub-result : tie.Need-overflow_sub-result
+overflow_sub-result c = omega (arith, and_le_l (fours_squeezed c.args.wide / 2 ^ 32) 0xffffffff)
 
 returns : tie.Need-returns
 returns c =
@@ -36,4 +36,11 @@ returns c =
 
 pub squeezed_spec : {M : Type 1} → statement M
 squeezed_spec =
-    tie.close (tie.spec mul_twos sub_twos mul_fours sub_fours mul_result sub_result returns)
+    tie.close (tie.spec
+    overflow_mul-twos
+    overflow_sub-twos
+    overflow_mul-fours
+    overflow_sub-fours
+    overflow_mul-result
+    overflow_sub-result
+    returns)

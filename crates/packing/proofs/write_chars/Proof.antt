@@ -63,138 +63,130 @@ module _ {n : ℕ} {os old new : List ℕ} {i j : ℕ} (s : Head n os old new i 
         (last_group s.moved f (n - j) (omega (arith, s.within)) (digits 128 (n - j) h) ys put
         (ap (λ (x : ℕ). digits 128 (n - j) x) (eh ∙ ap (λ (xs : List ℕ). value_of 256 (xs ++ (0 ∷ []))) (from i os) ∙ none_above (drop i os)))))
 
-abbrev invariant_loop : tie.invariant_loop
-invariant_loop octets out₀ n i₀ j₀ out i j = Head n octets out₀ out i j
+abbrev invariant-loop-j : tie.invariant-loop-j
+invariant-loop-j octets out₀ n i₀ j₀ out i j = Head n octets out₀ out i j
 
-abbrev decreases_loop : tie.decreases_loop
-decreases_loop octets out₀ n i₀ j₀ out i j = n - j
+abbrev decreases-loop-j : tie.decreases-loop-j
+decreases-loop-j octets out₀ n i₀ j₀ out i j = n - j
 
-octets_known : (c : tie.At-loop invariant_loop decreases_loop) → Below 256 c.before.before.before.args.octets.now
-octets_known c k = omega (arith, c.before.before.shared-slice-known.given k)
+octets_known : (c : tie.At-loop-j invariant-loop-j decreases-loop-j) → Below 256 c.args.octets.now
+octets_known c k = omega (arith, c.shared_slice_known-1.given k)
 
-loop_holds : tie.Need-loop-init invariant_loop decreases_loop
-loop_holds c = record { within = omega arith; moved = no_group 8 7 _ _ }
+loop-j-init : tie.Need-loop-j-init invariant-loop-j decreases-loop-j
+loop-j-init c = record { within = omega arith; moved = no_group 8 7 _ _ }
 
-sub_loop : tie.Need-overflow-sub-loop invariant_loop decreases_loop
-sub_loop c = omega arith
+overflow_sub-n : tie.Need-overflow_sub-n invariant-loop-j decreases-loop-j
+overflow_sub-n c = omega arith
 
-sub_seven : tie.Need-overflow-sub-seven invariant_loop decreases_loop
-sub_seven c = start_within c.before.loop.invariant c.before.before.before.before.requires.0
+slice_bounds-seven-count : tie.Need-slice_bounds-seven-count invariant-loop-j decreases-loop-j
+slice_bounds-seven-count c = start_within c.loop-j.invariant c.requires.0
 
-part_seven_start : tie.Need-slice-bounds-seven-start invariant_loop decreases_loop
-part_seven_start c = start_within c.before.loop.invariant c.before.before.before.before.requires.0
+slice_bounds-seven-start : tie.Need-slice_bounds-seven-start invariant-loop-j decreases-loop-j
+slice_bounds-seven-start c = start_within c.loop-j.invariant c.requires.0
 
-part_seven_end : tie.Need-slice-bounds-seven-end invariant_loop decreases_loop
-part_seven_end c = search rules
+slice_bounds-seven-end : tie.Need-slice_bounds-seven-end invariant-loop-j decreases-loop-j
+slice_bounds-seven-end c = search rules
 
-seven_requires : tie.Need-seven-requires invariant_loop decreases_loop
-seven_requires c κs =
-    let h = c.before.before in
-    omega (arith, length_from h.loop.i h.before.before.before.args.octets.now, octets_left h.loop.invariant h.before.before.before.requires.0 (omega arith))
+seven-requires : tie.Need-seven-requires invariant-loop-j decreases-loop-j
+seven-requires c κs =
+    omega (arith, length_from c.loop-j.i c.args.octets.now, octets_left c.loop-j.invariant c.requires.0 (omega arith))
 
-spread_requires : tie.Need-spread-requires invariant_loop decreases_loop
-spread_requires c κs = c.seven.ensures.1
+spread-wide-requires : tie.Need-spread-wide-requires invariant-loop-j decreases-loop-j
+spread-wide-requires c κs = c.seven.ensures.1
 
-sub_store_eight : tie.Need-overflow-sub-store-eight invariant_loop decreases_loop
-sub_store_eight c = omega arith
+slice_bounds-store_eight-count : tie.Need-slice_bounds-store_eight-count invariant-loop-j decreases-loop-j
+slice_bounds-store_eight-count c = omega arith
 
-part_store_eight_start : tie.Need-slice-bounds-store-eight-start invariant_loop decreases_loop
-part_store_eight_start c = search rules
+slice_bounds-store_eight-start : tie.Need-slice_bounds-store_eight-start invariant-loop-j decreases-loop-j
+slice_bounds-store_eight-start c = search rules
 
-part_store_eight_end : tie.Need-slice-bounds-store-eight-end invariant_loop decreases_loop
-part_store_eight_end c = search rules
+slice_bounds-store_eight-end : tie.Need-slice_bounds-store_eight-end invariant-loop-j decreases-loop-j
+slice_bounds-store_eight-end c = search rules
 
-store_eight_requires : tie.Need-store-eight-requires invariant_loop decreases_loop
-store_eight_requires c κs =
-    let h = c.before.before.before.before.before in
-    omega (arith, length_from h.loop.j h.loop.out, h.loop.invariant.moved.room)
+store_eight-requires : tie.Need-store_eight-requires invariant-loop-j decreases-loop-j
+store_eight-requires c κs =
+    omega (arith, length_from c.loop-j.j c.loop-j.out, c.loop-j.invariant.moved.room)
 
-add_i : tie.Need-overflow-add-i invariant_loop decreases_loop
-add_i c = omega arith
+overflow_add-i : tie.Need-overflow_add-i invariant-loop-j decreases-loop-j
+overflow_add-i c = omega arith
 
-add_j : tie.Need-overflow-add-j invariant_loop decreases_loop
-add_j c = omega arith
+overflow_add-j : tie.Need-overflow_add-j invariant-loop-j decreases-loop-j
+overflow_add-j c = omega arith
 
-loop_less : tie.Need-loop-smaller invariant_loop decreases_loop
-loop_less c = omega arith
+loop-j-smaller : tie.Need-loop-j-smaller invariant-loop-j decreases-loop-j
+loop-j-smaller c = omega arith
 
-loop_again : tie.Need-loop-preserved invariant_loop decreases_loop
-loop_again c =
-    let h = c.before.before.before.before.before.before.before.before in
-    let st = h.before.before.before in
-    eight_more h.loop.invariant st.requires.0 (octets_known h) st.requires.1 c.before.before.before.before.before.before.before.loop-test.true c.before.before.before.before.before.seven.result c.before.before.before.before.spread.result c.before.before.before.before.before.seven.ensures.0 c.before.before.before.before.spread.ensures c.before.before.store-eight.new.0 c.before.before.store-eight.ensures
+loop-j-preserved : tie.Need-loop-j-preserved invariant-loop-j decreases-loop-j
+loop-j-preserved c =
+    eight_more c.loop-j.invariant c.requires.0 (octets_known c.before.before.before.before.before.before.before.before) c.requires.1 c.loop-j-test.true c.seven.result c.spread-wide.result c.seven.ensures.0 c.spread-wide.ensures c.store_eight.new.out c.store_eight.ensures
 
-sub_few : tie.Need-overflow-sub-few invariant_loop decreases_loop
-sub_few c = start_within c.before.loop.invariant c.before.before.before.before.requires.0
+slice_bounds-few-count : tie.Need-slice_bounds-few-count invariant-loop-j decreases-loop-j
+slice_bounds-few-count c = start_within c.loop-j.invariant c.requires.0
 
-part_few_start : tie.Need-slice-bounds-few-start invariant_loop decreases_loop
-part_few_start c = start_within c.before.loop.invariant c.before.before.before.before.requires.0
+slice_bounds-few-start : tie.Need-slice_bounds-few-start invariant-loop-j decreases-loop-j
+slice_bounds-few-start c = start_within c.loop-j.invariant c.requires.0
 
-part_few_end : tie.Need-slice-bounds-few-end invariant_loop decreases_loop
-part_few_end c = search rules
+slice_bounds-few-end : tie.Need-slice_bounds-few-end invariant-loop-j decreases-loop-j
+slice_bounds-few-end c = search rules
 
-few_requires : tie.Need-few-requires invariant_loop decreases_loop
-few_requires c κs =
-    let h = c.before.before in
-    (omega (arith, length_from h.loop.i h.before.before.before.args.octets.now, few_left h.loop.invariant h.before.before.before.requires.0 (omega arith)), omega arith, omega arith)
+few-held-requires : tie.Need-few-held-requires invariant-loop-j decreases-loop-j
+few-held-requires c κs =
+    (omega (arith, length_from c.loop-j.i c.args.octets.now, few_left c.loop-j.invariant c.requires.0 (omega arith)), omega arith, omega arith)
 
-sub_store_few : tie.Need-overflow-sub-store-few invariant_loop decreases_loop
-sub_store_few c = omega arith
+slice_bounds-store_few-count : tie.Need-slice_bounds-store_few-count invariant-loop-j decreases-loop-j
+slice_bounds-store_few-count c = omega arith
 
-part_store_few_start : tie.Need-slice-bounds-store-few-start invariant_loop decreases_loop
-part_store_few_start c = search rules
+slice_bounds-store_few-start : tie.Need-slice_bounds-store_few-start invariant-loop-j decreases-loop-j
+slice_bounds-store_few-start c = search rules
 
-part_store_few_end : tie.Need-slice-bounds-store-few-end invariant_loop decreases_loop
-part_store_few_end c = search rules
+slice_bounds-store_few-end : tie.Need-slice_bounds-store_few-end invariant-loop-j decreases-loop-j
+slice_bounds-store_few-end c = search rules
 
-sub_store_few_2 : tie.Need-overflow-sub-store-few-2 invariant_loop decreases_loop
-sub_store_few_2 c = omega arith
+overflow_sub-n-2 : tie.Need-overflow_sub-n-2 invariant-loop-j decreases-loop-j
+overflow_sub-n-2 c = omega arith
 
-store_few_requires : tie.Need-store-few-requires invariant_loop decreases_loop
-store_few_requires c κs =
-    let h = c.before.before.before.before in
-    (omega (arith, length_from h.loop.j h.loop.out, h.loop.invariant.moved.room), omega arith, omega arith)
+store_few-requires : tie.Need-store_few-requires invariant-loop-j decreases-loop-j
+store_few-requires c κs =
+    (omega (arith, length_from c.loop-j.j c.loop-j.out, c.loop-j.invariant.moved.room), omega arith, omega arith)
 
-returns : tie.Need-returns invariant_loop decreases_loop
+returns : tie.Need-returns invariant-loop-j decreases-loop-j
 returns c =
-    let h = c.before.before.before.before.before.before.before in
-    let st = h.before.before.before in
-    all_read h.loop.invariant st.requires.0 (octets_known h) st.requires.1 c.before.before.before.before.few.result c.before.before.before.before.few.ensures c.before.before.store-few.new.0 c.before.before.store-few.ensures
+    all_read c.loop-j.invariant c.requires.0 (octets_known c.before.before.before.before.before.before.before) c.requires.1 c.few-held.result c.few-held.ensures c.store_few.new.out c.store_few.ensures
 
-same_length : tie.Need-same-length invariant_loop decreases_loop
-same_length c =
-    let p = c.before.before.before.before.before.before.before.before.before.before.requires in
+shape_of-out : tie.Need-shape_of-out invariant-loop-j decreases-loop-j
+shape_of-out c =
+    let p = c.requires in
     ap length (returns c) ∙ simp (length-append, length_unpacked, length-drop, ← p.0) (omega (arith, p.1))
 
 pub write_chars_spec : {M : Type 1} → statement M
 write_chars_spec =
     tie.close
     (tie.spec
-    invariant_loop
-    decreases_loop
-    loop_holds
-    sub_loop
-    sub_seven
-    part_seven_start
-    part_seven_end
-    seven_requires
-    spread_requires
-    sub_store_eight
-    part_store_eight_start
-    part_store_eight_end
-    store_eight_requires
-    add_i
-    add_j
-    loop_less
-    loop_again
-    sub_few
-    part_few_start
-    part_few_end
-    few_requires
-    sub_store_few
-    part_store_few_start
-    part_store_few_end
-    sub_store_few_2
-    store_few_requires
-    same_length
+    invariant-loop-j
+    decreases-loop-j
+    loop-j-init
+    overflow_sub-n
+    slice_bounds-seven-count
+    slice_bounds-seven-start
+    slice_bounds-seven-end
+    seven-requires
+    spread-wide-requires
+    slice_bounds-store_eight-count
+    slice_bounds-store_eight-start
+    slice_bounds-store_eight-end
+    store_eight-requires
+    overflow_add-i
+    overflow_add-j
+    loop-j-smaller
+    loop-j-preserved
+    slice_bounds-few-count
+    slice_bounds-few-start
+    slice_bounds-few-end
+    few-held-requires
+    slice_bounds-store_few-count
+    slice_bounds-store_few-start
+    slice_bounds-store_few-end
+    overflow_sub-n-2
+    store_few-requires
+    shape_of-out
     returns)

@@ -80,138 +80,129 @@ module _ {cs old new : List ℕ} {i j : ℕ} (s : Head cs old new i j) (t : take
       (last_group s.moved (padded_below cs t) (length cs - i) (omega (arith, count w)) (digits 256 (length cs - i) h) ys put
       (ap (λ (n : ℕ). digits 256 (length cs - i) n) (eh ∙ ap (λ (xs : List ℕ). value_of 128 (xs ++ (x ∷ []))) (from i cs) ∙ left_padded cs i j x s.moved.place s.within w ex)))
 
-abbrev invariant_loop : tie.invariant_loop
-invariant_loop chars out₀ n i₀ j₀ out i j = Head chars out₀ out i j
+abbrev invariant-loop-i : tie.invariant-loop-i
+invariant-loop-i chars out₀ n i₀ j₀ out i j = Head chars out₀ out i j
 
-abbrev decreases_loop : tie.decreases_loop
-decreases_loop chars out₀ n i₀ j₀ out i j = length chars - i
+abbrev decreases-loop-i : tie.decreases-loop-i
+decreases-loop-i chars out₀ n i₀ j₀ out i j = length chars - i
 
-loop_holds : tie.Need-loop-init invariant_loop decreases_loop
-loop_holds c = record { within = omega arith; moved = no_group 7 8 _ _ }
+loop-i-init : tie.Need-loop-i-init invariant-loop-i decreases-loop-i
+loop-i-init c = record { within = omega arith; moved = no_group 7 8 _ _ }
 
-sub_loop : tie.Need-overflow-sub-loop invariant_loop decreases_loop
-sub_loop c = omega arith
+overflow_sub-n : tie.Need-overflow_sub-n invariant-loop-i decreases-loop-i
+overflow_sub-n c = omega arith
 
-sub_eight : tie.Need-overflow-sub-eight invariant_loop decreases_loop
-sub_eight c = omega arith
+slice_bounds-eight-count : tie.Need-slice_bounds-eight-count invariant-loop-i decreases-loop-i
+slice_bounds-eight-count c = omega arith
 
-part_eight_start : tie.Need-slice-bounds-eight-start invariant_loop decreases_loop
-part_eight_start c = search rules
+slice_bounds-eight-start : tie.Need-slice_bounds-eight-start invariant-loop-i decreases-loop-i
+slice_bounds-eight-start c = search rules
 
-part_eight_end : tie.Need-slice-bounds-eight-end invariant_loop decreases_loop
-part_eight_end c = search rules
+slice_bounds-eight-end : tie.Need-slice_bounds-eight-end invariant-loop-i decreases-loop-i
+slice_bounds-eight-end c = search rules
 
-eight_requires : tie.Need-eight-requires invariant_loop decreases_loop
-eight_requires c κs = omega (arith, length_from c.before.before.loop.i c.before.before.before.before.before.args.chars.now)
+eight-requires : tie.Need-eight-requires invariant-loop-i decreases-loop-i
+eight-requires c κs = omega (arith, length_from c.loop-i.i c.args.chars.now)
 
-squeezed_requires : tie.Need-squeezed-requires invariant_loop decreases_loop
-squeezed_requires c κs =
-    let h = c.before.before.before in
-    let t = h.before.before.before.requires.0 in
-    rw (next_eight _ t h.loop.i (omega arith) c.eight.result c.eight.ensures) (next_takes _ t h.loop.i)
+squeezed-held-requires : tie.Need-squeezed-held-requires invariant-loop-i decreases-loop-i
+squeezed-held-requires c κs =
+    let t = c.requires.0 in
+    rw (next_eight _ t c.loop-i.i (omega arith) c.eight.result c.eight.ensures) (next_takes _ t c.loop-i.i)
 
-sub_store_seven : tie.Need-overflow-sub-store-seven invariant_loop decreases_loop
-sub_store_seven c = omega arith
+slice_bounds-store_seven-count : tie.Need-slice_bounds-store_seven-count invariant-loop-i decreases-loop-i
+slice_bounds-store_seven-count c = omega arith
 
-part_store_seven_start : tie.Need-slice-bounds-store-seven-start invariant_loop decreases_loop
-part_store_seven_start c = search rules
+slice_bounds-store_seven-start : tie.Need-slice_bounds-store_seven-start invariant-loop-i decreases-loop-i
+slice_bounds-store_seven-start c = search rules
 
-part_store_seven_end : tie.Need-slice-bounds-store-seven-end invariant_loop decreases_loop
-part_store_seven_end c = search rules
+slice_bounds-store_seven-end : tie.Need-slice_bounds-store_seven-end invariant-loop-i decreases-loop-i
+slice_bounds-store_seven-end c = search rules
 
-store_seven_requires : tie.Need-store-seven-requires invariant_loop decreases_loop
-store_seven_requires c κs =
-    let h = c.before.before.before.before.before in
-    let st = h.before.before.before in
-    omega (arith, length_from h.loop.j h.loop.out, octets_room h.loop.invariant st.requires.0 st.requires.1 c.before.before.before.before.loop-test.true, h.loop.invariant.moved.room)
+store_seven-requires : tie.Need-store_seven-requires invariant-loop-i decreases-loop-i
+store_seven-requires c κs =
+    omega (arith, length_from c.loop-i.j c.loop-i.out, octets_room c.loop-i.invariant c.requires.0 c.requires.1 c.loop-i-test.true, c.loop-i.invariant.moved.room)
 
-add_i : tie.Need-overflow-add-i invariant_loop decreases_loop
-add_i c = omega arith
+overflow_add-i : tie.Need-overflow_add-i invariant-loop-i decreases-loop-i
+overflow_add-i c = omega arith
 
-add_j : tie.Need-overflow-add-j invariant_loop decreases_loop
-add_j c = omega arith
+overflow_add-j : tie.Need-overflow_add-j invariant-loop-i decreases-loop-i
+overflow_add-j c = omega arith
 
-loop_less : tie.Need-loop-smaller invariant_loop decreases_loop
-loop_less c = omega arith
+loop-i-smaller : tie.Need-loop-i-smaller invariant-loop-i decreases-loop-i
+loop-i-smaller c = omega arith
 
-loop_again : tie.Need-loop-preserved invariant_loop decreases_loop
-loop_again c =
-    let h = c.before.before.before.before.before.before.before.before in
-    let st = h.before.before.before in
-    seven_more h.loop.invariant st.requires.0 st.requires.1 c.before.before.before.before.before.before.before.loop-test.true c.before.before.before.before.before.eight.result c.before.before.before.before.squeezed.result c.before.before.before.before.before.eight.ensures c.before.before.before.before.squeezed.ensures c.before.before.store-seven.new.0 c.before.before.store-seven.ensures
+loop-i-preserved : tie.Need-loop-i-preserved invariant-loop-i decreases-loop-i
+loop-i-preserved c =
+    seven_more c.loop-i.invariant c.requires.0 c.requires.1 c.loop-i-test.true c.eight.result c.squeezed-held.result c.eight.ensures c.squeezed-held.ensures c.store_seven.new.out c.store_seven.ensures
 
-sub_left : tie.Need-overflow-sub-left invariant_loop decreases_loop
-sub_left c = omega arith
+overflow_sub-left : tie.Need-overflow_sub-left invariant-loop-i decreases-loop-i
+overflow_sub-left c = omega arith
 
-sub_few : tie.Need-overflow-sub-few invariant_loop decreases_loop
-sub_few c = omega arith
+slice_bounds-few-count : tie.Need-slice_bounds-few-count invariant-loop-i decreases-loop-i
+slice_bounds-few-count c = omega arith
 
-part_few_start : tie.Need-slice-bounds-few-start invariant_loop decreases_loop
-part_few_start c = search rules
+slice_bounds-few-start : tie.Need-slice_bounds-few-start invariant-loop-i decreases-loop-i
+slice_bounds-few-start c = search rules
 
-part_few_end : tie.Need-slice-bounds-few-end invariant_loop decreases_loop
-part_few_end c = search rules
+slice_bounds-few-end : tie.Need-slice_bounds-few-end invariant-loop-i decreases-loop-i
+slice_bounds-few-end c = search rules
 
-filler_requires : tie.Need-filler-requires invariant_loop decreases_loop
-filler_requires c κs = search rules
+filler-requires : tie.Need-filler-requires invariant-loop-i decreases-loop-i
+filler-requires c κs = search rules
 
-few_requires : tie.Need-few-requires invariant_loop decreases_loop
-few_requires c κs = (omega (arith, length_from c.before.before.before.loop.i c.before.before.before.before.before.before.args.chars.now), omega arith, omega arith)
+few-held-requires : tie.Need-few-held-requires invariant-loop-i decreases-loop-i
+few-held-requires c κs = (omega (arith, length_from c.loop-i.i c.args.chars.now), omega arith, omega arith)
 
-sub_store_few : tie.Need-overflow-sub-store-few invariant_loop decreases_loop
-sub_store_few c = omega arith
+slice_bounds-store_few-count : tie.Need-slice_bounds-store_few-count invariant-loop-i decreases-loop-i
+slice_bounds-store_few-count c = omega arith
 
-part_store_few_start : tie.Need-slice-bounds-store-few-start invariant_loop decreases_loop
-part_store_few_start c = search rules
+slice_bounds-store_few-start : tie.Need-slice_bounds-store_few-start invariant-loop-i decreases-loop-i
+slice_bounds-store_few-start c = search rules
 
-part_store_few_end : tie.Need-slice-bounds-store-few-end invariant_loop decreases_loop
-part_store_few_end c = search rules
+slice_bounds-store_few-end : tie.Need-slice_bounds-store_few-end invariant-loop-i decreases-loop-i
+slice_bounds-store_few-end c = search rules
 
-store_few_requires : tie.Need-store-few-requires invariant_loop decreases_loop
-store_few_requires c κs =
-    let h = c.before.before.before.before.before in
-    let st = h.before.before.before in
-    (omega (arith, length_from h.loop.j h.loop.out, count h.loop.invariant st.requires.0 st.requires.1 (omega arith), h.loop.invariant.moved.room), omega arith, omega arith)
+store_few-requires : tie.Need-store_few-requires invariant-loop-i decreases-loop-i
+store_few-requires c κs =
+    (omega (arith, length_from c.loop-i.j c.loop-i.out, count c.loop-i.invariant c.requires.0 c.requires.1 (omega arith), c.loop-i.invariant.moved.room), omega arith, omega arith)
 
-returns : tie.Need-returns invariant_loop decreases_loop
+returns : tie.Need-returns invariant-loop-i decreases-loop-i
 returns c =
-    let h = c.before.before.before.before.before.before.before.before in
-    let st = h.before.before.before in
-    all_written h.loop.invariant st.requires.0 st.requires.1 (omega arith) c.before.before.before.before.before.filler.result c.before.before.before.before.few.result c.before.before.before.before.before.filler.ensures.0 c.before.before.before.before.few.ensures c.before.before.store-few.new.0 c.before.before.store-few.ensures
+    all_written c.loop-i.invariant c.requires.0 c.requires.1 (omega arith) c.filler.result c.few-held.result c.filler.ensures.0 c.few-held.ensures c.store_few.new.out c.store_few.ensures
 
-same_length : tie.Need-same-length invariant_loop decreases_loop
-same_length c = ap length (returns c) ∙ simp (length-append, length_packed, length-drop) (omega (arith, c.before.before.before.before.before.before.before.before.before.before.before.requires.1))
+shape_of-out : tie.Need-shape_of-out invariant-loop-i decreases-loop-i
+shape_of-out c = ap length (returns c) ∙ simp (length-append, length_packed, length-drop) (omega (arith, c.requires.1))
 
 pub write_octets_spec : {M : Type 1} → statement M
 write_octets_spec =
     tie.close
     (tie.spec
-    invariant_loop
-    decreases_loop
-    loop_holds
-    sub_loop
-    sub_eight
-    part_eight_start
-    part_eight_end
-    eight_requires
-    squeezed_requires
-    sub_store_seven
-    part_store_seven_start
-    part_store_seven_end
-    store_seven_requires
-    add_i
-    add_j
-    loop_less
-    loop_again
-    sub_left
-    sub_few
-    part_few_start
-    part_few_end
-    filler_requires
-    few_requires
-    sub_store_few
-    part_store_few_start
-    part_store_few_end
-    store_few_requires
-    same_length
+    invariant-loop-i
+    decreases-loop-i
+    loop-i-init
+    overflow_sub-n
+    slice_bounds-eight-count
+    slice_bounds-eight-start
+    slice_bounds-eight-end
+    eight-requires
+    squeezed-held-requires
+    slice_bounds-store_seven-count
+    slice_bounds-store_seven-start
+    slice_bounds-store_seven-end
+    store_seven-requires
+    overflow_add-i
+    overflow_add-j
+    loop-i-smaller
+    loop-i-preserved
+    overflow_sub-left
+    slice_bounds-few-count
+    slice_bounds-few-start
+    slice_bounds-few-end
+    filler-requires
+    few-held-requires
+    slice_bounds-store_few-count
+    slice_bounds-store_few-start
+    slice_bounds-store_few-end
+    store_few-requires
+    shape_of-out
     returns)

@@ -12,79 +12,69 @@ use Rattle.radio.proofs.Asked.{question_is, question_sound, asks_none, asks_one}
 use Rattle.radio.proofs.ask_next.Statement.{statement}
 use Rattle.radio.proofs.ask_next.Tie as tie
 
-open_number_requires : tie.Need-open-number-requires
-open_number_requires c κs = c.before.before.requires.0.few
+open_number-number-requires : tie.Need-open_number-number-requires
+open_number-number-requires c κs = c.requires.0.few
 
 full : (a : tie.Start) → length a.args.radio.entries ≡ most_stored
 full a = search (rules, unmapped)
 
-quiet_requires : tie.Need-quiet-requires
-quiet_requires c κs = search rules
+quiet-requires : tie.Need-quiet-requires
+quiet-requires c κs = search rules
+
+returns-then-number-eq0 : tie.Need-returns-then-number-eq0
+returns-then-number-eq0 c =
+    let e = asks_none c.args.respond c.args.radio (full c.before.before.before.before.before) c.requires.0 c.args.question.now (sym c.open_number-number.ensures ∙ c.if-number-eq0.true) in
+    (c.quiet.ensures ∙ ap (λ (x : Outcome). x.next) (sym e), ap (λ (x : Outcome). x.question) (sym e))
+
+write_request-requires : tie.Need-write_request-requires
+write_request-requires c κs = search rules
+
+enum_known-octets : tie.Need-enum_known-octets
+enum_known-octets c = search rules
+
+-- where a question is open
+abbrev opened : tie.After-write_request → tie.Else-number-eq0
+opened c = c.before.before.before.before
+abbrev start : tie.After-write_request → tie.Start
+start c = (opened c).before.before.before.before
+
+abbrev asked : tie.After-write_request → Request
+asked c = interrogation (opened c).open_number-number.result
+
+some : (c : tie.After-write_request) → open_of (entries_in (start c).args.radio) ≡ 0 → ⊥
+some c e = (opened c).if-number-eq0.false ((opened c).open_number-number.ensures ∙ e)
+
+sounds : (c : tie.After-write_request) → request_sound (asked c) ≡ true
+sounds c =
+    let n = (opened c).open_number-number in
+    question_sound n.result (rw n.ensures (open_number (entries_in (start c).args.radio) (start c).requires.0.entries (some c)))
+
+quiet-requires-in_default : tie.Need-quiet-requires-in_default
+quiet-requires-in_default c κs = search rules
+
+shape_of-question-in_default : tie.Need-shape_of-question-in_default
+shape_of-question-in_default c = search rules
+
+returns-in_default : tie.Need-returns-in_default
+returns-in_default c =
+    let written = string_written (asked c.before.before.before.before) (start c.before.before.before.before).args.question.now c.write_request.result _ c.write_request.ensures (start c.before.before.before.before).requires.1 (sounds c.before.before.before.before) in
+    absurd (miss (1 ∷ 2 ∷ []) 0 tt (rw written at c.in_default.in_default-own.keys2))
+
+wrapping_add_u8-invoke-requires : tie.Need-wrapping_add_u8-invoke-requires
+wrapping_add_u8-invoke-requires c κs = search rules
+
+shape_of-question : tie.Need-shape_of-question
+shape_of-question c = search rules
 
 returns : tie.Need-returns
 returns c =
-    let o = c.before.before in
-    let a = o.before.before.before in
-    let e = asks_none a.args.respond a.args.radio (full a) a.requires.0 a.args.question.now (sym o.open_number.ensures ∙ c.before.if1.true) in
-    (c.quiet.ensures ∙ ap (λ (x : Outcome). x.next) (sym e), ap (λ (x : Outcome). x.question) (sym e))
-
-slice_aggregate_write_request : tie.Need-slice-aggregate-write-request
-slice_aggregate_write_request c = search rules
-
-write_request_requires : tie.Need-write-request-requires
-write_request_requires c κs = search rules
-
-enum_known_octets : tie.Need-enum-known-octets
-enum_known_octets c = search rules
-
--- where a question is open
-abbrev opened : tie.After-write-request → tie.Else1
-opened c = c.before.before.before
-
-abbrev start : tie.After-write-request → tie.Start
-start c = (opened c).before.before.before.before
-
-abbrev asked : tie.After-write-request → Request
-asked c = interrogation (opened c).before.open_number.result
-
-some : (c : tie.After-write-request) → open_of (entries_in (start c).args.radio) ≡ 0 → ⊥
-some c e = (opened c).if1.false ((opened c).before.open_number.ensures ∙ e)
-
-sounds : (c : tie.After-write-request) → request_sound (asked c) ≡ true
-sounds c =
-    let n = (opened c).before.open_number in
-    question_sound n.result (rw n.ensures (open_number (entries_in (start c).args.radio) (start c).requires.0.entries (some c)))
-
-quiet_requires_2 : tie.Need-quiet-requires-2
-quiet_requires_2 c κs = search rules
-
-same_length : tie.Need-same-length
-same_length c = search rules
-
-returns_2 : tie.Need-returns-2
-returns_2 c =
-    let m = c.before in
-    let w = m.before.before.before in
-    let written = string_written (asked w) (start w).args.question.now w.write-request.result _ w.write-request.ensures (start w).requires.1 (sounds w) in
-    absurd (miss (1 ∷ 2 ∷ []) 0 tt (rw written at m.match.keys2))
-
-wrapping_add_u8_requires : tie.Need-wrapping-add-u8-requires
-wrapping_add_u8_requires c κs = search rules
-
-same_length_2 : tie.Need-same-length-2
-same_length_2 c = search rules
-
-returns_3 : tie.Need-returns-3
-returns_3 c =
-    let k = c.before.before in
-    let w = k.before.before.before.before in
-    let a = start w in
-    let n = (opened w).before.open_number in
-    let t = string_counted (asked w) a.args.question.now w.write-request.result _ w.write-request.ensures k.octets.given.0.0 k.octets.given.1 in
+    let a = start c.before.before.before.before in
+    let n = (opened c.before.before.before.before).open_number-number in
+    let t = string_counted (asked c.before.before.before.before) a.args.question.now c.write_request.result _ c.write_request.ensures c.in-Count.octets c.in-Count.is in
     let about = question_is n.result ∙ ap question_of n.ensures in
-    let e = asks_one a.args.respond a.args.radio (full a) a.pre.0 a.args.question.now (some w) c.wrapping-add-u8.result k.octets.given.0.0 c.wrapping-add-u8.ensures (t.count ∙ ap length about) in (
+    let e = asks_one a.args.respond a.args.radio (full a) a.requires.0 a.args.question.now (some c.before.before.before.before) c.wrapping_add_u8-invoke.result c.in-Count.octets c.wrapping_add_u8-invoke.ensures (t.count ∙ ap length about) in (
       ap (λ (x : Outcome). x.next) (sym e),
-      t.buffer ∙ ap (λ (m : ℕ). packed (text_of (asked w)) ++ drop m a.args.question.now) t.count
+      t.buffer ∙ ap (λ (m : ℕ). packed (text_of (asked c.before.before.before.before)) ++ drop m a.args.question.now) t.count
           ∙ ap (λ (text : List ℕ). over text a.args.question.now) about ∙ ap (λ (x : Outcome). x.question) (sym e),
     )
 
@@ -92,15 +82,14 @@ pub ask_next_spec : {M : Type 1} → statement M
 ask_next_spec =
     tie.close
     (tie.spec
-    open_number_requires
-    quiet_requires
-    returns
-    slice_aggregate_write_request
-    write_request_requires
-    enum_known_octets
-    quiet_requires_2
-    same_length
-    returns_2
-    wrapping_add_u8_requires
-    same_length_2
-    returns_3)
+    open_number-number-requires
+    quiet-requires
+    returns-then-number-eq0
+    write_request-requires
+    enum_known-octets
+    quiet-requires-in_default
+    shape_of-question-in_default
+    returns-in_default
+    wrapping_add_u8-invoke-requires
+    shape_of-question
+    returns)

@@ -8,14 +8,14 @@ use Rattle.radio.specs.Radio.{noticed_number, notice_of}
 use Rattle.radio.proofs.notice_number.Statement.{statement}
 use Rattle.radio.proofs.notice_number.Tie as tie
 
-read_notice_requires : tie.Need-read-notice-requires
-read_notice_requires c κs = search rules
+read_notice-requires : tie.Need-read_notice-requires
+read_notice-requires c κs = search rules
 
-enum_known_number : tie.Need-enum-known-number
-enum_known_number c = search rules
+enum_known-number : tie.Need-enum_known-number
+enum_known-number c = search rules
 
-enum_told : tie.Need-enum-told
-enum_told c = search rules
+enum_told-1 : tie.Need-enum_told-1
+enum_told-1 c = search rules
 
 -- the number in an answer
 abbrev number_in : NoticeReading → ℕ
@@ -26,15 +26,15 @@ number_in_lem : (n : Option NoticeString) → number_in (notice_read n) ≡ noti
 number_in_lem none = refl
 number_in_lem (some n) = refl
 
-answered : (c : tie.After-read-notice) → number_in c.read-notice.result ≡ notice_of c.before.before.args.string.now
-answered c = rw c.read-notice.ensures (number_in_lem (notice_string_of c.before.before.args.string.now))
+answered : (c : tie.After-read_notice) → number_in c.read_notice.result ≡ notice_of c.args.string.now
+answered c = rw c.read_notice.ensures (number_in_lem (notice_string_of c.args.string.now))
+
+returns-in_default : tie.Need-returns-in_default
+returns-in_default c = sym (ap number_in c.in_default.is) ∙ answered c.before
 
 returns : tie.Need-returns
-returns c = sym (ap number_in c.enum_told.given.1) ∙ answered c.before.before
-
-returns_2 : tie.Need-returns-2
-returns_2 c = let n = c.before in sym (ap number_in n.number.given.1) ∙ answered n.before.before
+returns c = sym (ap number_in c.in-Notice.is) ∙ answered c.before
 
 pub notice_number_spec : {M : Type 1} → statement M
 notice_number_spec =
-    tie.close (tie.spec read_notice_requires enum_known_number enum_told returns returns_2)
+    tie.close (tie.spec read_notice-requires enum_known-number enum_told-1 returns-in_default returns)

@@ -7,93 +7,81 @@ use Rattle.radio.specs.Radio.{storing}
 use Rattle.radio.proofs.stored.Statement.{statement}
 use Rattle.radio.proofs.stored.Tie as tie
 
-sound_requires : tie.Need-sound-requires
-sound_requires c κs = search rules
+sound-requires : tie.Need-sound-requires
+sound-requires c κs = search rules
 
-quiet_requires : tie.Need-quiet-requires
-quiet_requires c κs = search rules
+quiet-requires : tie.Need-quiet-requires
+quiet-requires c κs = search rules
+
+returns-then-not-sound : tie.Need-returns-then-not-sound
+unfolding storing
+returns-then-not-sound c =
+    rw (sym c.sound.ensures ∙ not-true _ c.if-not-sound.true-raw) c.quiet.ensures
+
+-- a sound radio, and a number
+sounds : (c : tie.Else-not-sound) → radio_sound c.args.radio ≡ true
+sounds c = sym c.sound.ensures ∙ not-false _ c.if-not-sound.false-raw
+
+numbers : (c : tie.Else-not-is_number) → is_number c.args.number ≡ true
+numbers c = sym c.is_number.ensures ∙ not-false _ c.if-not-is_number.false-raw
+
+is_number-requires : tie.Need-is_number-requires
+is_number-requires c κs = search rules
+
+quiet-requires-then-not-is_number : tie.Need-quiet-requires-then-not-is_number
+quiet-requires-then-not-is_number c κs = search rules
+
+returns-then-not-is_number : tie.Need-returns-then-not-is_number
+unfolding storing
+returns-then-not-is_number c =
+    rw (sounds c.before.before.before, sym c.is_number.ensures ∙ not-true _ c.if-not-is_number.true-raw) c.quiet-then-not-is_number.ensures
+
+has_from-requires : tie.Need-has_from-requires
+has_from-requires c κs = (sound_is c.args.radio (sounds c.before.before.before)).few
+
+quiet-requires-then-has_from : tie.Need-quiet-requires-then-has_from
+quiet-requires-then-has_from c κs = search rules
+
+returns-then-has_from : tie.Need-returns-then-has_from
+unfolding storing
+returns-then-has_from c =
+    rw (sounds c.before.before.before.before.before.before, numbers c.before.before.before.before, sym c.has_from.ensures ∙ c.if-has_from.true) c.quiet-then-has_from.ensures
+
+quiet-requires-then-radio-eq-MOST_STORED : tie.Need-quiet-requires-then-radio-eq-MOST_STORED
+quiet-requires-then-radio-eq-MOST_STORED c κs = search rules
+
+returns-then-radio-eq-MOST_STORED : tie.Need-returns-then-radio-eq-MOST_STORED
+unfolding storing
+returns-then-radio-eq-MOST_STORED c =
+    rw (sounds c.before.before.before.before.before.before.before.before, numbers c.before.before.before.before.before.before, sym c.has_from.ensures ∙ c.if-has_from.false, eq-eqb _ _ c.if-radio-eq-MOST_STORED.true) c.quiet-then-radio-eq-MOST_STORED.ensures
+
+with_new-next-requires : tie.Need-with_new-next-requires
+with_new-next-requires c κs =
+    (sounds c.before.before.before.before.before.before.before, omega (arith, (sound_is c.args.radio (sounds c.before.before.before.before.before.before.before)).few))
+
+quiet-requires-2 : tie.Need-quiet-requires-2
+quiet-requires-2 c κs = search rules
 
 returns : tie.Need-returns
 unfolding storing
 returns c =
-    let s = c.before.before in
-    rw (sym s.sound.ensures ∙ not-true _ c.before.if1.true) c.quiet.ensures
-
--- a sound radio, and a number
-sounds : (c : tie.Else1) → radio_sound c.before.before.args.radio ≡ true
-sounds c = sym c.before.sound.ensures ∙ not-false _ c.if1.false
-
-numbers : (c : tie.Else2) → is_number c.before.before.before.before.args.number ≡ true
-numbers c = sym c.before.is_number.ensures ∙ not-false _ c.if2.false
-
-is_number_requires : tie.Need-is-number-requires
-is_number_requires c κs = search rules
-
-quiet_requires_2 : tie.Need-quiet-requires-2
-quiet_requires_2 c κs = search rules
-
-returns_2 : tie.Need-returns-2
-unfolding storing
-returns_2 c =
-    let n = c.before.before in
-    rw (sounds n.before, sym n.is_number.ensures ∙ not-true _ c.before.if2.true) c.quiet2.ensures
-
-has_from_requires : tie.Need-has-from-requires
-has_from_requires c κs = let s = c.before.before.before in (sound_is s.before.before.args.radio (sounds s)).few
-
-quiet_requires_3 : tie.Need-quiet-requires-3
-quiet_requires_3 c κs = search rules
-
-returns_3 : tie.Need-returns-3
-unfolding storing
-returns_3 c =
-    let h = c.before.before in
-    let n = h.before.before in
-    rw (sounds n.before.before, numbers n, sym h.has-from.ensures ∙ c.before.if3.true) c.quiet3.ensures
-
-quiet_requires_4 : tie.Need-quiet-requires-4
-quiet_requires_4 c κs = search rules
-
-returns_4 : tie.Need-returns-4
-unfolding storing
-returns_4 c =
-    let e = c.before.before.before in
-    let h = e.before in
-    let n = h.before.before in
-    rw (sounds n.before.before, numbers n, sym h.has-from.ensures ∙ e.if3.false, eq-eqb _ _ c.before.if4.true) c.quiet4.ensures
-
-with_new_requires : tie.Need-with-new-requires
-with_new_requires c κs =
-    let s = c.before.before.before.before.before.before.before in
-    (sounds s, omega (arith, (sound_is s.before.before.args.radio (sounds s)).few))
-
-quiet_requires_5 : tie.Need-quiet-requires-5
-quiet_requires_5 c κs = search rules
-
-returns_5 : tie.Need-returns-5
-unfolding storing
-returns_5 c =
-    let f = c.before.before in
-    let e = f.before.before in
-    let h = e.before in
-    let n = h.before.before in
-    rw (sounds n.before.before, numbers n, sym h.has-from.ensures ∙ e.if3.false, ne_eqb _ _ f.if4.false, sym c.before.with-new.ensures) c.quiet5.ensures
+    rw (sounds c.before.before.before.before.before.before.before.before.before, numbers c.before.before.before.before.before.before.before, sym c.has_from.ensures ∙ c.if-has_from.false, ne_eqb _ _ c.if-radio-eq-MOST_STORED.false, sym c.with_new-next.ensures) c.quiet-2.ensures
 
 pub stored_spec : {M : Type 1} → statement M
 stored_spec =
     tie.close
     (tie.spec
-    sound_requires
-    quiet_requires
-    returns
-    is_number_requires
-    quiet_requires_2
-    returns_2
-    has_from_requires
-    quiet_requires_3
-    returns_3
-    quiet_requires_4
-    returns_4
-    with_new_requires
-    quiet_requires_5
-    returns_5)
+    sound-requires
+    quiet-requires
+    returns-then-not-sound
+    is_number-requires
+    quiet-requires-then-not-is_number
+    returns-then-not-is_number
+    has_from-requires
+    quiet-requires-then-has_from
+    returns-then-has_from
+    quiet-requires-then-radio-eq-MOST_STORED
+    returns-then-radio-eq-MOST_STORED
+    with_new-next-requires
+    quiet-requires-2
+    returns)

@@ -12,70 +12,65 @@ use Rattle.replies.proofs.put_addressee.Statement.{statement}
 use Rattle.replies.proofs.put_addressee.Tie as tie
 
 written :
-    (c : tie.After-write-digits)
-    → Writes (digits_of c.before.before.before.args.addressee.0) c.before.before.before.args.out.now c.write-digits.new.1.0 c.write-digits.result
-written c = let s = c.before.before.before in digits_writes _ _ _ _ s.requires.0 (omega arith) c.write-digits.ensures
+    (c : tie.After-write_digits-written)
+    → Writes (digits_of c.args.addressee.0) c.args.out.now c.write_digits-written.new.out c.write_digits-written.result
+written c = digits_writes _ _ _ _ c.requires.0 (omega arith) c.write_digits-written.ensures
 
-abbrev start : tie.After-known-told → tie.Start
-start c = c.before.before.before.before.before.before.before.before
-
+abbrev start : tie.In-Count → tie.Start
+start c = c.before.before.before.before.before.before
 digits :
-    (c : tie.After-known-told)
-    → Stands (digits_of (start c).args.addressee.0) (start c).args.out.now c.before.written.given.0.0 c.before.before.before.before.before.write-digits.new.1.0
-digits c = count_arm (written c.before.before.before.before.before) c.before.written.given.1
+    (c : tie.In-Count)
+    → Stands (digits_of (start c).args.addressee.0) (start c).args.out.now c.in-Count.at c.write_digits-written.new.out
+digits c = count_arm (written c.before.before.before) c.in-Count.is
 
-few : (c : tie.After-known-told) → c.before.written.given.0.0 ≤ 15
+few : (c : tie.In-Count) → c.in-Count.at ≤ 15
 few c = omega (arith, (digits c).count, digits_most (start c).args.addressee.0 (start c).requires.0)
 
-write_digits_requires : tie.Need-write-digits-requires
-write_digits_requires c κs = search rules
+write_digits-written-requires : tie.Need-write_digits-written-requires
+write_digits-written-requires c κs = search rules
 
-enum_known_written : tie.Need-enum-known-written
-enum_known_written c = search rules
+enum_known-written : tie.Need-enum_known-written
+enum_known-written c = search rules
 
-same_length : tie.Need-same-length
-same_length c = search rules
+shape_of-out-in_default : tie.Need-shape_of-out-in_default
+shape_of-out-in_default c = search rules
+
+returns-in_default : tie.Need-returns-in_default
+returns-in_default c = other_arm _ (written c.before.before.before) c.in_default.in_default-own.keys2
+
+slice_bounds-put-count : tie.Need-slice_bounds-put-count
+slice_bounds-put-count c = omega (arith, few c.before.before)
+
+slice_bounds-put-start : tie.Need-slice_bounds-put-start
+slice_bounds-put-start c = omega (arith, few c.before.before)
+
+slice_bounds-put-end-2 : tie.Need-slice_bounds-put-end-2
+slice_bounds-put-end-2 c = search rules
+
+put-requires : tie.Need-put-requires
+put-requires c κs = simp (length-take, length-drop) (omega (arith, few c.before.before.before))
+
+overflow_add-result : tie.Need-overflow_add-result
+overflow_add-result c = omega (arith, few c.before.before.before.before.before.before, c.put.ensures.count)
+
+shape_of-out : tie.Need-shape_of-out
+shape_of-out c = search rules
 
 returns : tie.Need-returns
-returns c = other_arm _ (written c.before.before.before) c.match.keys2
-
-slice_aggregate_put : tie.Need-slice-aggregate-put
-slice_aggregate_put c = search rules
-
-sub_put : tie.Need-overflow-sub-put
-sub_put c = omega (arith, few c.before)
-
-part_put_start : tie.Need-slice-bounds-put-start
-part_put_start c = omega (arith, few c.before)
-
-part_put_end : tie.Need-slice-bounds-put-end
-part_put_end c = search rules
-
-put_requires : tie.Need-put-requires
-put_requires c κs = simp (length-take, length-drop) (omega (arith, few c.before.before))
-
-add_result : tie.Need-overflow-add-result
-add_result c = let q = c.before.before in omega (arith, few q.before.before.before, q.put.ensures.count)
-
-same_length_2 : tie.Need-same-length-2
-same_length_2 c = search rules
-
-returns_2 : tie.Need-returns-2
-returns_2 c = let q = c.before.before in stands_behind (digits q.before.before.before) q.put.ensures
+returns c = stands_behind (digits c.before.before.before.before.before.before) c.put.ensures
 
 pub put_addressee_spec : {M : Type 1} → statement M
 put_addressee_spec =
     tie.close
     (tie.spec
-    write_digits_requires
-    enum_known_written
-    same_length
-    returns
-    slice_aggregate_put
-    sub_put
-    part_put_start
-    part_put_end
-    put_requires
-    add_result
-    same_length_2
-    returns_2)
+    write_digits-written-requires
+    enum_known-written
+    shape_of-out-in_default
+    returns-in_default
+    slice_bounds-put-count
+    slice_bounds-put-start
+    slice_bounds-put-end-2
+    put-requires
+    overflow_add-result
+    shape_of-out
+    returns)

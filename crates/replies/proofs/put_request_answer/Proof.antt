@@ -8,95 +8,87 @@ use borrow.Author.Rules.{rules}
 use Rattle.replies.proofs.put_request_answer.Statement.{statement}
 use Rattle.replies.proofs.put_request_answer.Tie as tie
 
-text : (c : tie.After-known-told3) → Text most_reply_octets c.before.answer3.given.0.1.0 c.before.before.before.before.before.args.reply.now
-text c = rw c.before.answer3.given.1 at c.before.before.before.before.before.requires.0
+text : (c : tie.In-Outcome) → Text most_reply_octets c.in-Outcome.count c.args.reply.now
+text c = rw c.in-Outcome.is at c.requires.0
 
-text_2 : (c : tie.After-known-told4) → Text most_reply_octets c.before.answer4.given.0.1.0 c.before.before.before.before.before.args.reply.now
-text_2 c = rw c.before.answer4.given.1 at c.before.before.before.before.before.requires.0
+text_2 : (c : tie.In-Held) → Text most_reply_octets c.in-Held.count c.args.reply.now
+text_2 c = rw c.in-Held.is at c.requires.0
 
-enum_known_answer : tie.Need-enum-known-answer
-enum_known_answer c = search rules
+enum_known-answer : tie.Need-enum_known-answer
+enum_known-answer c = search rules
 
-slice_aggregate_put_numbered : tie.Need-slice-aggregate-put-numbered
-slice_aggregate_put_numbered c = search rules
+put_numbered-requires : tie.Need-put_numbered-requires
+put_numbered-requires c κs = search rules
 
-put_numbered_requires : tie.Need-put-numbered-requires
-put_numbered_requires c κs = search rules
+enum_known-answer-in-Error-1 : tie.Need-enum_known-answer-in-Error-1
+enum_known-answer-in-Error-1 c = search rules
 
-enum_known_answer_2 : tie.Need-enum-known-answer-2
-enum_known_answer_2 c = search rules
+put_numbered-requires-in-Error : tie.Need-put_numbered-requires-in-Error
+put_numbered-requires-in-Error c κs = search rules
 
-slice_aggregate_put_numbered_2 : tie.Need-slice-aggregate-put-numbered-2
-slice_aggregate_put_numbered_2 c = search rules
+enum_known-answer-in-Outcome-1 : tie.Need-enum_known-answer-in-Outcome-1
+enum_known-answer-in-Outcome-1 c = search rules
 
-put_numbered_requires_2 : tie.Need-put-numbered-requires-2
-put_numbered_requires_2 c κs = search rules
+slice_bounds-put_text-end : tie.Need-slice_bounds-put_text-end
+slice_bounds-put_text-end c = text_count (text c)
 
-enum_known_answer_3 : tie.Need-enum-known-answer-3
-enum_known_answer_3 c = search rules
-
-slice_aggregate_put_text : tie.Need-slice-aggregate-put-text
-slice_aggregate_put_text c = text_count (text c.before)
-
-put_text_requires : tie.Need-put-text-requires
+put_text-requires : tie.Need-put_text-requires
 unfolding chars_in
-put_text_requires c κs = let t = text c.before.before in (t.reads, text_room _ t (omega arith))
+put_text-requires c κs = let t = text c.before in (t.reads, text_room _ t (omega arith))
 
-enum_known_answer_4 : tie.Need-enum-known-answer-4
-enum_known_answer_4 c = search rules
+enum_known-answer-in-Held-1 : tie.Need-enum_known-answer-in-Held-1
+enum_known-answer-in-Held-1 c = search rules
 
-slice_aggregate_put_text_2 : tie.Need-slice-aggregate-put-text-2
-slice_aggregate_put_text_2 c = text_count (text_2 c.before)
+slice_bounds-put_text-end-in-Held : tie.Need-slice_bounds-put_text-end-in-Held
+slice_bounds-put_text-end-in-Held c = text_count (text_2 c)
 
-put_text_requires_2 : tie.Need-put-text-requires-2
+put_text-requires-in-Held : tie.Need-put_text-requires-in-Held
 unfolding chars_in
-put_text_requires_2 c κs = let t = text_2 c.before.before in (t.reads, text_room _ t (omega arith))
+put_text-requires-in-Held c κs = let t = text_2 c.before in (t.reads, text_room _ t (omega arith))
 
-same_length : tie.Need-same-length
-same_length c = search rules
+shape_of-out-in-Refused : tie.Need-shape_of-out-in-Refused
+shape_of-out-in-Refused c = search rules
 
-returns : tie.Need-returns
-returns c = let p = c.before.before in rw p.before.before.before.before.answer.given.1 p.put-numbered.ensures
+returns-in-Refused : tie.Need-returns-in-Refused
+returns-in-Refused c = rw c.in-Refused.is c.put_numbered.ensures
 
-same_length_2 : tie.Need-same-length-2
-same_length_2 c = search rules
+shape_of-out-in-Error : tie.Need-shape_of-out-in-Error
+shape_of-out-in-Error c = search rules
 
-returns_2 : tie.Need-returns-2
-returns_2 c = let p = c.before.before in rw p.before.before.before.before.answer2.given.1 p.put-numbered2.ensures
+returns-in-Error : tie.Need-returns-in-Error
+returns-in-Error c = rw c.in-Error.is c.put_numbered-in-Error.ensures
 
-same_length_3 : tie.Need-same-length-3
-same_length_3 c = search rules
+shape_of-out-in-Outcome : tie.Need-shape_of-out-in-Outcome
+shape_of-out-in-Outcome c = search rules
 
-returns_3 : tie.Need-returns-3
-returns_3 c = let p = c.before.before in rw p.before.before.before.before.answer3.given.1 p.put-text.ensures
+returns-in-Outcome : tie.Need-returns-in-Outcome
+returns-in-Outcome c = rw c.in-Outcome.is c.put_text.ensures
 
-same_length_4 : tie.Need-same-length-4
-same_length_4 c = search rules
+shape_of-out-in-Held : tie.Need-shape_of-out-in-Held
+shape_of-out-in-Held c = search rules
 
-returns_4 : tie.Need-returns-4
-returns_4 c = let p = c.before.before in rw p.before.before.before.before.answer4.given.1 p.put-text2.ensures
+returns-in-Held : tie.Need-returns-in-Held
+returns-in-Held c = rw c.in-Held.is c.put_text-in-Held.ensures
 
 pub put_request_answer_spec : {M : Type 1} → statement M
 put_request_answer_spec =
     tie.close
     (tie.spec
-    enum_known_answer
-    slice_aggregate_put_numbered
-    put_numbered_requires
-    enum_known_answer_2
-    slice_aggregate_put_numbered_2
-    put_numbered_requires_2
-    enum_known_answer_3
-    slice_aggregate_put_text
-    put_text_requires
-    enum_known_answer_4
-    slice_aggregate_put_text_2
-    put_text_requires_2
-    same_length
-    returns
-    same_length_2
-    returns_2
-    same_length_3
-    returns_3
-    same_length_4
-    returns_4)
+    enum_known-answer
+    put_numbered-requires
+    enum_known-answer-in-Error-1
+    put_numbered-requires-in-Error
+    enum_known-answer-in-Outcome-1
+    slice_bounds-put_text-end
+    put_text-requires
+    enum_known-answer-in-Held-1
+    slice_bounds-put_text-end-in-Held
+    put_text-requires-in-Held
+    shape_of-out-in-Refused
+    returns-in-Refused
+    shape_of-out-in-Error
+    returns-in-Error
+    shape_of-out-in-Outcome
+    returns-in-Outcome
+    shape_of-out-in-Held
+    returns-in-Held)

@@ -3,87 +3,71 @@ use borrow.Author.Rules.{rules}
 use Rattle.replies.proofs.put_result_answer.Statement.{statement}
 use Rattle.replies.proofs.put_result_answer.Tie as tie
 
-enum_known_answer : tie.Need-enum-known-answer
-enum_known_answer c = search rules
+enum_known-answer : tie.Need-enum_known-answer
+enum_known-answer c = search rules
 
-slice_aggregate_put_numbered : tie.Need-slice-aggregate-put-numbered
-slice_aggregate_put_numbered c = search rules
+put_numbered-requires : tie.Need-put_numbered-requires
+put_numbered-requires c κs = search rules
 
-put_numbered_requires : tie.Need-put-numbered-requires
-put_numbered_requires c κs = search rules
+enum_told-1 : tie.Need-enum_told-1
+enum_told-1 c = search rules
 
-enum_told : tie.Need-enum-told
-enum_told c = search rules
+put-requires : tie.Need-put-requires
+put-requires c κs = search rules
 
-slice_aggregate_put : tie.Need-slice-aggregate-put
-slice_aggregate_put c = search rules
+enum_told-in-Dropped : tie.Need-enum_told-in-Dropped
+enum_told-in-Dropped c = search rules
 
-put_requires : tie.Need-put-requires
-put_requires c κs = search rules
+put-requires-in-Dropped : tie.Need-put-requires-in-Dropped
+put-requires-in-Dropped c κs = search rules
 
-enum_told_2 : tie.Need-enum-told-2
-enum_told_2 c = search rules
+enum_told-in-Again : tie.Need-enum_told-in-Again
+enum_told-in-Again c = search rules
 
-slice_aggregate_put_2 : tie.Need-slice-aggregate-put-2
-slice_aggregate_put_2 c = search rules
+put-requires-in-Again : tie.Need-put-requires-in-Again
+put-requires-in-Again c κs = search rules
 
-put_requires_2 : tie.Need-put-requires-2
-put_requires_2 c κs = search rules
+shape_of-out-in-Refused : tie.Need-shape_of-out-in-Refused
+shape_of-out-in-Refused c = search rules
 
-enum_told_3 : tie.Need-enum-told-3
-enum_told_3 c = search rules
+returns-in-Refused : tie.Need-returns-in-Refused
+returns-in-Refused c = rw c.in-Refused.is c.put_numbered.ensures
 
-slice_aggregate_put_3 : tie.Need-slice-aggregate-put-3
-slice_aggregate_put_3 c = search rules
+shape_of-out-in-Delivered : tie.Need-shape_of-out-in-Delivered
+shape_of-out-in-Delivered c = search rules
 
-put_requires_3 : tie.Need-put-requires-3
-put_requires_3 c κs = search rules
+returns-in-Delivered : tie.Need-returns-in-Delivered
+returns-in-Delivered c = rw c.in-Delivered.is c.put.ensures
 
-same_length : tie.Need-same-length
-same_length c = search rules
+shape_of-out-in-Dropped : tie.Need-shape_of-out-in-Dropped
+shape_of-out-in-Dropped c = search rules
 
-returns : tie.Need-returns
-returns c = let p = c.before.before in rw p.before.before.before.before.answer.given.1 p.put-numbered.ensures
+returns-in-Dropped : tie.Need-returns-in-Dropped
+returns-in-Dropped c = rw c.in-Dropped.is c.put-in-Dropped.ensures
 
-same_length_2 : tie.Need-same-length-2
-same_length_2 c = search rules
+shape_of-out-in-Again : tie.Need-shape_of-out-in-Again
+shape_of-out-in-Again c = search rules
 
-returns_2 : tie.Need-returns-2
-returns_2 c = let p = c.before.before in rw p.before.before.before.enum_told.given.1 p.put.ensures
-
-same_length_3 : tie.Need-same-length-3
-same_length_3 c = search rules
-
-returns_3 : tie.Need-returns-3
-returns_3 c = let p = c.before.before in rw p.before.before.before.enum-told2.given.1 p.put2.ensures
-
-same_length_4 : tie.Need-same-length-4
-same_length_4 c = search rules
-
-returns_4 : tie.Need-returns-4
-returns_4 c = let p = c.before.before in rw p.before.before.before.enum-told3.given.1 p.put3.ensures
+returns-in-Again : tie.Need-returns-in-Again
+returns-in-Again c = rw c.in-Again.is c.put-in-Again.ensures
 
 pub put_result_answer_spec : {M : Type 1} → statement M
 put_result_answer_spec =
     tie.close
     (tie.spec
-    enum_known_answer
-    slice_aggregate_put_numbered
-    put_numbered_requires
-    enum_told
-    slice_aggregate_put
-    put_requires
-    enum_told_2
-    slice_aggregate_put_2
-    put_requires_2
-    enum_told_3
-    slice_aggregate_put_3
-    put_requires_3
-    same_length
-    returns
-    same_length_2
-    returns_2
-    same_length_3
-    returns_3
-    same_length_4
-    returns_4)
+    enum_known-answer
+    put_numbered-requires
+    enum_told-1
+    put-requires
+    enum_told-in-Dropped
+    put-requires-in-Dropped
+    enum_told-in-Again
+    put-requires-in-Again
+    shape_of-out-in-Refused
+    returns-in-Refused
+    shape_of-out-in-Delivered
+    returns-in-Delivered
+    shape_of-out-in-Dropped
+    returns-in-Dropped
+    shape_of-out-in-Again
+    returns-in-Again)

@@ -17,86 +17,77 @@ use Rattle.replies.proofs.put_sending_answer.Statement.{statement}
 use Rattle.replies.proofs.put_sending_answer.Tie as tie
 
 sendable :
-    (c : tie.After-known-told2)
-    → (is_number c.before.answer2.given.0.0.0 ≡ true) × Text most_notice_octets c.before.answer2.given.0.1.0 c.before.before.before.before.before.args.notice.now
-sendable c = rw c.before.answer2.given.1 at c.before.before.before.before.before.requires.0
+    (c : tie.In-Sent)
+    → (is_number c.in-Sent.addressee.0 ≡ true) × Text most_notice_octets c.in-Sent.count c.args.notice.now
+sendable c = rw c.in-Sent.is at c.requires.0
 
 -- an addressee's 15 digits and the space
-few : (c : tie.After-put-addressee) → c.put-addressee.result ≤ 16
+few : (c : tie.After-put_addressee-at) → c.put_addressee-at.result ≤ 16
 few c =
-    let k = c.before.before in
-    let m = k.before.answer2.given.0.0.0 in
-    omega (arith, c.put-addressee.ensures.count, length-append (digits_of m) (ascii " "), digits_most m (sendable k).0)
+    let m = c.in-Sent.addressee.0 in
+    omega (arith, c.put_addressee-at.ensures.count, length-append (digits_of m) (ascii " "), digits_most m (sendable c.before.before).0)
 
-enum_known_answer : tie.Need-enum-known-answer
-enum_known_answer c = search rules
+enum_known-answer : tie.Need-enum_known-answer
+enum_known-answer c = search rules
 
-slice_aggregate_put_numbered : tie.Need-slice-aggregate-put-numbered
-slice_aggregate_put_numbered c = search rules
+put_numbered-requires : tie.Need-put_numbered-requires
+put_numbered-requires c κs = search rules
 
-put_numbered_requires : tie.Need-put-numbered-requires
-put_numbered_requires c κs = search rules
+enum_known-answer-in-Sent-1 : tie.Need-enum_known-answer-in-Sent-1
+enum_known-answer-in-Sent-1 c = search rules
 
-enum_known_answer_2 : tie.Need-enum-known-answer-2
-enum_known_answer_2 c = search rules
+put_addressee-at-requires : tie.Need-put_addressee-at-requires
+put_addressee-at-requires c κs = ((sendable c.before).0, omega arith)
 
-put_addressee_requires : tie.Need-put-addressee-requires
-put_addressee_requires c κs = ((sendable c.before).0, omega arith)
+slice_bounds-put_text-end : tie.Need-slice_bounds-put_text-end
+slice_bounds-put_text-end c = text_count (sendable c.before.before.before.before).1
 
-slice_aggregate_put_text : tie.Need-slice-aggregate-put-text
-slice_aggregate_put_text c = text_count (sendable c.before.before.before.before.before).1
+slice_bounds-put_text-count : tie.Need-slice_bounds-put_text-count
+slice_bounds-put_text-count c = omega (arith, few c.before.before)
 
-sub_put_text : tie.Need-overflow-sub-put-text
-sub_put_text c = omega (arith, few c.before.before.before)
+slice_bounds-put_text-start : tie.Need-slice_bounds-put_text-start
+slice_bounds-put_text-start c = omega (arith, few c.before.before)
 
-part_put_text_start : tie.Need-slice-bounds-put-text-start
-part_put_text_start c = omega (arith, few c.before.before.before)
+slice_bounds-put_text-end-in-Sent : tie.Need-slice_bounds-put_text-end-in-Sent
+slice_bounds-put_text-end-in-Sent c = search rules
 
-part_put_text_end : tie.Need-slice-bounds-put-text-end
-part_put_text_end c = search rules
-
-put_text_requires : tie.Need-put-text-requires
+put_text-requires : tie.Need-put_text-requires
 unfolding chars_in
-put_text_requires c κs = let t = (sendable c.before.before.before.before.before.before).1 in (t.reads, text_room _ t (simp (length-take, length-drop) (omega (arith, few c.before.before.before.before))))
+put_text-requires c κs = let t = (sendable c.before.before.before.before.before).1 in (t.reads, text_room _ t (simp (length-take, length-drop) (omega (arith, few c.before.before.before))))
 
-add_result : tie.Need-overflow-add-result
+overflow_add-result : tie.Need-overflow_add-result
 unfolding chars_in
-add_result c =
-    let q = c.before.before in
-    let p = q.before.before.before.before.before in
-    omega (arith, few p, q.put-text.ensures.count, text_most (sendable p.before.before).1)
+overflow_add-result c =
+    omega (arith, few c.before.before.before.before.before.before, c.put_text.ensures.count, text_most (sendable c.before.before.before.before.before.before.before.before).1)
 
-same_length : tie.Need-same-length
-same_length c = search rules
+shape_of-out-in-Refused : tie.Need-shape_of-out-in-Refused
+shape_of-out-in-Refused c = search rules
 
-returns : tie.Need-returns
-returns c = let p = c.before.before in rw p.before.before.before.before.answer.given.1 p.put-numbered.ensures
+returns-in-Refused : tie.Need-returns-in-Refused
+returns-in-Refused c = rw c.in-Refused.is c.put_numbered.ensures
 
-same_length_2 : tie.Need-same-length-2
-same_length_2 c = search rules
+shape_of-out-in-Sent : tie.Need-shape_of-out-in-Sent
+shape_of-out-in-Sent c = search rules
 
-returns_2 : tie.Need-returns-2
-returns_2 c =
-    let q = c.before.before in
-    let p = q.before.before.before.before.before in
-    rw p.before.before.before.answer2.given.1 (rw append_assoc at (stands_behind p.put-addressee.ensures q.put-text.ensures))
+returns-in-Sent : tie.Need-returns-in-Sent
+returns-in-Sent c =
+    rw c.in-Sent.is (rw append_assoc at (stands_behind c.put_addressee-at.ensures c.put_text.ensures))
 
 pub put_sending_answer_spec : {M : Type 1} → statement M
 put_sending_answer_spec =
     tie.close
     (tie.spec
-    enum_known_answer
-    slice_aggregate_put_numbered
-    put_numbered_requires
-    enum_known_answer_2
-    put_addressee_requires
-    slice_aggregate_put_text
-    sub_put_text
-    part_put_text_start
-    part_put_text_end
-    put_text_requires
-    add_result
-    same_length
-    returns
-    same_length_2
-    returns_2)
+    enum_known-answer
+    put_numbered-requires
+    enum_known-answer-in-Sent-1
+    put_addressee-at-requires
+    slice_bounds-put_text-end
+    slice_bounds-put_text-count
+    slice_bounds-put_text-start
+    slice_bounds-put_text-end-in-Sent
+    put_text-requires
+    overflow_add-result
+    shape_of-out-in-Refused
+    returns-in-Refused
+    shape_of-out-in-Sent
+    returns-in-Sent)

@@ -6,29 +6,35 @@ use Rattle.replies.proofs.put_text.Statement.{statement}
 use Rattle.replies.proofs.put_text.Tie as tie
 
 written :
-    (c : tie.After-unpack)
-    → Writes (unpacked c.before.before.before.before.args.octets.now) c.before.before.before.before.args.out.now c.unpack.new.1.0 c.unpack.result
-written c = let s = c.before.before.before.before in text_writes _ _ _ _ s.requires.0 s.requires.1 c.unpack.ensures
+    (c : tie.After-unpack-written)
+    → Writes (unpacked c.args.octets.now) c.args.out.now c.unpack-written.new.out c.unpack-written.result
+written c = text_writes _ _ _ _ c.requires.0 c.requires.1 c.unpack-written.ensures
 
-unpack_requires : tie.Need-unpack-requires
-unpack_requires c κs = search rules
+unpack-written-requires : tie.Need-unpack-written-requires
+unpack-written-requires c κs = search rules
 
-enum_known_written : tie.Need-enum-known-written
-enum_known_written c = search rules
+enum_known-written : tie.Need-enum_known-written
+enum_known-written c = search rules
 
-same_length : tie.Need-same-length
-same_length c = search rules
+shape_of-out-in_default : tie.Need-shape_of-out-in_default
+shape_of-out-in_default c = search rules
+
+returns-in_default : tie.Need-returns-in_default
+returns-in_default c = other_arm _ (written c.before.before.before) c.in_default.in_default-own.keys2
+
+shape_of-out : tie.Need-shape_of-out
+shape_of-out c = search rules
 
 returns : tie.Need-returns
-returns c = other_arm _ (written c.before.before.before) c.match.keys2
-
-same_length_2 : tie.Need-same-length-2
-same_length_2 c = search rules
-
-returns_2 : tie.Need-returns-2
-returns_2 c = count_arm (written c.before.before.before.before.before) c.before.written.given.1
+returns c = count_arm (written c.before.before.before) c.in-Count.is
 
 pub put_text_spec : {M : Type 1} → statement M
 put_text_spec =
     tie.close
-    (tie.spec unpack_requires enum_known_written same_length returns same_length_2 returns_2)
+    (tie.spec
+    unpack-written-requires
+    enum_known-written
+    shape_of-out-in_default
+    returns-in_default
+    shape_of-out
+    returns)

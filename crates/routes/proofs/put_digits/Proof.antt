@@ -8,65 +8,60 @@ use borrow.Author.Rules.{rules}
 use Rattle.routes.proofs.put_digits.Statement.{statement}
 use Rattle.routes.proofs.put_digits.Tie as tie
 
-abbrev start : tie.After-put-arg2 → tie.Start
+abbrev start : tie.After-put-arg-2-1 → tie.Start
 start c = c.before.before.before.before.before
-
 -- both fit
-fits : (c : tie.After-put-arg2) → length (start c).args.home.now + length (start c).args.asked.now ≤ length (start c).args.out.now
-fits c = let s = start c in both_fit s.args.home.now s.args.asked.now (length s.args.out.now) s.args.coded c.before.if1.false s.pre
+fits : (c : tie.After-put-arg-2-1) → length (start c).args.home.now + length (start c).args.asked.now ≤ length (start c).args.out.now
+fits c = let s = start c in both_fit s.args.home.now s.args.asked.now (length s.args.out.now) s.args.coded c.if-coded.false s.requires
 
-put_requires : tie.Need-put-requires
-put_requires c κs = let s = c.before.before.before.before.before in rw c.before.if1.true at s.requires
+put-requires : tie.Need-put-requires
+put-requires c κs = rw c.if-coded.true at c.requires
 
-same_length : tie.Need-same-length
-same_length c = search rules
+shape_of-out-then-coded : tie.Need-shape_of-out-then-coded
+shape_of-out-then-coded c = search rules
+
+returns-then-coded : tie.Need-returns-then-coded
+returns-then-coded c = rw c.if-coded.true c.put.ensures
+
+put-at-requires : tie.Need-put-at-requires
+put-at-requires c κs = omega (arith, fits c)
+
+slice_bounds-put-count : tie.Need-slice_bounds-put-count
+slice_bounds-put-count c = stands_within c.put-at.ensures
+
+slice_bounds-put-start : tie.Need-slice_bounds-put-start
+slice_bounds-put-start c = stands_within c.put-at.ensures
+
+slice_bounds-put-end : tie.Need-slice_bounds-put-end
+slice_bounds-put-end c = search rules
+
+put-requires-2 : tie.Need-put-requires-2
+put-requires-2 c κs =
+    omega (arith, stands_room c.put-at.ensures, c.put-at.ensures.count, fits c.before.before.before.before)
+
+overflow_add-result : tie.Need-overflow_add-result
+overflow_add-result c =
+    omega (arith, c.put-at.ensures.count, c.put-2.ensures.count, fits c.before.before.before.before.before.before.before)
+
+shape_of-out : tie.Need-shape_of-out
+shape_of-out c = search rules
 
 returns : tie.Need-returns
-returns c = let p = c.before.before in rw p.before.before.if1.true p.put.ensures
-
-put_requires_2 : tie.Need-put-requires-2
-put_requires_2 c κs = omega (arith, fits c)
-
-sub_put : tie.Need-overflow-sub-put
-sub_put c = stands_within c.before.before.put2.ensures
-
-part_put_start : tie.Need-slice-bounds-put-start
-part_put_start c = stands_within c.before.before.put2.ensures
-
-part_put_end : tie.Need-slice-bounds-put-end
-part_put_end c = search rules
-
-put_requires_3 : tie.Need-put-requires-3
-put_requires_3 c κs =
-    let p = c.before.before.before in omega (arith, stands_room p.put2.ensures, p.put2.ensures.count, fits p.before)
-
-add_result : tie.Need-overflow-add-result
-add_result c =
-    let q = c.before.before in
-    let p = q.before.before.before.before in
-    omega (arith, p.put2.ensures.count, q.put3.ensures.count, fits p.before)
-
-same_length_2 : tie.Need-same-length-2
-same_length_2 c = search rules
-
-returns_2 : tie.Need-returns-2
-returns_2 c =
-    let q = c.before.before in
-    let p = q.before.before.before.before in
-    rw p.before.before.if1.false (stands_behind p.put2.ensures q.put3.ensures)
+returns c =
+    rw c.if-coded.false (stands_behind c.put-at.ensures c.put-2.ensures)
 
 pub put_digits_spec : {M : Type 1} → statement M
 put_digits_spec =
     tie.close
     (tie.spec
-    put_requires
-    same_length
-    returns
-    put_requires_2
-    sub_put
-    part_put_start
-    part_put_end
-    put_requires_3
-    add_result
-    same_length_2
-    returns_2)
+    put-requires
+    shape_of-out-then-coded
+    returns-then-coded
+    put-at-requires
+    slice_bounds-put-count
+    slice_bounds-put-start
+    slice_bounds-put-end
+    put-requires-2
+    overflow_add-result
+    shape_of-out
+    returns)

@@ -18,9 +18,8 @@ use borrow.Author.Rules.{rules}
 use Rattle.routes.proofs.routing.Statement.{statement}
 use Rattle.routes.proofs.routing.Tie as tie
 
-abbrev start : tie.After-table-sound → tie.Start
+abbrev start : tie.After-table_sound → tie.Start
 start c = c.before.before.before.before
-
 abbrev T : tie.Start → List ℕ
 T s = s.args.table.now
 
@@ -33,123 +32,111 @@ A s = s.args.asked.now
 abbrev full : tie.Start → List ℕ
 full s = with_code_in (H s) s.args.coded (A s)
 
-abbrev s1 : tie.Else1 → tie.Start
+abbrev s1 : tie.Else-not-table_sound → tie.Start
 s1 c = start c.before
 
-abbrev s2 : tie.Else2 → tie.Start
+abbrev s2 : tie.Else-not-is_international_code → tie.Start
 s2 c = s1 c.before.before
 
-abbrev s3 : tie.Else3 → tie.Start
+abbrev s3 : tie.Else-not-are_digits → tie.Start
 s3 c = s2 c.before.before
 
-abbrev s4 : tie.Else4 → tie.Start
+abbrev s4 : tie.Else-is_outside → tie.Start
 s4 c = s3 c.before.before
 
 -- what a passed check says
-sound : (c : tie.Else1) → table_sound (T (s1 c)) ≡ true
-sound c = sym c.before.table-sound.ensures ∙ not-false _ c.if1.false
+sound : (c : tie.Else-not-table_sound) → table_sound (T (s1 c)) ≡ true
+sound c = sym c.table_sound.ensures ∙ not-false _ c.if-not-table_sound.false-raw
 
-known : (c : tie.Else2) → is_international_code (H (s2 c)) ≡ true
-known c = sym c.before.is-international-code.ensures ∙ not-false _ c.if2.false
+known : (c : tie.Else-not-is_international_code) → is_international_code (H (s2 c)) ≡ true
+known c = sym c.is_international_code.ensures ∙ not-false _ c.if-not-is_international_code.false-raw
 
-digits : (c : tie.Else3) → are_digits (A (s3 c)) ≡ true
-digits c = sym c.before.are-digits.ensures ∙ not-false _ c.if3.false
+digits : (c : tie.Else-not-are_digits) → are_digits (A (s3 c)) ≡ true
+digits c = sym c.are_digits.ensures ∙ not-false _ c.if-not-are_digits.false-raw
 
-counted : (c : tie.After-is-outside) → is_outside (length (full (s3 c.before))) ≡ c.is-outside.result
+counted : (c : tie.After-is_outside) → is_outside (length (full (s3 c.before))) ≡ c.is_outside.result
 counted c =
     let s = s3 c.before in
-    ap is_outside (full_length (H s) (A s) (known c.before.before.before) s.args.coded) ∙ sym c.is-outside.ensures
+    ap is_outside (full_length (H s) (A s) (known c.before.before.before) s.args.coded) ∙ sym c.is_outside.ensures
 
-within : (c : tie.Else4) → is_outside (length (full (s4 c))) ≡ false
-within c = counted c.before ∙ c.if4.false
+within : (c : tie.Else-is_outside) → is_outside (length (full (s4 c))) ≡ false
+within c = counted c.before ∙ c.if-is_outside.false
 
-least : (c : tie.Else4) → fewest_digits ≤ length (full (s4 c))
+least : (c : tie.Else-is_outside) → fewest_digits ≤ length (full (s4 c))
 least c = let n = length (full (s4 c)) in ltb-false n fewest_digits (or_neither (ltb n fewest_digits) (ltb most_digits n) (within c)).0
 
-most : (c : tie.Else4) → length (full (s4 c)) ≤ most_digits
+most : (c : tie.Else-is_outside) → length (full (s4 c)) ≤ most_digits
 most c = let n = length (full (s4 c)) in ltb-false most_digits n (or_neither (ltb n fewest_digits) (ltb most_digits n) (within c)).1
 
-table_sound_requires : tie.Need-table-sound-requires
-table_sound_requires c κs = search rules
+table_sound-requires : tie.Need-table_sound-requires
+table_sound-requires c κs = search rules
+
+returns-then-not-table_sound : tie.Need-returns-then-not-table_sound
+returns-then-not-table_sound c = let s = start c.before in sym (refused_2 (T s) (H s) s.args.coded (A s) (sym c.table_sound.ensures ∙ not-true _ c.if-not-table_sound.true-raw))
+
+is_international_code-requires : tie.Need-is_international_code-requires
+is_international_code-requires c κs = search rules
+
+returns-then-not-is_international_code : tie.Need-returns-then-not-is_international_code
+returns-then-not-is_international_code c =
+    let s = s1 c.before.before in
+    sym (error_code (T s) (H s) s.args.coded (A s) (sound c.before.before) (sym c.is_international_code.ensures ∙ not-true _ c.if-not-is_international_code.true-raw))
+
+are_digits-requires : tie.Need-are_digits-requires
+are_digits-requires c κs = search rules
+
+returns-then-not-are_digits : tie.Need-returns-then-not-are_digits
+returns-then-not-are_digits c =
+    let s = s2 c.before.before in
+    sym (error_digit (T s) (H s) s.args.coded (A s) (sound c.before.before.before.before) (known c.before.before) (sym c.are_digits.ensures ∙ not-true _ c.if-not-are_digits.true-raw))
+
+is_outside-requires : tie.Need-is_outside-requires
+is_outside-requires c κs = search rules
+
+returns-then-is_outside : tie.Need-returns-then-is_outside
+returns-then-is_outside c =
+    let s = s3 c.before.before in
+    sym (error_count (T s) (H s) s.args.coded (A s) (sound c.before.before.before.before.before.before) (known c.before.before.before.before) (digits c.before.before) (counted c.before ∙ c.if-is_outside.true))
+
+slice_bounds-put_digits-end : tie.Need-slice_bounds-put_digits-end
+slice_bounds-put_digits-end c = search rules
+
+put_digits-n-requires : tie.Need-put_digits-n-requires
+put_digits-n-requires c κs = omega (arith, most c.before)
+
+slice_bounds-digits-end : tie.Need-slice_bounds-digits-end
+slice_bounds-digits-end c = stands_within c.put_digits-n.ensures
+
+slice_bounds-route-end : tie.Need-slice_bounds-route-end
+slice_bounds-route-end c = c.put_digits-n.ensures.count ∙ ap length (sym (stands_front c.put_digits-n.ensures))
+
+route-requires : tie.Need-route-requires
+route-requires c κs =
+    let s = s4 c.before.before.before.before in
+    (sound c.before.before.before.before.before.before.before.before.before.before, rw (stands_front c.put_digits-n.ensures) (full_digits (H s) (A s) (known c.before.before.before.before.before.before.before.before) s.args.coded (digits c.before.before.before.before.before.before), least c.before.before.before.before, most c.before.before.before.before))
 
 returns : tie.Need-returns
-returns c = let s = start c.before in sym (refused_2 (T s) (H s) s.args.coded (A s) (sym c.before.table-sound.ensures ∙ not-true _ c.if1.true))
-
-is_international_code_requires : tie.Need-is-international-code-requires
-is_international_code_requires c κs = search rules
-
-returns_2 : tie.Need-returns-2
-returns_2 c =
-    let e = c.before.before in
-    let s = s1 e in
-    sym (error_code (T s) (H s) s.args.coded (A s) (sound e) (sym c.before.is-international-code.ensures ∙ not-true _ c.if2.true))
-
-are_digits_requires : tie.Need-are-digits-requires
-are_digits_requires c κs = search rules
-
-returns_3 : tie.Need-returns-3
-returns_3 c =
-    let e = c.before.before in
-    let s = s2 e in
-    sym (error_digit (T s) (H s) s.args.coded (A s) (sound e.before.before) (known e) (sym c.before.are-digits.ensures ∙ not-true _ c.if3.true))
-
-is_outside_requires : tie.Need-is-outside-requires
-is_outside_requires c κs = search rules
-
-returns_4 : tie.Need-returns-4
-returns_4 c =
-    let e = c.before.before in
-    let k = e.before.before in
-    let s = s3 e in
-    sym (error_count (T s) (H s) s.args.coded (A s) (sound k.before.before) (known k) (digits e) (counted c.before ∙ c.if4.true))
-
-slice_aggregate_put_digits : tie.Need-slice-aggregate-put-digits
-slice_aggregate_put_digits c = search rules
-
-put_digits_requires : tie.Need-put-digits-requires
-put_digits_requires c κs = omega (arith, most c.before)
-
-array_share_prefix_digits : tie.Need-array-share-prefix-digits
-array_share_prefix_digits c = stands_within c.before.put-digits.ensures
-
-slice_aggregate_route : tie.Need-slice-aggregate-route
-slice_aggregate_route c = let p = c.before.before in p.put-digits.ensures.count ∙ ap length (sym (stands_front p.put-digits.ensures))
-
-route_requires : tie.Need-route-requires
-route_requires c κs =
-    let p = c.before.before in
-    let e = p.before.before in
-    let d = e.before.before in
-    let k = d.before.before in
-    let s = s4 e in
-    (sound k.before.before, rw (stands_front p.put-digits.ensures) (full_digits (H s) (A s) (known k) s.args.coded (digits d), least e, most e))
-
-returns_5 : tie.Need-returns-5
-returns_5 c =
-    let p = c.before.before.before in
-    let e = p.before.before in
-    let d = e.before.before in
-    let k = d.before.before in
-    let s = s4 e in
+returns c =
+    let s = s4 c.before.before.before.before.before in
     c.route.ensures
-    ∙ ap (λ (l : List ℕ). by_code (H s) l (record_of (T s) (stored_form l))) (stands_front p.put-digits.ensures)
-    ∙ sym (looks (T s) (H s) s.args.coded (A s) (sound k.before.before) (known k) (digits d) (within e))
+    ∙ ap (λ (l : List ℕ). by_code (H s) l (record_of (T s) (stored_form l))) (stands_front c.put_digits-n.ensures)
+    ∙ sym (looks (T s) (H s) s.args.coded (A s) (sound c.before.before.before.before.before.before.before.before.before.before.before) (known c.before.before.before.before.before.before.before.before.before) (digits c.before.before.before.before.before.before.before) (within c.before.before.before.before.before))
 
 pub routing_spec : {M : Type 1} → statement M
 routing_spec =
     tie.close
     (tie.spec
-    table_sound_requires
-    returns
-    is_international_code_requires
-    returns_2
-    are_digits_requires
-    returns_3
-    is_outside_requires
-    returns_4
-    slice_aggregate_put_digits
-    put_digits_requires
-    array_share_prefix_digits
-    slice_aggregate_route
-    route_requires
-    returns_5)
+    table_sound-requires
+    returns-then-not-table_sound
+    is_international_code-requires
+    returns-then-not-is_international_code
+    are_digits-requires
+    returns-then-not-are_digits
+    is_outside-requires
+    returns-then-is_outside
+    slice_bounds-put_digits-end
+    put_digits-n-requires
+    slice_bounds-digits-end
+    slice_bounds-route-end
+    route-requires
+    returns)

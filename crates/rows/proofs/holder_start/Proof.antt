@@ -3,41 +3,41 @@ use borrow.Author.Rules.{rules}
 use Rattle.rows.proofs.holder_start.Statement.{statement}
 use Rattle.rows.proofs.holder_start.Tie as tie
 
-mul_holder : tie.Need-overflow-mul-holder
-mul_holder c = search rules
+overflow_mul-holder : tie.Need-overflow_mul-holder
+overflow_mul-holder c = search rules
 
-add_holder : tie.Need-overflow-add-holder
-add_holder c = search rules
+overflow_add-holder : tie.Need-overflow_add-holder
+overflow_add-holder c = search rules
 
-mul_holder_2 : tie.Need-overflow-mul-holder-2
-mul_holder_2 c = search rules
+offset_bounds-table-row : tie.Need-offset_bounds-table-row
+offset_bounds-table-row c = search rules
 
-shared_slice_read_holder : tie.Need-shared-slice-read-holder
-shared_slice_read_holder c = search rules
+bounds-table-row : tie.Need-bounds-table-row
+bounds-table-row c = search rules
 
-is_from_requires : tie.Need-is-from-requires
-is_from_requires c κs = search rules
+is_from-requires : tie.Need-is_from-requires
+is_from-requires c κs = search rules
+
+returns-then-holder-is_from : tie.Need-returns-then-holder-is_from
+unfolding holder_start
+returns-then-holder-is_from c = rw (rw c.is_from.ensures at c.if-holder-is_from.true)
+
+least_for-requires : tie.Need-least_for-requires
+least_for-requires c κs = search rules
 
 returns : tie.Need-returns
 unfolding holder_start
-returns c = rw (rw c.before.is-from.ensures at c.if1.true)
-
-least_for_requires : tie.Need-least-for-requires
-least_for_requires c κs = search rules
-
-returns_2 : tie.Need-returns-2
-unfolding holder_start
-returns_2 c = rw (rw c.before.before.is-from.ensures at c.before.if1.false) c.least-for.ensures
+returns c = rw (rw c.is_from.ensures at c.if-holder-is_from.false) c.least_for.ensures
 
 pub holder_start_spec : {M : Type 1} → statement M
 holder_start_spec =
     tie.close
     (tie.spec
-    mul_holder
-    add_holder
-    mul_holder_2
-    shared_slice_read_holder
-    is_from_requires
-    returns
-    least_for_requires
-    returns_2)
+    overflow_mul-holder
+    overflow_add-holder
+    offset_bounds-table-row
+    bounds-table-row
+    is_from-requires
+    returns-then-holder-is_from
+    least_for-requires
+    returns)

@@ -6,8 +6,8 @@ use Rattle.rows.specs.Rows.{one}
 use Rattle.rows.proofs.one_if.Statement.{statement}
 use Rattle.rows.proofs.one_if.Tie as tie
 
-cast_result : tie.Need-overflow-cast-result
-cast_result c = search rules
+overflow_cast-result : tie.Need-overflow_cast-result
+overflow_cast-result c = search rules
 
 returns : tie.Need-returns
 returns c = go c.args.so
@@ -17,4 +17,4 @@ returns c = go c.args.so
     go false = refl
 
 pub one_if_spec : {M : Type 1} → statement M
-one_if_spec = tie.close (tie.spec cast_result returns)
+one_if_spec = tie.close (tie.spec overflow_cast-result returns)

@@ -8,127 +8,127 @@ use borrow.Author.Rules.{rules}
 use Rattle.rows.proofs.put_row.Statement.{statement}
 use Rattle.rows.proofs.put_row.Tie as tie
 
-mul_at : tie.Need-overflow-mul-at
-mul_at c = search rules
+overflow_mul-at : tie.Need-overflow_mul-at
+overflow_mul-at c = search rules
 
-array_read_table : tie.Need-array-read-table
-array_read_table c = search rules
+bounds-words-0 : tie.Need-bounds-words-0
+bounds-words-0 c = search rules
 
-mul_table : tie.Need-overflow-mul-table
-mul_table c = search rules
+offset_bounds-table-at : tie.Need-offset_bounds-table-at
+offset_bounds-table-at c = search rules
 
-slice_write_table : tie.Need-slice-write-table
-slice_write_table c = search rules
+bounds-table-at : tie.Need-bounds-table-at
+bounds-table-at c = search rules
 
-array_read_table_2 : tie.Need-array-read-table-2
-array_read_table_2 c = search rules
+bounds-words-1 : tie.Need-bounds-words-1
+bounds-words-1 c = search rules
 
-add_table : tie.Need-overflow-add-table
-add_table c = search rules
+overflow_add-table : tie.Need-overflow_add-table
+overflow_add-table c = search rules
 
-mul_table_2 : tie.Need-overflow-mul-table-2
-mul_table_2 c = search rules
+offset_bounds-table-at-2 : tie.Need-offset_bounds-table-at-2
+offset_bounds-table-at-2 c = search rules
 
-slice_write_table_2 : tie.Need-slice-write-table-2
-slice_write_table_2 c = simp length-set (omega arith)
+bounds-table-at-2 : tie.Need-bounds-table-at-2
+bounds-table-at-2 c = simp length-set (omega arith)
 
-array_read_table_3 : tie.Need-array-read-table-3
-array_read_table_3 c = search rules
+bounds-words-2 : tie.Need-bounds-words-2
+bounds-words-2 c = search rules
 
-add_table_2 : tie.Need-overflow-add-table-2
-add_table_2 c = search rules
+overflow_add-table-2 : tie.Need-overflow_add-table-2
+overflow_add-table-2 c = search rules
 
-mul_table_3 : tie.Need-overflow-mul-table-3
-mul_table_3 c = search rules
+offset_bounds-table-at-3 : tie.Need-offset_bounds-table-at-3
+offset_bounds-table-at-3 c = search rules
 
-slice_write_table_3 : tie.Need-slice-write-table-3
-slice_write_table_3 c = simp length-set (omega arith)
+bounds-table-at-3 : tie.Need-bounds-table-at-3
+bounds-table-at-3 c = simp length-set (omega arith)
 
-array_read_table_4 : tie.Need-array-read-table-4
-array_read_table_4 c = search rules
+bounds-words-3 : tie.Need-bounds-words-3
+bounds-words-3 c = search rules
 
-add_table_3 : tie.Need-overflow-add-table-3
-add_table_3 c = search rules
+overflow_add-table-3 : tie.Need-overflow_add-table-3
+overflow_add-table-3 c = search rules
 
-mul_table_4 : tie.Need-overflow-mul-table-4
-mul_table_4 c = search rules
+offset_bounds-table-at-4 : tie.Need-offset_bounds-table-at-4
+offset_bounds-table-at-4 c = search rules
 
-slice_write_table_4 : tie.Need-slice-write-table-4
-slice_write_table_4 c = simp length-set (omega arith)
+bounds-table-at-4 : tie.Need-bounds-table-at-4
+bounds-table-at-4 c = simp length-set (omega arith)
 
-array_read_table_5 : tie.Need-array-read-table-5
-array_read_table_5 c = search rules
+bounds-words-4 : tie.Need-bounds-words-4
+bounds-words-4 c = search rules
 
-add_table_4 : tie.Need-overflow-add-table-4
-add_table_4 c = search rules
+overflow_add-table-4 : tie.Need-overflow_add-table-4
+overflow_add-table-4 c = search rules
 
-mul_table_5 : tie.Need-overflow-mul-table-5
-mul_table_5 c = search rules
+offset_bounds-table-at-5 : tie.Need-offset_bounds-table-at-5
+offset_bounds-table-at-5 c = search rules
 
-slice_write_table_5 : tie.Need-slice-write-table-5
-slice_write_table_5 c = simp length-set (omega arith)
+bounds-table-at-5 : tie.Need-bounds-table-at-5
+bounds-table-at-5 c = simp length-set (omega arith)
 
-array_read_table_6 : tie.Need-array-read-table-6
-array_read_table_6 c = search rules
+bounds-words-5 : tie.Need-bounds-words-5
+bounds-words-5 c = search rules
 
-add_table_5 : tie.Need-overflow-add-table-5
-add_table_5 c = search rules
+overflow_add-table-5 : tie.Need-overflow_add-table-5
+overflow_add-table-5 c = search rules
 
-mul_table_6 : tie.Need-overflow-mul-table-6
-mul_table_6 c = search rules
+offset_bounds-table-at-6 : tie.Need-offset_bounds-table-at-6
+offset_bounds-table-at-6 c = search rules
 
-slice_write_table_6 : tie.Need-slice-write-table-6
-slice_write_table_6 c = simp length-set (omega arith)
+bounds-table-at-6 : tie.Need-bounds-table-at-6
+bounds-table-at-6 c = simp length-set (omega arith)
 
-array_read_table_7 : tie.Need-array-read-table-7
-array_read_table_7 c = search rules
+bounds-words-6 : tie.Need-bounds-words-6
+bounds-words-6 c = search rules
 
-add_table_6 : tie.Need-overflow-add-table-6
-add_table_6 c = search rules
+overflow_add-table-6 : tie.Need-overflow_add-table-6
+overflow_add-table-6 c = search rules
 
-mul_table_7 : tie.Need-overflow-mul-table-7
-mul_table_7 c = search rules
+offset_bounds-table-at-7 : tie.Need-offset_bounds-table-at-7
+offset_bounds-table-at-7 c = search rules
 
-slice_write_table_7 : tie.Need-slice-write-table-7
-slice_write_table_7 c = simp length-set (omega arith)
+bounds-table-at-7 : tie.Need-bounds-table-at-7
+bounds-table-at-7 c = simp length-set (omega arith)
 
-same_length : tie.Need-same-length
-same_length c = simp length-set
+shape_of-table : tie.Need-shape_of-table
+shape_of-table c = simp length-set
 
 returns : tie.Need-returns
-returns c = seven_stores c.args.table.now (row_words * c.args.i) c.args.t3 (search rules)
+returns c = seven_stores c.args.table.now (row_words * c.args.i) c.args.words (search rules)
 
 pub put_row_spec : {M : Type 1} → statement M
 put_row_spec =
     tie.close
     (tie.spec
-    mul_at
-    array_read_table
-    mul_table
-    slice_write_table
-    array_read_table_2
-    add_table
-    mul_table_2
-    slice_write_table_2
-    array_read_table_3
-    add_table_2
-    mul_table_3
-    slice_write_table_3
-    array_read_table_4
-    add_table_3
-    mul_table_4
-    slice_write_table_4
-    array_read_table_5
-    add_table_4
-    mul_table_5
-    slice_write_table_5
-    array_read_table_6
-    add_table_5
-    mul_table_6
-    slice_write_table_6
-    array_read_table_7
-    add_table_6
-    mul_table_7
-    slice_write_table_7
-    same_length
+    overflow_mul-at
+    bounds-words-0
+    offset_bounds-table-at
+    bounds-table-at
+    bounds-words-1
+    overflow_add-table
+    offset_bounds-table-at-2
+    bounds-table-at-2
+    bounds-words-2
+    overflow_add-table-2
+    offset_bounds-table-at-3
+    bounds-table-at-3
+    bounds-words-3
+    overflow_add-table-3
+    offset_bounds-table-at-4
+    bounds-table-at-4
+    bounds-words-4
+    overflow_add-table-4
+    offset_bounds-table-at-5
+    bounds-table-at-5
+    bounds-words-5
+    overflow_add-table-5
+    offset_bounds-table-at-6
+    bounds-table-at-6
+    bounds-words-6
+    overflow_add-table-6
+    offset_bounds-table-at-7
+    bounds-table-at-7
+    shape_of-table
     returns)

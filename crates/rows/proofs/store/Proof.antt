@@ -5,106 +5,104 @@ use Rattle.rows.proofs.Rows.{six_stores}
 use Rattle.rows.proofs.store.Statement.{statement}
 use Rattle.rows.proofs.store.Tie as tie
 
-mul_at : tie.Need-overflow-mul-at
-mul_at c = search rules
+overflow_mul-at : tie.Need-overflow_mul-at
+overflow_mul-at c = search rules
 
-phase_of_requires : tie.Need-phase-of-requires
-phase_of_requires c κs = search rules
+phase_of-phase-requires : tie.Need-phase_of-phase-requires
+phase_of-phase-requires c κs = search rules
 
-second_of_requires : tie.Need-second-of-requires
-second_of_requires c κs = search rules
+second_of-second-requires : tie.Need-second_of-second-requires
+second_of-second-requires c κs = search rules
 
-one_if_requires : tie.Need-one-if-requires
-one_if_requires c κs = search rules
+one_if-requires : tie.Need-one_if-requires
+one_if-requires c κs = search rules
 
-add_table : tie.Need-overflow-add-table
-add_table c = search rules
+overflow_add-table : tie.Need-overflow_add-table
+overflow_add-table c = search rules
 
-mul_table : tie.Need-overflow-mul-table
-mul_table c = search rules
+offset_bounds-table-at : tie.Need-offset_bounds-table-at
+offset_bounds-table-at c = search rules
 
-slice_write_table : tie.Need-slice-write-table
-slice_write_table c = search rules
+bounds-table-at : tie.Need-bounds-table-at
+bounds-table-at c = search rules
 
-add_table_2 : tie.Need-overflow-add-table-2
-add_table_2 c = search rules
+overflow_add-table-2 : tie.Need-overflow_add-table-2
+overflow_add-table-2 c = search rules
 
-mul_table_2 : tie.Need-overflow-mul-table-2
-mul_table_2 c = search rules
+offset_bounds-table-at-2 : tie.Need-offset_bounds-table-at-2
+offset_bounds-table-at-2 c = search rules
 
-slice_write_table_2 : tie.Need-slice-write-table-2
-slice_write_table_2 c = simp length-set (omega arith)
+bounds-table-at-2 : tie.Need-bounds-table-at-2
+bounds-table-at-2 c = simp length-set (omega arith)
 
-add_table_3 : tie.Need-overflow-add-table-3
-add_table_3 c = search rules
+overflow_add-table-3 : tie.Need-overflow_add-table-3
+overflow_add-table-3 c = search rules
 
-mul_table_3 : tie.Need-overflow-mul-table-3
-mul_table_3 c = search rules
+offset_bounds-table-at-3 : tie.Need-offset_bounds-table-at-3
+offset_bounds-table-at-3 c = search rules
 
-slice_write_table_3 : tie.Need-slice-write-table-3
-slice_write_table_3 c = simp length-set (omega arith)
+bounds-table-at-3 : tie.Need-bounds-table-at-3
+bounds-table-at-3 c = simp length-set (omega arith)
 
-add_table_4 : tie.Need-overflow-add-table-4
-add_table_4 c = search rules
+overflow_add-table-4 : tie.Need-overflow_add-table-4
+overflow_add-table-4 c = search rules
 
-mul_table_4 : tie.Need-overflow-mul-table-4
-mul_table_4 c = search rules
+offset_bounds-table-at-4 : tie.Need-offset_bounds-table-at-4
+offset_bounds-table-at-4 c = search rules
 
-slice_write_table_4 : tie.Need-slice-write-table-4
-slice_write_table_4 c = simp length-set (omega arith)
+bounds-table-at-4 : tie.Need-bounds-table-at-4
+bounds-table-at-4 c = simp length-set (omega arith)
 
-add_table_5 : tie.Need-overflow-add-table-5
-add_table_5 c = search rules
+overflow_add-table-5 : tie.Need-overflow_add-table-5
+overflow_add-table-5 c = search rules
 
-mul_table_5 : tie.Need-overflow-mul-table-5
-mul_table_5 c = search rules
+offset_bounds-table-at-5 : tie.Need-offset_bounds-table-at-5
+offset_bounds-table-at-5 c = search rules
 
-slice_write_table_5 : tie.Need-slice-write-table-5
-slice_write_table_5 c = simp length-set (omega arith)
+bounds-table-at-5 : tie.Need-bounds-table-at-5
+bounds-table-at-5 c = simp length-set (omega arith)
 
-add_table_6 : tie.Need-overflow-add-table-6
-add_table_6 c = search rules
+overflow_add-table-6 : tie.Need-overflow_add-table-6
+overflow_add-table-6 c = search rules
 
-mul_table_6 : tie.Need-overflow-mul-table-6
-mul_table_6 c = search rules
+offset_bounds-table-at-6 : tie.Need-offset_bounds-table-at-6
+offset_bounds-table-at-6 c = search rules
 
-slice_write_table_6 : tie.Need-slice-write-table-6
-slice_write_table_6 c = simp length-set (omega arith)
+bounds-table-at-6 : tie.Need-bounds-table-at-6
+bounds-table-at-6 c = simp length-set (omega arith)
 
-same_length : tie.Need-same-length
-same_length c = search rules
+shape_of-table : tie.Need-shape_of-table
+shape_of-table c = search rules
 
 returns : tie.Need-returns
 returns c =
-    let k = c.before in
-    let start = k.before.before.before in
-    six_stores start.args.table.now start.args.row start.args.next _ _ _ k.before.phase-of.ensures k.second-of.ensures c.one-if.ensures
+    six_stores c.args.table.now c.args.row c.args.next _ _ _ c.phase_of-phase.ensures c.second_of-second.ensures c.one_if.ensures
 
 pub store_spec : {M : Type 1} → statement M
 store_spec =
     tie.close
     (tie.spec
-    mul_at
-    phase_of_requires
-    second_of_requires
-    add_table
-    mul_table
-    slice_write_table
-    add_table_2
-    mul_table_2
-    slice_write_table_2
-    add_table_3
-    mul_table_3
-    slice_write_table_3
-    add_table_4
-    mul_table_4
-    slice_write_table_4
-    add_table_5
-    mul_table_5
-    slice_write_table_5
-    one_if_requires
-    add_table_6
-    mul_table_6
-    slice_write_table_6
-    same_length
+    overflow_mul-at
+    phase_of-phase-requires
+    second_of-second-requires
+    overflow_add-table
+    offset_bounds-table-at
+    bounds-table-at
+    overflow_add-table-2
+    offset_bounds-table-at-2
+    bounds-table-at-2
+    overflow_add-table-3
+    offset_bounds-table-at-3
+    bounds-table-at-3
+    overflow_add-table-4
+    offset_bounds-table-at-4
+    bounds-table-at-4
+    overflow_add-table-5
+    offset_bounds-table-at-5
+    bounds-table-at-5
+    one_if-requires
+    overflow_add-table-6
+    offset_bounds-table-at-6
+    bounds-table-at-6
+    shape_of-table
     returns)

@@ -4,66 +4,65 @@ use Rattle.states.proofs.Words.{changed}
 use Rattle.states.proofs.change.Statement.{statement}
 use Rattle.states.proofs.change.Tie as tie
 
-slice_read_held : tie.Need-slice-read-held
-slice_read_held c = search rules
+bounds-figures-0 : tie.Need-bounds-figures-0
+bounds-figures-0 c = search rules
 
-sub_held : tie.Need-overflow-sub-held
-sub_held c = c.before.before.requires.1.0 0
+overflow_sub-held : tie.Need-overflow_sub-held
+overflow_sub-held c = c.requires.1.0 0
 
-add_held : tie.Need-overflow-add-held
-add_held c = let p = c.before.before.before.requires.1.1 0 in omega arith
+overflow_add-held : tie.Need-overflow_add-held
+overflow_add-held c = let p = c.requires.1.1 0 in omega arith
 
-slice_read_waiting : tie.Need-slice-read-waiting
-slice_read_waiting c = search rules
+bounds-figures-1 : tie.Need-bounds-figures-1
+bounds-figures-1 c = search rules
 
-sub_waiting : tie.Need-overflow-sub-waiting
-sub_waiting c = c.before.before.before.before.before.requires.1.0 1
+overflow_sub-waiting : tie.Need-overflow_sub-waiting
+overflow_sub-waiting c = c.requires.1.0 1
 
-add_waiting : tie.Need-overflow-add-waiting
-add_waiting c = let p = c.before.before.before.before.before.before.requires.1.1 1 in omega arith
+overflow_add-waiting : tie.Need-overflow_add-waiting
+overflow_add-waiting c = let p = c.requires.1.1 1 in omega arith
 
-slice_read_flying : tie.Need-slice-read-flying
-slice_read_flying c = search rules
+bounds-figures-2 : tie.Need-bounds-figures-2
+bounds-figures-2 c = search rules
 
-sub_flying : tie.Need-overflow-sub-flying
-sub_flying c = c.before.before.before.before.before.before.before.before.requires.1.0 2
+overflow_sub-flying : tie.Need-overflow_sub-flying
+overflow_sub-flying c = c.requires.1.0 2
 
-add_flying : tie.Need-overflow-add-flying
-add_flying c = let p = c.before.before.before.before.before.before.before.before.before.requires.1.1 2 in omega arith
+overflow_add-flying : tie.Need-overflow_add-flying
+overflow_add-flying c = let p = c.requires.1.1 2 in omega arith
 
-slice_write_figures : tie.Need-slice-write-figures
-slice_write_figures c = search rules
+bounds-figures-0-2 : tie.Need-bounds-figures-0-2
+bounds-figures-0-2 c = search rules
 
-slice_write_figures_2 : tie.Need-slice-write-figures-2
-slice_write_figures_2 c = search rules
+bounds-figures-1-2 : tie.Need-bounds-figures-1-2
+bounds-figures-1-2 c = search rules
 
-slice_write_figures_3 : tie.Need-slice-write-figures-3
-slice_write_figures_3 c = search rules
+bounds-figures-2-2 : tie.Need-bounds-figures-2-2
+bounds-figures-2-2 c = search rules
 
-same_length : tie.Need-same-length
-same_length c = search rules
+shape_of-figures : tie.Need-shape_of-figures
+shape_of-figures c = search rules
 
 returns : tie.Need-returns
 returns c =
-    let s = c.before.before.before.before.before.before.before.before.before in
-    let a = s.args in
-    changed a.lost.held a.lost.waiting a.lost.flying a.gained.held a.gained.waiting a.gained.flying a.figures.now s.requires.0
+    let a = c.args in
+    changed a.lost.held a.lost.waiting a.lost.flying a.gained.held a.gained.waiting a.gained.flying a.figures.now c.requires.0
 
 pub change_spec : {M : Type 1} → statement M
 change_spec =
     tie.close
     (tie.spec
-    slice_read_held
-    sub_held
-    add_held
-    slice_read_waiting
-    sub_waiting
-    add_waiting
-    slice_read_flying
-    sub_flying
-    add_flying
-    slice_write_figures
-    slice_write_figures_2
-    slice_write_figures_3
-    same_length
+    bounds-figures-0
+    overflow_sub-held
+    overflow_add-held
+    bounds-figures-1
+    overflow_sub-waiting
+    overflow_add-waiting
+    bounds-figures-2
+    overflow_sub-flying
+    overflow_add-flying
+    bounds-figures-0-2
+    bounds-figures-1-2
+    bounds-figures-2-2
+    shape_of-figures
     returns)

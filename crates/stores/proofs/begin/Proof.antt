@@ -9,19 +9,19 @@ use Rattle.stores.proofs.Begun.{begun_length}
 use Rattle.stores.proofs.begin.Statement.{statement}
 use Rattle.stores.proofs.begin.Tie as tie
 
-begun_entries_requires : tie.Need-begun-entries-requires
-begun_entries_requires c κs = (sound_is c.before.args.radio c.before.requires).few
+begun_entries-entries-requires : tie.Need-begun_entries-entries-requires
+begun_entries-entries-requires c κs = (sound_is c.args.radio c.requires).few
 
 returns : tie.Need-returns
 returns c =
-    let a = c.before.before.args in
+    let a = c.args in
     let radio = a.radio in
-    let s = sound_is radio c.before.before.requires in
+    let s = sound_is radio c.requires in
     let due = is_due radio a.about in
     let full : length radio.entries ≡ most_stored = search (rules, unmapped) in
     let size = begun_length due (entries_in radio) ∙ length-take-le radio.count radio.entries (rw full s.few) in
     held_as radio (begun due (entries_in radio)) _ radio.count (sym size)
-    (c.begun-entries.ensures ∙ laid_front radio.entries full radio.count s.few s.rest (begun due (entries_in radio)) size)
+    (c.begun_entries-entries.ensures ∙ laid_front radio.entries full radio.count s.few s.rest (begun due (entries_in radio)) size)
 
 pub begin_spec : {M : Type 1} → statement M
-begin_spec = tie.close (tie.spec begun_entries_requires returns)
+begin_spec = tie.close (tie.spec begun_entries-entries-requires returns)

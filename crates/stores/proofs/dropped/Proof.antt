@@ -8,14 +8,14 @@ use Rattle.stores.specs.Places.{with_entries}
 use Rattle.stores.proofs.dropped.Statement.{statement}
 use Rattle.stores.proofs.dropped.Tie as tie
 
-closed_requires : tie.Need-closed-requires
-closed_requires c κs = search rules
+closed-entries-requires : tie.Need-closed-entries-requires
+closed-entries-requires c κs = search rules
 
-sub_next : tie.Need-overflow-sub-next
-sub_next c = omega arith
+overflow_sub-next : tie.Need-overflow_sub-next
+overflow_sub-next c = omega arith
 
 returns : tie.Need-returns
-returns c = let radio = c.before.before.before.args.radio in ap (λ (es : List Entry). with_entries radio (radio.count - 1) es) c.before.closed.ensures
+returns c = let radio = c.args.radio in ap (λ (es : List Entry). with_entries radio (radio.count - 1) es) c.closed-entries.ensures
 
 pub dropped_spec : {M : Type 1} → statement M
-dropped_spec = tie.close (tie.spec closed_requires sub_next returns)
+dropped_spec = tie.close (tie.spec closed-entries-requires overflow_sub-next returns)

@@ -3,11 +3,11 @@ use Rattle.stores.specs.Stores.{flag_of}
 use Rattle.stores.proofs.due_flag.Statement.{statement}
 use Rattle.stores.proofs.due_flag.Tie as tie
 
-returns : tie.Need-returns
-returns c = sym (ap flag_of c.if1.true)
+returns-then-hand_held-number : tie.Need-returns-then-hand_held-number
+returns-then-hand_held-number c = sym (ap flag_of c.if-hand_held-number.true)
 
-returns_2 : tie.Need-returns-2
-returns_2 c = sym (ap flag_of c.if1.false)
+returns : tie.Need-returns
+returns c = sym (ap flag_of c.if-hand_held-number.false)
 
 pub due_flag_spec : {M : Type 1} → statement M
-due_flag_spec = tie.close (tie.spec returns returns_2)
+due_flag_spec = tie.close (tie.spec returns-then-hand_held-number returns)

@@ -11,82 +11,77 @@ use Rattle.stores.proofs.Entries.{behind_all, sound_stops, sound_twice, sound_go
 use Rattle.stores.proofs.entries_sound.Statement.{statement}
 use Rattle.stores.proofs.entries_sound.Tie as tie
 
-abbrev invariant_loop : tie.invariant_loop
-invariant_loop count entries i₀ i =
+abbrev invariant-loop-i : tie.invariant-loop-i
+invariant-loop-i count entries i₀ i =
     (length entries ≡ most_stored)
     × ((every entry_sound (take count entries) && none_twice (take count entries)) ≡ (every entry_sound (drop i (take count entries)) && none_twice (drop i (take count entries))))
 
-abbrev decreases_loop : tie.decreases_loop
-decreases_loop count entries i₀ i = count - i
+abbrev decreases-loop-i : tie.decreases-loop-i
+decreases-loop-i count entries i₀ i = count - i
 
-loop_holds : tie.Need-loop-init invariant_loop decreases_loop
-loop_holds c = (search rules, refl)
+loop-i-init : tie.Need-loop-i-init invariant-loop-i decreases-loop-i
+loop-i-init c = (search rules, refl)
 
-mul_entry : tie.Need-overflow-mul-entry invariant_loop decreases_loop
-mul_entry c = omega arith
+offset_bounds-entries-i : tie.Need-offset_bounds-entries-i invariant-loop-i decreases-loop-i
+offset_bounds-entries-i c = omega arith
 
-array_copy_out_entry : tie.Need-array-copy-out-entry invariant_loop decreases_loop
-array_copy_out_entry c = omega arith
+bounds-entries-i : tie.Need-bounds-entries-i invariant-loop-i decreases-loop-i
+bounds-entries-i c = omega arith
 
-entry_sound_requires : tie.Need-entry-sound-requires invariant_loop decreases_loop
-entry_sound_requires c κs = search rules
+entry_sound-requires : tie.Need-entry_sound-requires invariant-loop-i decreases-loop-i
+entry_sound-requires c κs = search rules
 
-returns : tie.Need-returns invariant_loop decreases_loop
-returns c =
-    let h = c.before.before.before.before in
-    let a = h.before.args in
-    sym (sound_stops a.t1 a.count h.loop.i h.loop.invariant.1 (omega arith) (omega arith) (sym c.before.entry-sound.ensures ∙ not-true _ c.if1.true))
+returns-then-not-entry_sound : tie.Need-returns-then-not-entry_sound invariant-loop-i decreases-loop-i
+returns-then-not-entry_sound c =
+    let a = c.args in
+    sym (sound_stops a.entries a.count c.loop-i.i c.loop-i.invariant.1 (omega arith) (omega arith) (sym c.entry_sound.ensures ∙ not-true _ c.if-not-entry_sound.true-raw))
 
-add_has_from : tie.Need-overflow-add-has-from invariant_loop decreases_loop
-add_has_from c = omega arith
+overflow_add-i : tie.Need-overflow_add-i invariant-loop-i decreases-loop-i
+overflow_add-i c = omega arith
 
-has_from_requires : tie.Need-has-from-requires invariant_loop decreases_loop
-has_from_requires c κs = omega arith
+has_from-requires : tie.Need-has_from-requires invariant-loop-i decreases-loop-i
+has_from-requires c κs = omega arith
 
-returns_2 : tie.Need-returns-2 invariant_loop decreases_loop
-returns_2 c =
-    let h = c.before.before.before.before.before.before in
-    let a = h.before.args in
-    sym (sound_twice a.t1 a.count h.loop.i h.loop.invariant.1 (omega arith) (omega arith) (sym c.before.has-from.ensures ∙ c.if2.true))
+returns-then-has_from : tie.Need-returns-then-has_from invariant-loop-i decreases-loop-i
+returns-then-has_from c =
+    let a = c.args in
+    sym (sound_twice a.entries a.count c.loop-i.i c.loop-i.invariant.1 (omega arith) (omega arith) (sym c.has_from.ensures ∙ c.if-has_from.true))
 
-add_i : tie.Need-overflow-add-i invariant_loop decreases_loop
-add_i c = omega arith
+overflow_add-i-in-loop-i : tie.Need-overflow_add-i-in-loop-i invariant-loop-i decreases-loop-i
+overflow_add-i-in-loop-i c = omega arith
 
-loop_less : tie.Need-loop-smaller invariant_loop decreases_loop
-loop_less c = omega arith
+loop-i-smaller : tie.Need-loop-i-smaller invariant-loop-i decreases-loop-i
+loop-i-smaller c = omega arith
 
-loop_again : tie.Need-loop-preserved invariant_loop decreases_loop
-loop_again c =
-    let f = c.before in
-    let h = f.before.before.before.before.before in
-    let a = h.before.args in (
-      h.loop.invariant.0,
-      sound_goes_on a.t1 a.count h.loop.i h.loop.invariant.1 (omega arith) (omega arith)
-          (sym f.before.before.entry-sound.ensures ∙ not-false _ f.before.if1.false) (sym f.has-from.ensures ∙ c.if2.false),
+loop-i-preserved : tie.Need-loop-i-preserved invariant-loop-i decreases-loop-i
+loop-i-preserved c =
+    let a = c.args in (
+      c.loop-i.invariant.0,
+      sound_goes_on a.entries a.count c.loop-i.i c.loop-i.invariant.1 (omega arith) (omega arith)
+          (sym c.entry_sound.ensures ∙ not-false _ c.if-not-entry_sound.false-raw) (sym c.has_from.ensures ∙ c.if-has_from.false),
     )
 
-returns_3 : tie.Need-returns-3 invariant_loop decreases_loop
+returns : tie.Need-returns invariant-loop-i decreases-loop-i
 unfolding every none_twice
-returns_3 c =
-    let h = c.before in
-    let a = h.before.args in
-    sym (h.loop.invariant.1 ∙ rw (behind_all a.t1 a.count h.loop.i (omega arith) (omega arith)) refl)
+returns c =
+    let a = c.args in
+    sym (c.loop-i.invariant.1 ∙ rw (behind_all a.entries a.count c.loop-i.i (omega arith) (omega arith)) refl)
 
 pub entries_sound_spec : {M : Type 1} → statement M
 entries_sound_spec =
     tie.close
     (tie.spec
-    invariant_loop
-    decreases_loop
-    loop_holds
-    mul_entry
-    array_copy_out_entry
-    entry_sound_requires
-    returns
-    add_has_from
-    has_from_requires
-    returns_2
-    add_i
-    loop_less
-    loop_again
-    returns_3)
+    invariant-loop-i
+    decreases-loop-i
+    loop-i-init
+    offset_bounds-entries-i
+    bounds-entries-i
+    entry_sound-requires
+    returns-then-not-entry_sound
+    overflow_add-i
+    has_from-requires
+    returns-then-has_from
+    overflow_add-i-in-loop-i
+    loop-i-smaller
+    loop-i-preserved
+    returns)

@@ -3,11 +3,11 @@ use borrow.Author.Rules.{rules}
 use Rattle.stores.proofs.entry_sound.Statement.{statement}
 use Rattle.stores.proofs.entry_sound.Tie as tie
 
-is_number_requires : tie.Need-is-number-requires
-is_number_requires c κs = search rules
+is_number-requires : tie.Need-is_number-requires
+is_number-requires c κs = search rules
 
 returns : tie.Need-returns
-returns c = rw c.before.before.is_number.ensures refl
+returns c = rw c.is_number.ensures refl
 
 pub entry_sound_spec : {M : Type 1} → statement M
-entry_sound_spec = tie.close (tie.spec is_number_requires returns)
+entry_sound_spec = tie.close (tie.spec is_number-requires returns)

@@ -10,35 +10,45 @@ use Rattle.stores.proofs.Entries.{first_here, first_later, first_none}
 use Rattle.stores.proofs.first_to_ask.Statement.{statement}
 use Rattle.stores.proofs.first_to_ask.Tie as tie
 
-abbrev invariant_loop : tie.invariant_loop
-invariant_loop count entries i₀ i = (length entries ≡ most_stored) × (i ≤ count) × (first_to_ask (take count entries) ≡ i + first_to_ask (drop i (take count entries)))
+abbrev invariant-loop-i : tie.invariant-loop-i
+invariant-loop-i count entries i₀ i = (length entries ≡ most_stored) × (i ≤ count) × (first_to_ask (take count entries) ≡ i + first_to_ask (drop i (take count entries)))
 
-abbrev decreases_loop : tie.decreases_loop
-decreases_loop count entries i₀ i = count - i
+abbrev decreases-loop-i : tie.decreases-loop-i
+decreases-loop-i count entries i₀ i = count - i
 
-loop_holds : tie.Need-loop-init invariant_loop decreases_loop
-loop_holds c = (search rules, omega arith, omega arith)
+loop-i-init : tie.Need-loop-i-init invariant-loop-i decreases-loop-i
+loop-i-init c = (search rules, omega arith, omega arith)
 
-mul_entry : tie.Need-overflow-mul-entry invariant_loop decreases_loop
-mul_entry c = omega arith
+offset_bounds-entries-i : tie.Need-offset_bounds-entries-i invariant-loop-i decreases-loop-i
+offset_bounds-entries-i c = omega arith
 
-array_copy_out_entry : tie.Need-array-copy-out-entry invariant_loop decreases_loop
-array_copy_out_entry c = omega arith
+bounds-entries-i : tie.Need-bounds-entries-i invariant-loop-i decreases-loop-i
+bounds-entries-i c = omega arith
 
-returns : tie.Need-returns invariant_loop decreases_loop
-returns c = let h = c.before.before.before.before in let a = h.before.args in sym (first_here a.t1 a.count h.loop.i h.loop.invariant.2 (omega arith) (omega arith) c.if1.true)
+returns-then-entry-eq1 : tie.Need-returns-then-entry-eq1 invariant-loop-i decreases-loop-i
+returns-then-entry-eq1 c = let a = c.args in sym (first_here a.entries a.count c.loop-i.i c.loop-i.invariant.2 (omega arith) (omega arith) c.if-entry-eq1.true)
 
-add_i : tie.Need-overflow-add-i invariant_loop decreases_loop
-add_i c = omega arith
+overflow_add-i : tie.Need-overflow_add-i invariant-loop-i decreases-loop-i
+overflow_add-i c = omega arith
 
-loop_less : tie.Need-loop-smaller invariant_loop decreases_loop
-loop_less c = omega arith
+loop-i-smaller : tie.Need-loop-i-smaller invariant-loop-i decreases-loop-i
+loop-i-smaller c = omega arith
 
-loop_again : tie.Need-loop-preserved invariant_loop decreases_loop
-loop_again c = let h = c.before.before.before.before in let a = h.before.args in (h.loop.invariant.0, omega arith, first_later a.t1 a.count h.loop.i h.loop.invariant.2 (omega arith) (omega arith) c.if1.false)
+loop-i-preserved : tie.Need-loop-i-preserved invariant-loop-i decreases-loop-i
+loop-i-preserved c = let a = c.args in (c.loop-i.invariant.0, omega arith, first_later a.entries a.count c.loop-i.i c.loop-i.invariant.2 (omega arith) (omega arith) c.if-entry-eq1.false)
 
-returns_2 : tie.Need-returns-2 invariant_loop decreases_loop
-returns_2 c = let h = c.before in let a = h.before.args in let e = first_none a.t1 a.count h.loop.i h.loop.invariant.2 (omega arith) (omega arith) in omega arith
+returns : tie.Need-returns invariant-loop-i decreases-loop-i
+returns c = let a = c.args in let e = first_none a.entries a.count c.loop-i.i c.loop-i.invariant.2 (omega arith) (omega arith) in omega arith
 
 pub first_to_ask_spec : {M : Type 1} → statement M
-first_to_ask_spec = tie.close (tie.spec invariant_loop decreases_loop loop_holds mul_entry array_copy_out_entry returns add_i loop_less loop_again returns_2)
+first_to_ask_spec = tie.close (tie.spec
+    invariant-loop-i
+    decreases-loop-i
+    loop-i-init
+    offset_bounds-entries-i
+    bounds-entries-i
+    returns-then-entry-eq1
+    overflow_add-i
+    loop-i-smaller
+    loop-i-preserved
+    returns)

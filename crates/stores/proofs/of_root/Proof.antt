@@ -11,46 +11,53 @@ use Rattle.stores.proofs.Entries.{every_stops, every_goes_on, every_ends, so}
 use Rattle.stores.proofs.of_root.Statement.{statement}
 use Rattle.stores.proofs.of_root.Tie as tie
 
-abbrev invariant_loop : tie.invariant_loop
-invariant_loop count root entries i₀ i = (length entries ≡ most_stored) × (every (is_of root) (take count entries) ≡ every (is_of root) (drop i (take count entries)))
+abbrev invariant-loop-i : tie.invariant-loop-i
+invariant-loop-i count root entries i₀ i = (length entries ≡ most_stored) × (every (is_of root) (take count entries) ≡ every (is_of root) (drop i (take count entries)))
 
-abbrev decreases_loop : tie.decreases_loop
-decreases_loop count root entries i₀ i = count - i
+abbrev decreases-loop-i : tie.decreases-loop-i
+decreases-loop-i count root entries i₀ i = count - i
 
-loop_holds : tie.Need-loop-init invariant_loop decreases_loop
-loop_holds c = (search rules, refl)
+loop-i-init : tie.Need-loop-i-init invariant-loop-i decreases-loop-i
+loop-i-init c = (search rules, refl)
 
-mul_entry : tie.Need-overflow-mul-entry invariant_loop decreases_loop
-mul_entry c = omega arith
+offset_bounds-entries-i : tie.Need-offset_bounds-entries-i invariant-loop-i decreases-loop-i
+offset_bounds-entries-i c = omega arith
 
-array_copy_out_entry : tie.Need-array-copy-out-entry invariant_loop decreases_loop
-array_copy_out_entry c = omega arith
+bounds-entries-i : tie.Need-bounds-entries-i invariant-loop-i decreases-loop-i
+bounds-entries-i c = omega arith
 
-returns : tie.Need-returns invariant_loop decreases_loop
+returns-then-entry-root : tie.Need-returns-then-entry-root invariant-loop-i decreases-loop-i
+returns-then-entry-root c =
+    let a = c.args in
+    let e = get_or a.entries c.loop-i.i blank in
+    sym (every_stops a.entries a.count c.loop-i.i (is_of a.root) c.loop-i.invariant.1 (omega arith) (omega arith) (so (is_to_ask e) (eqb (root_of e.number) a.root) ∙ ap not c.if-entry-root.true))
+
+overflow_add-i : tie.Need-overflow_add-i invariant-loop-i decreases-loop-i
+overflow_add-i c = omega arith
+
+loop-i-smaller : tie.Need-loop-i-smaller invariant-loop-i decreases-loop-i
+loop-i-smaller c = omega arith
+
+loop-i-preserved : tie.Need-loop-i-preserved invariant-loop-i decreases-loop-i
+loop-i-preserved c =
+    let a = c.args in
+    let e = get_or a.entries c.loop-i.i blank in
+    (c.loop-i.invariant.0, every_goes_on a.entries a.count c.loop-i.i (is_of a.root) c.loop-i.invariant.1 (omega arith) (omega arith) (so (is_to_ask e) (eqb (root_of e.number) a.root) ∙ ap not c.if-entry-root.false))
+
+returns : tie.Need-returns invariant-loop-i decreases-loop-i
 returns c =
-    let h = c.before.before.before.before.before in
-    let a = h.before.args in
-    let e = get_or a.t1 h.loop.i blank in
-    sym (every_stops a.t1 a.count h.loop.i (is_of a.root) h.loop.invariant.1 (omega arith) (omega arith) (so (is_to_ask e) (eqb (root_of e.number) a.root) ∙ ap not c.if1.true))
-
-add_i : tie.Need-overflow-add-i invariant_loop decreases_loop
-add_i c = omega arith
-
-loop_less : tie.Need-loop-smaller invariant_loop decreases_loop
-loop_less c = omega arith
-
-loop_again : tie.Need-loop-preserved invariant_loop decreases_loop
-loop_again c =
-    let h = c.before.before.before.before.before in
-    let a = h.before.args in
-    let e = get_or a.t1 h.loop.i blank in
-    (h.loop.invariant.0, every_goes_on a.t1 a.count h.loop.i (is_of a.root) h.loop.invariant.1 (omega arith) (omega arith) (so (is_to_ask e) (eqb (root_of e.number) a.root) ∙ ap not c.if1.false))
-
-returns_2 : tie.Need-returns-2 invariant_loop decreases_loop
-returns_2 c =
-    let h = c.before in
-    let a = h.before.args in
-    sym (every_ends a.t1 a.count h.loop.i (is_of a.root) h.loop.invariant.1 (omega arith) (omega arith))
+    let a = c.args in
+    sym (every_ends a.entries a.count c.loop-i.i (is_of a.root) c.loop-i.invariant.1 (omega arith) (omega arith))
 
 pub of_root_spec : {M : Type 1} → statement M
-of_root_spec = tie.close (tie.spec invariant_loop decreases_loop loop_holds mul_entry array_copy_out_entry returns add_i loop_less loop_again returns_2)
+of_root_spec = tie.close (tie.spec
+    invariant-loop-i
+    decreases-loop-i
+    loop-i-init
+    offset_bounds-entries-i
+    bounds-entries-i
+    returns-then-entry-root
+    overflow_add-i
+    loop-i-smaller
+    loop-i-preserved
+    returns)

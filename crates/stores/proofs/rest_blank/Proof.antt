@@ -13,45 +13,54 @@ use Rattle.stores.proofs.Entries.{every_stops, every_goes_on, every_ends}
 use Rattle.stores.proofs.rest_blank.Statement.{statement}
 use Rattle.stores.proofs.rest_blank.Tie as tie
 
-abbrev invariant_loop : tie.invariant_loop
-invariant_loop count entries i₀ i = (length entries ≡ most_stored) × (every is_blank (drop count entries) ≡ every is_blank (drop i (take most_stored entries)))
+abbrev invariant-loop-i : tie.invariant-loop-i
+invariant-loop-i count entries i₀ i = (length entries ≡ most_stored) × (every is_blank (drop count entries) ≡ every is_blank (drop i (take most_stored entries)))
 
-abbrev decreases_loop : tie.decreases_loop
-decreases_loop count entries i₀ i = most_stored - i
+abbrev decreases-loop-i : tie.decreases-loop-i
+decreases-loop-i count entries i₀ i = most_stored - i
 
-loop_holds : tie.Need-loop-init invariant_loop decreases_loop
-loop_holds c =
-    let full : length c.args.t1 ≡ most_stored = search rules in
-    (full, ap (λ (es : List Entry). every is_blank (drop c.args.count es)) (sym (take_all most_stored c.args.t1 (omega arith))))
+loop-i-init : tie.Need-loop-i-init invariant-loop-i decreases-loop-i
+loop-i-init c =
+    let full : length c.args.entries ≡ most_stored = search rules in
+    (full, ap (λ (es : List Entry). every is_blank (drop c.args.count es)) (sym (take_all most_stored c.args.entries (omega arith))))
 
-mul_entry : tie.Need-overflow-mul-entry invariant_loop decreases_loop
-mul_entry c = omega arith
+offset_bounds-entries-i : tie.Need-offset_bounds-entries-i invariant-loop-i decreases-loop-i
+offset_bounds-entries-i c = omega arith
 
-array_copy_out_entry : tie.Need-array-copy-out-entry invariant_loop decreases_loop
-array_copy_out_entry c = omega arith
+bounds-entries-i : tie.Need-bounds-entries-i invariant-loop-i decreases-loop-i
+bounds-entries-i c = omega arith
 
-is_blank_requires : tie.Need-is-blank-requires invariant_loop decreases_loop
-is_blank_requires c κs = search rules
+is_blank-requires : tie.Need-is_blank-requires invariant-loop-i decreases-loop-i
+is_blank-requires c κs = search rules
 
-returns : tie.Need-returns invariant_loop decreases_loop
-returns c =
-    let h = c.before.before.before.before in
-    sym (every_stops h.before.args.t1 most_stored h.loop.i is_blank h.loop.invariant.1 (omega arith) (omega arith) (sym c.before.is-blank.ensures ∙ not-true _ c.if1.true))
+returns-then-not-is_blank : tie.Need-returns-then-not-is_blank invariant-loop-i decreases-loop-i
+returns-then-not-is_blank c =
+    sym (every_stops c.args.entries most_stored c.loop-i.i is_blank c.loop-i.invariant.1 (omega arith) (omega arith) (sym c.is_blank.ensures ∙ not-true _ c.if-not-is_blank.true-raw))
 
-add_i : tie.Need-overflow-add-i invariant_loop decreases_loop
-add_i c = omega arith
+overflow_add-i : tie.Need-overflow_add-i invariant-loop-i decreases-loop-i
+overflow_add-i c = omega arith
 
-loop_less : tie.Need-loop-smaller invariant_loop decreases_loop
-loop_less c = omega arith
+loop-i-smaller : tie.Need-loop-i-smaller invariant-loop-i decreases-loop-i
+loop-i-smaller c = omega arith
 
-loop_again : tie.Need-loop-preserved invariant_loop decreases_loop
-loop_again c =
-    let h = c.before.before.before.before in
-    (h.loop.invariant.0, every_goes_on h.before.args.t1 most_stored h.loop.i is_blank h.loop.invariant.1 (omega arith) (omega arith) (sym c.before.is-blank.ensures ∙ not-false _ c.if1.false))
+loop-i-preserved : tie.Need-loop-i-preserved invariant-loop-i decreases-loop-i
+loop-i-preserved c =
+    (c.loop-i.invariant.0, every_goes_on c.args.entries most_stored c.loop-i.i is_blank c.loop-i.invariant.1 (omega arith) (omega arith) (sym c.is_blank.ensures ∙ not-false _ c.if-not-is_blank.false-raw))
 
-returns_2 : tie.Need-returns-2 invariant_loop decreases_loop
-returns_2 c = let h = c.before in sym (every_ends h.before.args.t1 most_stored h.loop.i is_blank h.loop.invariant.1 (omega arith) (omega arith))
+returns : tie.Need-returns invariant-loop-i decreases-loop-i
+returns c = sym (every_ends c.args.entries most_stored c.loop-i.i is_blank c.loop-i.invariant.1 (omega arith) (omega arith))
 
 pub rest_blank_spec : {M : Type 1} → statement M
 rest_blank_spec =
-    tie.close (tie.spec invariant_loop decreases_loop loop_holds mul_entry array_copy_out_entry is_blank_requires returns add_i loop_less loop_again returns_2)
+    tie.close (tie.spec
+    invariant-loop-i
+    decreases-loop-i
+    loop-i-init
+    offset_bounds-entries-i
+    bounds-entries-i
+    is_blank-requires
+    returns-then-not-is_blank
+    overflow_add-i
+    loop-i-smaller
+    loop-i-preserved
+    returns)

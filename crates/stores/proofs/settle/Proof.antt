@@ -12,67 +12,65 @@ use Rattle.stores.proofs.Settling.{open_place, kept_settles, dropped_settles}
 use Rattle.stores.proofs.settle.Statement.{statement}
 use Rattle.stores.proofs.settle.Tie as tie
 
-first_to_ask_requires : tie.Need-first-to-ask-requires
-first_to_ask_requires c κs = (sound_is c.before.args.radio c.before.requires.0).few
+first_to_ask-at-requires : tie.Need-first_to_ask-at-requires
+first_to_ask-at-requires c κs = (sound_is c.args.radio c.requires.0).few
 
-enum_told : tie.Need-enum-told
-enum_told c = search rules
+enum_told-1 : tie.Need-enum_told-1
+enum_told-1 c = search rules
 
-kept_requires : tie.Need-kept-requires
-kept_requires c κs =
-    let f = c.before.before in
-    let a = f.before.before in
-    let full : length a.args.radio.entries ≡ most_stored = search (rules, unmapped) in
-    let h = open_place a.args.radio full a.requires.0 a.requires.1 in
-    omega (arith, f.first-to-ask.ensures, (sound_is a.args.radio a.requires.0).few)
+kept-requires : tie.Need-kept-requires
+kept-requires c κs =
+    let full : length c.args.radio.entries ≡ most_stored = search (rules, unmapped) in
+    let h = open_place c.args.radio full c.requires.0 c.requires.1 in
+    omega (arith, c.first_to_ask-at.ensures, (sound_is c.args.radio c.requires.0).few)
 
-enum_told_2 : tie.Need-enum-told-2
-enum_told_2 c = search rules
+enum_told-in-Drops : tie.Need-enum_told-in-Drops
+enum_told-in-Drops c = search rules
 
-dropped_requires : tie.Need-dropped-requires
-dropped_requires c κs =
-    let f = c.before.before in
-    let a = f.before.before in
-    let full : length a.args.radio.entries ≡ most_stored = search (rules, unmapped) in
-    let h = open_place a.args.radio full a.requires.0 a.requires.1 in
-    (omega (arith, f.first-to-ask.ensures, (sound_is a.args.radio a.requires.0).few), omega arith)
+dropped-requires : tie.Need-dropped-requires
+dropped-requires c κs =
+    let full : length c.args.radio.entries ≡ most_stored = search (rules, unmapped) in
+    let h = open_place c.args.radio full c.requires.0 c.requires.1 in
+    (omega (arith, c.first_to_ask-at.ensures, (sound_is c.args.radio c.requires.0).few), omega arith)
 
-enum_told_3 : tie.Need-enum-told-3
-enum_told_3 c = search rules
+enum_told-in-Unsure : tie.Need-enum_told-in-Unsure
+enum_told-in-Unsure c = search rules
 
-kept_requires_2 : tie.Need-kept-requires-2
-kept_requires_2 c κs =
-    let f = c.before.before in
-    let a = f.before.before in
-    let full : length a.args.radio.entries ≡ most_stored = search (rules, unmapped) in
-    let h = open_place a.args.radio full a.requires.0 a.requires.1 in
-    omega (arith, f.first-to-ask.ensures, (sound_is a.args.radio a.requires.0).few)
+kept-requires-in-Unsure : tie.Need-kept-requires-in-Unsure
+kept-requires-in-Unsure c κs =
+    let full : length c.args.radio.entries ≡ most_stored = search (rules, unmapped) in
+    let h = open_place c.args.radio full c.requires.0 c.requires.1 in
+    omega (arith, c.first_to_ask-at.ensures, (sound_is c.args.radio c.requires.0).few)
 
-returns : tie.Need-returns
-returns c =
-    let f = c.before.before.before in
-    let a = f.before.before in
-    let full : length a.args.radio.entries ≡ most_stored = search (rules, unmapped) in
-    rw c.before.enum_told.given.1
-    (c.kept.ensures ∙ ap (λ (n : ℕ). kept_at a.args.radio n 0) f.first-to-ask.ensures ∙ kept_settles a.args.radio full a.requires.0 a.requires.1 Keeps 0 (λ e. refl))
+returns-in-Keeps : tie.Need-returns-in-Keeps
+returns-in-Keeps c =
+    let full : length c.args.radio.entries ≡ most_stored = search (rules, unmapped) in
+    rw c.in-Keeps.is
+    (c.kept.ensures ∙ ap (λ (n : ℕ). kept_at c.args.radio n 0) c.first_to_ask-at.ensures ∙ kept_settles c.args.radio full c.requires.0 c.requires.1 Keeps 0 (λ e. refl))
 
-returns_2 : tie.Need-returns-2
-returns_2 c =
-    let f = c.before.before.before in
-    let a = f.before.before in
-    let full : length a.args.radio.entries ≡ most_stored = search (rules, unmapped) in
-    rw c.before.enum-told2.given.1
-    (c.dropped.ensures ∙ ap (dropped_at a.args.radio) f.first-to-ask.ensures ∙ dropped_settles a.args.radio full a.requires.0 a.requires.1)
+returns-in-Drops : tie.Need-returns-in-Drops
+returns-in-Drops c =
+    let full : length c.args.radio.entries ≡ most_stored = search (rules, unmapped) in
+    rw c.in-Drops.is
+    (c.dropped.ensures ∙ ap (dropped_at c.args.radio) c.first_to_ask-at.ensures ∙ dropped_settles c.args.radio full c.requires.0 c.requires.1)
 
-returns_3 : tie.Need-returns-3
-returns_3 c =
-    let f = c.before.before.before in
-    let a = f.before.before in
-    let full : length a.args.radio.entries ≡ most_stored = search (rules, unmapped) in
-    rw c.before.enum-told3.given.1
-    (c.kept2.ensures ∙ ap (λ (n : ℕ). kept_at a.args.radio n 1) f.first-to-ask.ensures ∙ kept_settles a.args.radio full a.requires.0 a.requires.1 Unsure 1 (λ e. refl))
+returns-in-Unsure : tie.Need-returns-in-Unsure
+returns-in-Unsure c =
+    let full : length c.args.radio.entries ≡ most_stored = search (rules, unmapped) in
+    rw c.in-Unsure.is
+    (c.kept-in-Unsure.ensures ∙ ap (λ (n : ℕ). kept_at c.args.radio n 1) c.first_to_ask-at.ensures ∙ kept_settles c.args.radio full c.requires.0 c.requires.1 Unsure 1 (λ e. refl))
 
 pub settle_spec : {M : Type 1} → statement M
 settle_spec =
     tie.close
-    (tie.spec first_to_ask_requires enum_told kept_requires enum_told_2 dropped_requires enum_told_3 kept_requires_2 returns returns_2 returns_3)
+    (tie.spec
+    first_to_ask-at-requires
+    enum_told-1
+    kept-requires
+    enum_told-in-Drops
+    dropped-requires
+    enum_told-in-Unsure
+    kept-requires-in-Unsure
+    returns-in-Keeps
+    returns-in-Drops
+    returns-in-Unsure)

@@ -10,63 +10,66 @@ use Rattle.stores.proofs.Soundness.{unsound}
 use Rattle.stores.proofs.sound.Statement.{statement}
 use Rattle.stores.proofs.sound.Tie as tie
 
+returns-then-count-gt-MOST_STORED : tie.Need-returns-then-count-gt-MOST_STORED
+returns-then-count-gt-MOST_STORED c = sym (unsound c.args.radio (λ s. omega (arith, s.few)))
+
+is_number-requires : tie.Need-is_number-requires
+is_number-requires c κs = search rules
+
+returns-then-not-is_number-radio : tie.Need-returns-then-not-is_number-radio
+returns-then-not-is_number-radio c =
+    let radio = c.args.radio in
+    sym (unsound radio (λ s. no_path (sym (not-true _ c.if-not-is_number-radio.true-raw) ∙ and_both c.is_number.result (is_flag radio.hand_held) (c.is_number.ensures ∙ s.own) s.kind)))
+
+entries_sound-requires : tie.Need-entries_sound-requires
+entries_sound-requires c κs = omega arith
+
+returns-then-not-entries_sound : tie.Need-returns-then-not-entries_sound
+returns-then-not-entries_sound c =
+    let radio = c.args.radio in
+    sym (unsound radio (λ s. no_path (sym (not-true _ c.if-not-entries_sound.true-raw) ∙ c.entries_sound.ensures ∙ and_both (every entry_sound (entries_in radio)) (none_twice (entries_in radio)) s.entries s.once)))
+
+rest_blank-requires : tie.Need-rest_blank-requires
+rest_blank-requires c κs = search rules
+
+returns-then-not-rest_blank : tie.Need-returns-then-not-rest_blank
+returns-then-not-rest_blank c =
+    let radio = c.args.radio in
+    sym (unsound radio (λ s. no_path (sym (not-true _ c.if-not-rest_blank.true-raw) ∙ c.rest_blank.ensures ∙ s.rest)))
+
+open_number-root-requires : tie.Need-open_number-root-requires
+open_number-root-requires c κs = omega arith
+
+of_root-requires : tie.Need-of_root-requires
+of_root-requires c κs = omega arith
+
 returns : tie.Need-returns
-returns c = sym (unsound c.before.before.args.radio (λ s. omega (arith, s.few)))
-
-is_number_requires : tie.Need-is-number-requires
-is_number_requires c κs = search rules
-
-returns_2 : tie.Need-returns-2
-returns_2 c =
-    let n = c.before.before in
-    let radio = n.before.before.before.args.radio in
-    sym (unsound radio (λ s. no_path (sym (not-true _ c.if2.true) ∙ and_both n.is_number.result (is_flag radio.hand_held) (n.is_number.ensures ∙ s.own) s.kind)))
-
-entries_sound_requires : tie.Need-entries-sound-requires
-entries_sound_requires c κs = omega arith
-
-returns_3 : tie.Need-returns-3
-returns_3 c =
-    let n = c.before in
-    let radio = n.before.before.before.before.before.before.args.radio in
-    sym (unsound radio (λ s. no_path (sym (not-true _ c.if3.true) ∙ n.entries-sound.ensures ∙ and_both (every entry_sound (entries_in radio)) (none_twice (entries_in radio)) s.entries s.once)))
-
-rest_blank_requires : tie.Need-rest-blank-requires
-rest_blank_requires c κs = search rules
-
-returns_4 : tie.Need-returns-4
-returns_4 c =
-    let n = c.before in
-    let radio = n.before.before.before.before.before.before.before.before.args.radio in
-    sym (unsound radio (λ s. no_path (sym (not-true _ c.if4.true) ∙ n.rest-blank.ensures ∙ s.rest)))
-
-open_number_requires : tie.Need-open-number-requires
-open_number_requires c κs = omega arith
-
-of_root_requires : tie.Need-of-root-requires
-of_root_requires c κs = omega arith
-
-returns_5 : tie.Need-returns-5
 unfolding radio_sound
-returns_5 c =
-    let o = c.before.before in
-    let b = o.before.before in
-    let e = b.before.before in
-    let n = e.before.before.before in
-    let radio = n.before.before.before.args.radio in
-    let first = not-false _ e.before.if2.false in
-    let sounds = sym e.entries-sound.ensures ∙ not-false _ b.before.if3.false in
+returns c =
+    let radio = c.args.radio in
+    let first = not-false _ c.if-not-is_number-radio.false-raw in
+    let sounds = sym c.entries_sound.ensures ∙ not-false _ c.if-not-entries_sound.false-raw in
     rw (
-      sym n.is_number.ensures ∙ and_left n.is_number.result (is_flag radio.hand_held) first,
-      and_right n.is_number.result (is_flag radio.hand_held) first,
+      sym c.is_number.ensures ∙ and_left c.is_number.result (is_flag radio.hand_held) first,
+      and_right c.is_number.result (is_flag radio.hand_held) first,
       le-leb radio.count most_stored (omega arith),
       and_left (every entry_sound (entries_in radio)) (none_twice (entries_in radio)) sounds,
       and_right (every entry_sound (entries_in radio)) (none_twice (entries_in radio)) sounds,
-      sym b.rest-blank.ensures ∙ not-false _ o.before.if4.false,
+      sym c.rest_blank.ensures ∙ not-false _ c.if-not-rest_blank.false-raw,
     )
-    (ap (λ (root : Bool). is_hand_held radio || root) (c.of-root.ensures ∙ ap (λ (n : ℕ). every (is_of (root_of n)) (entries_in radio)) o.open_number.ensures))
+    (ap (λ (root : Bool). is_hand_held radio || root) (c.of_root.ensures ∙ ap (λ (n : ℕ). every (is_of (root_of n)) (entries_in radio)) c.open_number-root.ensures))
 
 pub sound_spec : {M : Type 1} → statement M
 sound_spec =
     tie.close
-    (tie.spec returns is_number_requires returns_2 entries_sound_requires returns_3 rest_blank_requires returns_4 open_number_requires of_root_requires returns_5)
+    (tie.spec
+    returns-then-count-gt-MOST_STORED
+    is_number-requires
+    returns-then-not-is_number-radio
+    entries_sound-requires
+    returns-then-not-entries_sound
+    rest_blank-requires
+    returns-then-not-rest_blank
+    open_number-root-requires
+    of_root-requires
+    returns)

@@ -11,14 +11,14 @@ use Rattle.stores.proofs.Stored.{new_length}
 use Rattle.stores.proofs.with_new.Statement.{statement}
 use Rattle.stores.proofs.with_new.Tie as tie
 
-mul_t6 : tie.Need-overflow-mul-t6
-mul_t6 c = search rules
+offset_bounds-next-count : tie.Need-offset_bounds-next-count
+offset_bounds-next-count c = search rules
 
-element_set_from_next : tie.Need-element-set-from-next
-element_set_from_next c = search rules
+bounds-next-count : tie.Need-bounds-next-count
+bounds-next-count c = search rules
 
-add_next : tie.Need-overflow-add-next
-add_next c = search rules
+overflow_add-next : tie.Need-overflow_add-next
+overflow_add-next c = search rules
 
 returns : tie.Need-returns
 returns c =
@@ -32,4 +32,4 @@ returns c =
     (laid_new radio.entries full radio.count (entry_of number 0 0) c.requires.1 s.rest)
 
 pub with_new_spec : {M : Type 1} → statement M
-with_new_spec = tie.close (tie.spec mul_t6 element_set_from_next add_next returns)
+with_new_spec = tie.close (tie.spec offset_bounds-next-count bounds-next-count overflow_add-next returns)

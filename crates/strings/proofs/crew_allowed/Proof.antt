@@ -3,28 +3,35 @@ use borrow.Author.Rules.{rules}
 use Rattle.strings.proofs.crew_allowed.Statement.{statement}
 use Rattle.strings.proofs.crew_allowed.Tie as tie
 
-enum_told : tie.Need-enum-told
-enum_told c = c.match.keys1
+enum_told-1 : tie.Need-enum_told-1
+enum_told-1 c = search rules
 
-enum_told_2 : tie.Need-enum-told-2
-enum_told_2 c = c.match.keys2
+enum_told-in-Codes : tie.Need-enum_told-in-Codes
+enum_told-in-Codes c = search rules
 
-may_carry_requires : tie.Need-may-carry-requires
-may_carry_requires c κs = tt
+may_carry-requires : tie.Need-may_carry-requires
+may_carry-requires c κs = tt
 
-enum_told_3 : tie.Need-enum-told-3
-enum_told_3 c = c.match.keys3
+enum_told-in-Broken : tie.Need-enum_told-in-Broken
+enum_told-in-Broken c = search rules
 
-returns : tie.Need-returns
-returns c = search rules
+returns-in-Single : tie.Need-returns-in-Single
+returns-in-Single c = search rules
 
-returns_2 : tie.Need-returns-2
-returns_2 c = rw (c.before.before.enum-told2.given.1, c.may_carry.ensures)
+returns-in-Codes : tie.Need-returns-in-Codes
+returns-in-Codes c = rw (c.in-Codes.is, c.may_carry.ensures)
 
-returns_3 : tie.Need-returns-3
-returns_3 c = search rules
+returns-in-Broken : tie.Need-returns-in-Broken
+returns-in-Broken c = search rules
 
 pub crew_allowed_spec : {M : Type 1} → statement M
 crew_allowed_spec =
     tie.close
-    (tie.spec enum_told enum_told_2 may_carry_requires enum_told_3 returns returns_2 returns_3)
+    (tie.spec
+    enum_told-1
+    enum_told-in-Codes
+    may_carry-requires
+    enum_told-in-Broken
+    returns-in-Single
+    returns-in-Codes
+    returns-in-Broken)

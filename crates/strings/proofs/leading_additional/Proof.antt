@@ -10,51 +10,51 @@ use Rattle.answers.proofs.Leading.{count_end, count_stop, count_step}
 use Rattle.strings.proofs.leading_additional.Statement.{statement}
 use Rattle.strings.proofs.leading_additional.Tie as tie
 
-abbrev invariant_loop : tie.invariant_loop
-invariant_loop part n₀ n = (n ≤ length part) × (leading_additional part ≡ n + leading_additional (drop n part))
+abbrev invariant-loop-n : tie.invariant-loop-n
+invariant-loop-n part n₀ n = (n ≤ length part) × (leading_additional part ≡ n + leading_additional (drop n part))
 
-abbrev decreases_loop : tie.decreases_loop
-decreases_loop part n₀ n = length part - n
+abbrev decreases-loop-n : tie.decreases-loop-n
+decreases-loop-n part n₀ n = length part - n
 
-loop_holds : tie.Need-loop-init invariant_loop decreases_loop
-loop_holds c = omega arith
+loop-n-init : tie.Need-loop-n-init invariant-loop-n decreases-loop-n
+loop-n-init c = omega arith
 
-shared_slice_read_is_additional : tie.Need-shared-slice-read-is-additional invariant_loop decreases_loop
-shared_slice_read_is_additional c = omega arith
+bounds-part-n : tie.Need-bounds-part-n invariant-loop-n decreases-loop-n
+bounds-part-n c = omega arith
 
-is_additional_requires : tie.Need-is-additional-requires invariant_loop decreases_loop
-is_additional_requires c κs = tt
+is_additional-requires : tie.Need-is_additional-requires invariant-loop-n decreases-loop-n
+is_additional-requires c κs = tt
 
-returns : tie.Need-returns invariant_loop decreases_loop
-returns c =
-    count_stop is_additional _ _ c.before.before.before.before.loop.invariant.1 (omega arith)
-    (sym c.before.is-additional.ensures ∙ not-true _ c.if1.true)
+returns-then-not-is_additional : tie.Need-returns-then-not-is_additional invariant-loop-n decreases-loop-n
+returns-then-not-is_additional c =
+    count_stop is_additional _ _ c.loop-n.invariant.1 (omega arith)
+    (sym c.is_additional.ensures ∙ not-true _ c.if-not-is_additional.true-raw)
 
-add_n : tie.Need-overflow-add-n invariant_loop decreases_loop
-add_n c = omega arith
+overflow_add-n : tie.Need-overflow_add-n invariant-loop-n decreases-loop-n
+overflow_add-n c = omega arith
 
-loop_less : tie.Need-loop-smaller invariant_loop decreases_loop
-loop_less c = omega arith
+loop-n-smaller : tie.Need-loop-n-smaller invariant-loop-n decreases-loop-n
+loop-n-smaller c = omega arith
 
-loop_again : tie.Need-loop-preserved invariant_loop decreases_loop
-loop_again c =
-    let l = c.before.before.before.before.loop in
-    (omega arith, count_step is_additional _ _ l.invariant.1 (omega arith) (sym c.before.is-additional.ensures ∙ not-false _ c.if1.false))
+loop-n-preserved : tie.Need-loop-n-preserved invariant-loop-n decreases-loop-n
+loop-n-preserved c =
+    let l = c.loop-n in
+    (omega arith, count_step is_additional _ _ l.invariant.1 (omega arith) (sym c.is_additional.ensures ∙ not-false _ c.if-not-is_additional.false-raw))
 
-returns_2 : tie.Need-returns-2 invariant_loop decreases_loop
-returns_2 c = count_end is_additional _ _ c.before.loop.invariant.1 (omega arith)
+returns : tie.Need-returns invariant-loop-n decreases-loop-n
+returns c = count_end is_additional _ _ c.loop-n.invariant.1 (omega arith)
 
 pub leading_additional_spec : {M : Type 1} → statement M
 leading_additional_spec =
     tie.close
     (tie.spec
-    invariant_loop
-    decreases_loop
-    loop_holds
-    shared_slice_read_is_additional
-    is_additional_requires
-    returns
-    add_n
-    loop_less
-    loop_again
-    returns_2)
+    invariant-loop-n
+    decreases-loop-n
+    loop-n-init
+    bounds-part-n
+    is_additional-requires
+    returns-then-not-is_additional
+    overflow_add-n
+    loop-n-smaller
+    loop-n-preserved
+    returns)

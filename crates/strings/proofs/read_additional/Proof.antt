@@ -16,59 +16,55 @@ use Rattle.strings.proofs.Additional.{additional_many, additional_open, addition
 use Rattle.strings.proofs.read_additional.Statement.{statement}
 use Rattle.strings.proofs.read_additional.Tie as tie
 
-leading_additional_requires : tie.Need-leading-additional-requires
-leading_additional_requires c κs = tt
+leading_additional-n-requires : tie.Need-leading_additional-n-requires
+leading_additional-n-requires c κs = tt
 
-returns : tie.Need-returns
-returns c = additional_many _ _ c.before.leading-additional.ensures (omega arith)
+returns-then-n-gt-MOST_ADDITIONAL : tie.Need-returns-then-n-gt-MOST_ADDITIONAL
+returns-then-n-gt-MOST_ADDITIONAL c = additional_many _ _ c.leading_additional-n.ensures (omega arith)
 
 -- the count is within the part, and `#` stands behind it
-within : (c : tie.Else1) → c.before.leading-additional.result ≤ length c.before.before.before.args.part.now
-within c = rw c.before.leading-additional.ensures (leading_front is_additional c.before.before.before.args.part.now).within
+within : (c : tie.Else-n-gt-MOST_ADDITIONAL) → c.leading_additional-n.result ≤ length c.args.part.now
+within c = rw c.leading_additional-n.ensures (leading_front is_additional c.args.part.now).within
 
 hashed :
-    (c : tie.Else2) → let l = c.before.before.before in
-    begins hash (drop l.leading-additional.result l.before.before.args.part.now) ≡ true
-hashed c = sym c.before.stands_at.ensures ∙ not-false _ c.if2.false
+    (c : tie.Else-not-stands_at) → begins hash (drop c.leading_additional-n.result c.args.part.now) ≡ true
+hashed c = sym c.stands_at.ensures ∙ not-false _ c.if-not-stands_at.false-raw
 
-stands_at_requires : tie.Need-stands-at-requires
-stands_at_requires c κs = tt
+stands_at-requires : tie.Need-stands_at-requires
+stands_at-requires c κs = tt
 
-returns_2 : tie.Need-returns-2
-returns_2 c =
-    additional_open _ _ c.before.before.before.leading-additional.ensures (omega arith)
-    (sym c.before.stands_at.ensures ∙ not-true _ c.if2.true)
+returns-then-not-stands_at : tie.Need-returns-then-not-stands_at
+returns-then-not-stands_at c =
+    additional_open _ _ c.leading_additional-n.ensures (omega arith)
+    (sym c.stands_at.ensures ∙ not-true _ c.if-not-stands_at.true-raw)
 
-add_if3 : tie.Need-overflow-add-if3
-add_if3 c = search rules
+overflow_add-n : tie.Need-overflow_add-n
+overflow_add-n c = search rules
 
-returns_3 : tie.Need-returns-3
-returns_3 c =
-    let l = c.before.before.before.before in
-    additional_more _ _ l.leading-additional.ensures (omega arith) (hashed c.before) (omega arith)
+returns-then-part-n : tie.Need-returns-then-part-n
+returns-then-part-n c =
+    additional_more _ _ c.leading_additional-n.ensures (omega arith) (hashed c.before) (omega arith)
 
-slice_aggregate_read_crew : tie.Need-slice-aggregate-read-crew
-slice_aggregate_read_crew c = sym (length-take-le _ _ (within c.before.before.before.before))
+slice_bounds-read_crew-end : tie.Need-slice_bounds-read_crew-end
+slice_bounds-read_crew-end c = sym (length-take-le _ _ (within c.before.before.before))
 
-read_crew_requires : tie.Need-read-crew-requires
-read_crew_requires c κs = tt
+read_crew-requires : tie.Need-read_crew-requires
+read_crew-requires c κs = tt
 
-returns_4 : tie.Need-returns-4
-returns_4 c =
-    let e = c.before.before in
-    let l = e.before.before.before.before in
-    (omega arith, additional_read _ _ l.leading-additional.ensures (omega arith) (hashed e.before) (omega arith), c.read_crew.ensures)
+returns : tie.Need-returns
+returns c =
+    (omega arith, additional_read _ _ c.leading_additional-n.ensures (omega arith) (hashed c.before.before) (omega arith), c.read_crew.ensures)
 
 pub read_additional_spec : {M : Type 1} → statement M
 read_additional_spec =
     tie.close
     (tie.spec
-    leading_additional_requires
-    returns
-    stands_at_requires
-    returns_2
-    add_if3
-    returns_3
-    slice_aggregate_read_crew
-    read_crew_requires
-    returns_4)
+    leading_additional-n-requires
+    returns-then-n-gt-MOST_ADDITIONAL
+    stands_at-requires
+    returns-then-not-stands_at
+    overflow_add-n
+    returns-then-part-n
+    slice_bounds-read_crew-end
+    read_crew-requires
+    returns)

@@ -1,4 +1,5 @@
 -- `strings::read_erasing` meets its contract: its tests are the definition's, in the same order. Assumes nothing.
+use borrow.Author.Rules.{rules}
 use mathlib.Core.Path.{◌≡◌, sym, ◌∙◌}
 use mathlib.Core.Bool.{true, false}
 use mathlib.Core.List.{◌++◌}
@@ -18,97 +19,87 @@ use Rattle.strings.proofs.Steps.{erasing_empty, erasing_not, erasing_open, erasi
 use Rattle.strings.proofs.read_erasing.Statement.{statement}
 use Rattle.strings.proofs.read_erasing.Tie as tie
 
-begins_with_two_requires : tie.Need-begins-with-two-requires
-begins_with_two_requires c κs = tt
+begins_with_two-requires : tie.Need-begins_with_two-requires
+begins_with_two-requires c κs = tt
 
-returns : tie.Need-returns
-returns c = erasing_empty _ _ (sym c.before.begins-with-two.ensures ∙ c.if1.true)
+returns-then-begins_with_two : tie.Need-returns-then-begins_with_two
+returns-then-begins_with_two c = erasing_empty _ _ (sym c.begins_with_two.ensures ∙ c.if-begins_with_two.true)
 
-may_force_requires : tie.Need-may-force-requires
-may_force_requires c κs = tt
+may_force-requires : tie.Need-may_force-requires
+may_force-requires c κs = tt
 
 -- not both empty; with `##`; and behind `88*`
-other : (c : tie.Else1) → begins (star ++ star) c.before.before.before.args.part.now ≡ false
-other c = sym c.before.begins-with-two.ensures ∙ c.if1.false
+other : (c : tie.Else-begins_with_two) → begins (star ++ star) c.args.part.now ≡ false
+other c = sym c.begins_with_two.ensures ∙ c.if-begins_with_two.false
 
-force : (c : tie.Else2) → may_force c.before.before.before.before.before.args.operation ≡ true
-force c = sym c.before.may-force.ensures ∙ not-false _ c.if2.false
+force : (c : tie.Else-not-may_force) → may_force c.args.operation ≡ true
+force c = sym c.may_force.ensures ∙ not-false _ c.if-not-may_force.false-raw
 
 begun :
-    (c : tie.Else3) → let f = c.before.before in
-    begins (ascii "88" ++ star) f.before.before.before.before.before.args.part.now ≡ true
-begun c = sym c.before.begins-with-three.ensures ∙ not-false _ c.if3.false
+    (c : tie.Else-not-begins_with_three) → begins (ascii "88" ++ star) c.args.part.now ≡ true
+begun c = sym c.begins_with_three.ensures ∙ not-false _ c.if-not-begins_with_three.false-raw
 
-returns_2 : tie.Need-returns-2
-returns_2 c = erasing_not _ _ (other c.before.before) (sym c.before.may-force.ensures ∙ not-true _ c.if2.true)
+returns-then-not-may_force : tie.Need-returns-then-not-may_force
+returns-then-not-may_force c = erasing_not _ _ (other c.before.before) (sym c.may_force.ensures ∙ not-true _ c.if-not-may_force.true-raw)
 
-begins_with_three_requires : tie.Need-begins-with-three-requires
-begins_with_three_requires c κs = tt
+begins_with_three-requires : tie.Need-begins_with_three-requires
+begins_with_three-requires c κs = tt
 
-returns_3 : tie.Need-returns-3
-returns_3 c =
-    let f = c.before.before in
-    erasing_open _ _ (other f.before.before) (force f) (sym c.before.begins-with-three.ensures ∙ not-true _ c.if3.true)
+returns-then-not-begins_with_three : tie.Need-returns-then-not-begins_with_three
+returns-then-not-begins_with_three c =
+    erasing_open _ _ (other c.before.before.before.before) (force c.before.before) (sym c.begins_with_three.ensures ∙ not-true _ c.if-not-begins_with_three.true-raw)
 
-sub_read_number_field : tie.Need-overflow-sub-read-number-field
-sub_read_number_field c = begins_within _ _ (begun c)
+slice_bounds-read_number_field-count : tie.Need-slice_bounds-read_number_field-count
+slice_bounds-read_number_field-count c = begins_within _ _ (begun c)
 
-part_read_number_field_start : tie.Need-slice-bounds-read-number-field-start
-part_read_number_field_start c = begins_within _ _ (begun c)
+slice_bounds-read_number_field-start : tie.Need-slice_bounds-read_number_field-start
+slice_bounds-read_number_field-start c = begins_within _ _ (begun c)
 
-part_read_number_field_end : tie.Need-slice-bounds-read-number-field-end
-part_read_number_field_end c = le_refl _
+slice_bounds-read_number_field-end : tie.Need-slice_bounds-read_number_field-end
+slice_bounds-read_number_field-end c = le_refl _
 
-read_number_field_requires : tie.Need-read-number-field-requires
-read_number_field_requires c κs = tt
+read_number_field-requires : tie.Need-read_number_field-requires
+read_number_field-requires c κs = tt
 
-enum_known_word : tie.Need-enum-known-word
-enum_known_word c = c.match.keys1
+enum_known-word : tie.Need-enum_known-word
+enum_known-word c = search rules
 
-enum_told : tie.Need-enum-told
-enum_told c = c.match.keys2
+enum_told-1 : tie.Need-enum_told-1
+enum_told-1 c = search rules
 
 -- the number behind it, in the part's own places
 found :
-    (c : tie.After-word) → let b = c.before.before.before.before in
-    let s = b.before.before.before.before.before.before.before in
-    Found number_field_at s.args.part.now 3 c.word.given.0.0 (3 + c.word.given.0.1.0)
+    (c : tie.In-Read) → Found number_field_at c.args.part.now 3 c.in-Read.word (3 + c.in-Read.n)
 found c =
-    let n = c.before.before in
-    found_at number_field_at _ 3 _ _ (begins_within _ _ (begun n.before.before)) (rw c.word.given.1 at n.read-number-field.ensures)
+    found_at number_field_at _ 3 _ _ (begins_within _ _ (begun c.before.before.before)) (rw c.in-Read.is at c.read_number_field.ensures)
 
-returns_4 : tie.Need-returns-4
-returns_4 c =
-    let n = c.before.before in
-    let b = n.before.before in
-    let f = b.before.before in
-    erasing_none _ _ (other f.before.before) (force f) (begun b) (rw rest_of at (rw c.enum_told.given.1 at n.read-number-field.ensures))
+returns-in_default : tie.Need-returns-in_default
+returns-in_default c =
+    erasing_none _ _ (other c.before.before.before.before.before.before.before) (force c.before.before.before.before.before) (begun c.before.before.before) (rw rest_of at (rw c.in_default.is at c.read_number_field.ensures))
 
-add_t11 : tie.Need-overflow-add-t11
-add_t11 c = omega (arith, (found c.before).within)
+overflow_add-result : tie.Need-overflow_add-result
+overflow_add-result c = omega (arith, (found c).within)
 
-returns_5 : tie.Need-returns-5
-returns_5 c =
-    let b = c.before.before.before.before.before in
-    let f = b.before.before in
-    erasing_forced _ _ (other f.before.before) (force f) _ _ (begun b) (found c.before)
+returns : tie.Need-returns
+returns c =
+    erasing_forced _ _ (other c.before.before.before.before.before.before.before) (force c.before.before.before.before.before) _ _ (begun c.before.before.before) (found c)
 
 pub read_erasing_spec : {M : Type 1} → statement M
 read_erasing_spec =
     tie.close
     (tie.spec
-    begins_with_two_requires
-    returns
-    may_force_requires
-    returns_2
-    begins_with_three_requires
-    returns_3
-    sub_read_number_field
-    part_read_number_field_start
-    part_read_number_field_end
-    read_number_field_requires
-    enum_known_word
-    enum_told
-    returns_4
-    add_t11
-    returns_5)
+    begins_with_two-requires
+    returns-then-begins_with_two
+    may_force-requires
+    returns-then-not-may_force
+    begins_with_three-requires
+    returns-then-not-begins_with_three
+    slice_bounds-read_number_field-count
+    slice_bounds-read_number_field-start
+    slice_bounds-read_number_field-end
+    read_number_field-requires
+    enum_known-word
+    enum_told-1
+    returns-in_default
+    overflow_add-result
+    returns)

@@ -1,4 +1,5 @@
 -- `strings::read_fields` meets its contract: each field is found in the rest behind the one before, and the first that is not ends the reading. Assumes nothing.
+use borrow.Author.Rules.{rules}
 use mathlib.Core.Path.{◌≡◌, sym, ◌∙◌}
 use mathlib.Core.List.{List}
 use Prim.Native.Nat.{ℕ, ◌+◌}
@@ -17,254 +18,243 @@ use Rattle.strings.proofs.Cursor.{found_at, served_at, ended, no_operation, no_s
 use Rattle.strings.proofs.read_fields.Statement.{statement}
 use Rattle.strings.proofs.read_fields.Tie as tie
 
-read_operation_requires : tie.Need-read-operation-requires
-read_operation_requires c κs = tt
+read_operation-requires : tie.Need-read_operation-requires
+read_operation-requires c κs = tt
 
-enum_known_operation : tie.Need-enum-known-operation
-enum_known_operation c = c.match.keys1
+enum_known-operation : tie.Need-enum_known-operation
+enum_known-operation c = search rules
 
-enum_told : tie.Need-enum-told
-enum_told c = c.match.keys2
+enum_told-1 : tie.Need-enum_told-1
+enum_told-1 c = search rules
 
-returns : tie.Need-returns
-returns c = ended _ (no_operation _ (rw c.enum_told.given.1 at c.before.before.read-operation.ensures))
+returns-in_default : tie.Need-returns-in_default
+returns-in_default c = ended _ (no_operation _ (rw c.in_default.is at c.read_operation.ensures))
 
 -- ---- the way back from each field to the one before, the text, and the cursor behind each field
 
-abbrev text : tie.After-operation → List ℕ
-text c = c.before.before.before.before.args.text.now
+abbrev text : tie.In-Read → List ℕ
+text c = c.args.text.now
 
-abbrev past_service : tie.After-n → tie.After-operation
-past_service c = c.before.before.before.before.before
+abbrev past_service : tie.In-Read-read_service → tie.In-Read
+past_service c = c.before.before.before
+abbrev past_number : tie.In-Read-read_number_field → tie.In-Read-read_service
+past_number c = c.before.before.before
+abbrev past_erasing : tie.In-Read-read_erasing → tie.In-Read-read_number_field
+past_erasing c = c.before.before.before
+abbrev cursor1 : tie.In-Read → ℕ
+cursor1 c = c.in-Read.cursor
 
-abbrev past_number : tie.After-word → tie.After-n
-past_number c = c.before.before.before.before.before
+abbrev cursor2 : tie.In-Read-read_service → ℕ
+cursor2 c = cursor1 (past_service c) + c.in-Read-read_service.n
 
-abbrev past_erasing : tie.After-erasing → tie.After-word
-past_erasing c = c.before.before.before.before.before
+abbrev cursor3 : tie.In-Read-read_number_field → ℕ
+cursor3 c = cursor2 (past_number c) + c.in-Read-read_number_field.n
 
-abbrev cursor1 : tie.After-operation → ℕ
-cursor1 c = c.operation.given.0.1.0
+abbrev cursor4 : tie.In-Read-read_erasing → ℕ
+cursor4 c = cursor3 (past_erasing c) + c.in-Read-read_erasing.n
 
-abbrev cursor2 : tie.After-n → ℕ
-cursor2 c = cursor1 (past_service c) + c.n.given.0.0
-
-abbrev cursor3 : tie.After-word → ℕ
-cursor3 c = cursor2 (past_number c) + c.word.given.0.1.0
-
-abbrev cursor4 : tie.After-erasing → ℕ
-cursor4 c = cursor3 (past_erasing c) + c.erasing.given.0.1.0
-
-abbrev first : tie.After-word → tie.After-operation
+abbrev first : tie.In-Read-read_number_field → tie.In-Read
 first c = past_service (past_number c)
 
 -- ---- the fields found
 
-operation : (c : tie.After-operation) → Found operation_at (text c) 0 c.operation.given.0.0 (cursor1 c)
-operation c = rw c.operation.given.1 at c.before.before.read-operation.ensures
+operation : (c : tie.In-Read) → Found operation_at (text c) 0 c.in-Read.operation (cursor1 c)
+operation c = rw c.in-Read.is at c.read_operation.ensures
 
-service : (c : tie.After-n) → Served (text (past_service c)) (cursor1 (past_service c)) (cursor2 c)
-service c = served_at _ _ _ (operation (past_service c)).within (rw c.n.given.1 at c.before.before.read-service.ensures)
+service : (c : tie.In-Read-read_service) → Served (text (past_service c)) (cursor1 (past_service c)) (cursor2 c)
+service c = served_at _ _ _ (operation (past_service c)).within (rw c.in-Read-read_service.is at c.read_service.ensures)
 
 number :
-    (c : tie.After-word)
-    → Found number_field_at (text (first c)) (cursor2 (past_number c)) c.word.given.0.0 (cursor3 c)
+    (c : tie.In-Read-read_number_field)
+    → Found number_field_at (text (first c)) (cursor2 (past_number c)) c.in-Read-read_number_field.word (cursor3 c)
 number c =
-    found_at number_field_at _ _ _ _ (service (past_number c)).within (rw c.word.given.1 at c.before.before.read-number-field.ensures)
+    found_at number_field_at _ _ _ _ (service (past_number c)).within (rw c.in-Read-read_number_field.is at c.read_number_field.ensures)
 
 erasing :
-    (c : tie.After-erasing) → let n = past_erasing c in
-    Found (erasing_at (first n).operation.given.0.0) (text (first n)) (cursor3 n) c.erasing.given.0.0 (cursor4 c)
-erasing c = found_at (erasing_at _) _ _ _ _ (number (past_erasing c)).within (rw c.erasing.given.1 at c.before.before.read-erasing.ensures)
+    (c : tie.In-Read-read_erasing) → let n = past_erasing c in
+    Found (erasing_at (first n).in-Read.operation) (text (first n)) (cursor3 n) c.in-Read-read_erasing.erasing (cursor4 c)
+erasing c = found_at (erasing_at _) _ _ _ _ (number (past_erasing c)).within (rw c.in-Read-read_erasing.is at c.read_erasing.ensures)
 
 -- ---- the needs
 
-sub_read_service : tie.Need-overflow-sub-read-service
-sub_read_service c = (operation c.before).within
+slice_bounds-read_service-count : tie.Need-slice_bounds-read_service-count
+slice_bounds-read_service-count c = (operation c).within
 
-part_read_service_start : tie.Need-slice-bounds-read-service-start
-part_read_service_start c = (operation c.before).within
+slice_bounds-read_service-start : tie.Need-slice_bounds-read_service-start
+slice_bounds-read_service-start c = (operation c).within
 
-part_read_service_end : tie.Need-slice-bounds-read-service-end
-part_read_service_end c = le_refl _
+slice_bounds-read_service-end : tie.Need-slice_bounds-read_service-end
+slice_bounds-read_service-end c = le_refl _
 
-read_service_requires : tie.Need-read-service-requires
-read_service_requires c κs = tt
+read_service-requires : tie.Need-read_service-requires
+read_service-requires c κs = tt
 
-enum_known_n : tie.Need-enum-known-n
-enum_known_n c = c.match2.keys1
+enum_known-n : tie.Need-enum_known-n
+enum_known-n c = search rules
 
-enum_told_2 : tie.Need-enum-told-2
-enum_told_2 c = c.match2.keys2
+enum_told-in_default-read_service : tie.Need-enum_told-in_default-read_service
+enum_told-in_default-read_service c = search rules
 
-returns_2 : tie.Need-returns-2
-returns_2 c =
-    let o = c.before.before.before.before.before in
-    ended _ (no_service _ _ _ (operation o) (rw rest_of at (rw c.enum-told2.given.1 at c.before.before.read-service.ensures)))
+returns-in_default-read_service : tie.Need-returns-in_default-read_service
+returns-in_default-read_service c =
+    ended _ (no_service _ _ _ (operation c.before.before.before) (rw rest_of at (rw c.in_default-read_service.is at c.read_service.ensures)))
 
-add_cursor : tie.Need-overflow-add-cursor
-add_cursor c = omega (arith, (service c.before).within)
+overflow_add-cursor : tie.Need-overflow_add-cursor
+overflow_add-cursor c = omega (arith, (service c).within)
 
-sub_read_number_field : tie.Need-overflow-sub-read-number-field
-sub_read_number_field c = (service c.before).within
+slice_bounds-read_number_field-count : tie.Need-slice_bounds-read_number_field-count
+slice_bounds-read_number_field-count c = (service c).within
 
-part_read_number_field_start : tie.Need-slice-bounds-read-number-field-start
-part_read_number_field_start c = (service c.before).within
+slice_bounds-read_number_field-start : tie.Need-slice_bounds-read_number_field-start
+slice_bounds-read_number_field-start c = (service c).within
 
-part_read_number_field_end : tie.Need-slice-bounds-read-number-field-end
-part_read_number_field_end c = le_refl _
+slice_bounds-read_number_field-end : tie.Need-slice_bounds-read_number_field-end
+slice_bounds-read_number_field-end c = le_refl _
 
-read_number_field_requires : tie.Need-read-number-field-requires
-read_number_field_requires c κs = tt
+read_number_field-requires : tie.Need-read_number_field-requires
+read_number_field-requires c κs = tt
 
-enum_known_word : tie.Need-enum-known-word
-enum_known_word c = c.match3.keys1
+enum_known-word : tie.Need-enum_known-word
+enum_known-word c = search rules
 
-enum_told_3 : tie.Need-enum-told-3
-enum_told_3 c = c.match3.keys2
+enum_told-in_default-read_number_field : tie.Need-enum_told-in_default-read_number_field
+enum_told-in_default-read_number_field c = search rules
 
-returns_3 : tie.Need-returns-3
-returns_3 c =
-    let s = c.before.before.before.before.before in
-    let none = rw rest_of at (rw c.enum-told3.given.1 at c.before.before.read-number-field.ensures) in
-    ended _ (no_number _ _ _ (operation (past_service s)) _ (service s) none)
+returns-in_default-read_number_field : tie.Need-returns-in_default-read_number_field
+returns-in_default-read_number_field c =
+    let none = rw rest_of at (rw c.in_default-read_number_field.is at c.read_number_field.ensures) in
+    ended _ (no_number _ _ _ (operation (past_service c.before.before.before)) _ (service c.before.before.before) none)
 
-add_cursor_2 : tie.Need-overflow-add-cursor-2
-add_cursor_2 c = omega (arith, (number c.before).within)
+overflow_add-cursor-2 : tie.Need-overflow_add-cursor-2
+overflow_add-cursor-2 c = omega (arith, (number c).within)
 
-sub_read_erasing : tie.Need-overflow-sub-read-erasing
-sub_read_erasing c = (number c.before).within
+slice_bounds-read_erasing-count : tie.Need-slice_bounds-read_erasing-count
+slice_bounds-read_erasing-count c = (number c).within
 
-part_read_erasing_start : tie.Need-slice-bounds-read-erasing-start
-part_read_erasing_start c = (number c.before).within
+slice_bounds-read_erasing-start : tie.Need-slice_bounds-read_erasing-start
+slice_bounds-read_erasing-start c = (number c).within
 
-part_read_erasing_end : tie.Need-slice-bounds-read-erasing-end
-part_read_erasing_end c = le_refl _
+slice_bounds-read_erasing-end : tie.Need-slice_bounds-read_erasing-end
+slice_bounds-read_erasing-end c = le_refl _
 
-read_erasing_requires : tie.Need-read-erasing-requires
-read_erasing_requires c κs = tt
+read_erasing-requires : tie.Need-read_erasing-requires
+read_erasing-requires c κs = tt
 
-enum_known_erasing : tie.Need-enum-known-erasing
-enum_known_erasing c = c.match4.keys1
+enum_known-erasing : tie.Need-enum_known-erasing
+enum_known-erasing c = search rules
 
-enum_told_4 : tie.Need-enum-told-4
-enum_told_4 c = c.match4.keys2
+enum_told-in_default-read_erasing : tie.Need-enum_told-in_default-read_erasing
+enum_told-in_default-read_erasing c = search rules
 
-returns_4 : tie.Need-returns-4
-returns_4 c =
-    let n = c.before.before.before.before.before in
-    let none = rw rest_of at (rw c.enum-told4.given.1 at c.before.before.read-erasing.ensures) in
-    ended _ (no_erasing _ _ _ (operation (first n)) _ (service (past_number n)) _ _ (number n) none)
+returns-in_default-read_erasing : tie.Need-returns-in_default-read_erasing
+returns-in_default-read_erasing c =
+    let none = rw rest_of at (rw c.in_default-read_erasing.is at c.read_erasing.ensures) in
+    ended _ (no_erasing _ _ _ (operation (first c.before.before.before)) _ (service (past_number c.before.before.before)) _ _ (number c.before.before.before) none)
 
-add_start : tie.Need-overflow-add-start
-add_start c = omega (arith, (erasing c.before).within)
+overflow_add-start : tie.Need-overflow_add-start
+overflow_add-start c = omega (arith, (erasing c).within)
 
-sub_read_additional : tie.Need-overflow-sub-read-additional
-sub_read_additional c = (erasing c.before).within
+slice_bounds-read_additional-count : tie.Need-slice_bounds-read_additional-count
+slice_bounds-read_additional-count c = (erasing c).within
 
-part_read_additional_start : tie.Need-slice-bounds-read-additional-start
-part_read_additional_start c = (erasing c.before).within
+slice_bounds-read_additional-start : tie.Need-slice_bounds-read_additional-start
+slice_bounds-read_additional-start c = (erasing c).within
 
-part_read_additional_end : tie.Need-slice-bounds-read-additional-end
-part_read_additional_end c = le_refl _
+slice_bounds-read_additional-end : tie.Need-slice_bounds-read_additional-end
+slice_bounds-read_additional-end c = le_refl _
 
-read_additional_requires : tie.Need-read-additional-requires
-read_additional_requires c κs = tt
+read_additional-requires : tie.Need-read_additional-requires
+read_additional-requires c κs = tt
 
-enum_known_count : tie.Need-enum-known-count
-enum_known_count c = c.match5.keys1
+enum_known-count : tie.Need-enum_known-count
+enum_known-count c = search rules
 
-enum_told_5 : tie.Need-enum-told-5
-enum_told_5 c = c.match5.keys2
+enum_told-in_default-read_additional : tie.Need-enum_told-in_default-read_additional
+enum_told-in_default-read_additional c = search rules
 
-returns_5 : tie.Need-returns-5
-returns_5 c =
-    let e = c.before.before.before.before.before in
-    let n = past_erasing e in
-    let none = rw rest_of at (rw c.enum-told5.given.1 at c.before.before.read-additional.ensures) in
-    ended _ (no_additional _ _ _ (operation (first n)) _ (service (past_number n)) _ _ (number n) _ _ (erasing e) none)
+returns-in_default-read_additional : tie.Need-returns-in_default-read_additional
+returns-in_default-read_additional c =
+    let n = past_erasing c.before.before.before in
+    let none = rw rest_of at (rw c.in_default-read_additional.is at c.read_additional.ensures) in
+    ended _ (no_additional _ _ _ (operation (first n)) _ (service (past_number n)) _ _ (number n) _ _ (erasing c.before.before.before) none)
 
 -- ---- the fields that were read, and whether the crew may stand beside them
 
-crew_allowed_requires : tie.Need-crew-allowed-requires
-crew_allowed_requires c κs = tt
+crew_allowed-requires : tie.Need-crew_allowed-requires
+crew_allowed-requires c κs = tt
 
-abbrev past_count : tie.After-crew-allowed → tie.After-erasing
-past_count c = c.before.before.before.before.before.before.before
-
-abbrev fields : tie.After-crew-allowed → Fields
+abbrev past_count : tie.After-crew_allowed → tie.In-Read-read_erasing
+past_count c = c.before.before.before.before
+abbrev fields : tie.After-crew_allowed → Fields
 fields c =
     let e = past_count c in
     let n = past_erasing e in
-    let a = c.before.before.count.given.0 in
-    record { operation = (first n).operation.given.0.0; number = record { 0 = n.word.given.0.0 }; erasing = e.erasing.given.0.0; start = cursor4 e; count = a.0; crew = a.1.0 }
+    record { operation = (first n).in-Read.operation; number = record { 0 = n.in-Read-read_number_field.word }; erasing = e.in-Read-read_erasing.erasing; start = cursor4 e; count = c.in-Read-read_additional.count; crew = c.in-Read-read_additional.crew }
 
-abbrev whole : tie.After-crew-allowed → List ℕ
+abbrev whole : tie.After-crew_allowed → List ℕ
 whole c = text (first (past_erasing (past_count c)))
 
-additional : (c : tie.After-crew-allowed) → AdditionalIs (AdditionalField (fields c).count (fields c).crew) (drop (fields c).start (whole c))
-additional c = rw rest_of at (rw c.before.before.count.given.1 at c.before.before.before.before.read-additional.ensures)
+additional : (c : tie.After-crew_allowed) → AdditionalIs (AdditionalField (fields c).count (fields c).crew) (drop (fields c).start (whole c))
+additional c = rw rest_of at (rw c.in-Read-read_additional.is at c.read_additional.ensures)
 
-kept : (c : tie.After-crew-allowed) → crew_kept (request_in (whole c) (fields c)) ≡ c.crew-allowed.result
-kept c = rw (← (additional c).2) (sym c.crew-allowed.ensures)
+kept : (c : tie.After-crew_allowed) → crew_kept (request_in (whole c) (fields c)) ≡ c.crew_allowed.result
+kept c = rw (← (additional c).2) (sym c.crew_allowed.ensures)
 
-returns_6 : tie.Need-returns-6
-returns_6 c =
-    let a = c.before in
-    let e = past_count a in
+returns-then-not-crew_allowed : tie.Need-returns-then-not-crew_allowed
+returns-then-not-crew_allowed c =
+    let e = past_count c.before in
     let n = past_erasing e in
-    ended _ (no_crew _ _ _ (operation (first n)) _ (service (past_number n)) _ _ (number n) _ _ (erasing e) _ (additional a).1 (kept a ∙ not-true _ c.if1.true))
+    ended _ (no_crew _ _ _ (operation (first n)) _ (service (past_number n)) _ _ (number n) _ _ (erasing e) _ (additional c.before).1 (kept c.before ∙ not-true _ c.if-not-crew_allowed.true-raw))
 
-returns_7 : tie.Need-returns-7
-returns_7 c =
-    let a = c.before in
-    let e = past_count a in
+returns : tie.Need-returns
+returns c =
+    let e = past_count c.before in
     let n = past_erasing e in
-    let found = additional a in
-    told_read (whole a) (fields a)
-    (all_read _ _ _ (operation (first n)) _ (service (past_number n)) _ _ (number n) _ _ (erasing e) _ found.1 (kept a ∙ not-false _ c.if1.false))
-    (omega (arith, found.0, length-drop (cursor4 e) (whole a), (erasing e).within))
+    let found = additional c.before in
+    told_read (whole c.before) (fields c.before)
+    (all_read _ _ _ (operation (first n)) _ (service (past_number n)) _ _ (number n) _ _ (erasing e) _ found.1 (kept c.before ∙ not-false _ c.if-not-crew_allowed.false-raw))
+    (omega (arith, found.0, length-drop (cursor4 e) (whole c.before), (erasing e).within))
     found.2
 
 pub read_fields_spec : {M : Type 1} → statement M
 read_fields_spec =
     tie.close
     (tie.spec
-    read_operation_requires
-    enum_known_operation
-    enum_told
-    returns
-    sub_read_service
-    part_read_service_start
-    part_read_service_end
-    read_service_requires
-    enum_known_n
-    enum_told_2
-    returns_2
-    add_cursor
-    sub_read_number_field
-    part_read_number_field_start
-    part_read_number_field_end
-    read_number_field_requires
-    enum_known_word
-    enum_told_3
-    returns_3
-    add_cursor_2
-    sub_read_erasing
-    part_read_erasing_start
-    part_read_erasing_end
-    read_erasing_requires
-    enum_known_erasing
-    enum_told_4
-    returns_4
-    add_start
-    sub_read_additional
-    part_read_additional_start
-    part_read_additional_end
-    read_additional_requires
-    enum_known_count
-    enum_told_5
-    returns_5
-    crew_allowed_requires
-    returns_6
-    returns_7)
+    read_operation-requires
+    enum_known-operation
+    enum_told-1
+    returns-in_default
+    slice_bounds-read_service-count
+    slice_bounds-read_service-start
+    slice_bounds-read_service-end
+    read_service-requires
+    enum_known-n
+    enum_told-in_default-read_service
+    returns-in_default-read_service
+    overflow_add-cursor
+    slice_bounds-read_number_field-count
+    slice_bounds-read_number_field-start
+    slice_bounds-read_number_field-end
+    read_number_field-requires
+    enum_known-word
+    enum_told-in_default-read_number_field
+    returns-in_default-read_number_field
+    overflow_add-cursor-2
+    slice_bounds-read_erasing-count
+    slice_bounds-read_erasing-start
+    slice_bounds-read_erasing-end
+    read_erasing-requires
+    enum_known-erasing
+    enum_told-in_default-read_erasing
+    returns-in_default-read_erasing
+    overflow_add-start
+    slice_bounds-read_additional-count
+    slice_bounds-read_additional-start
+    slice_bounds-read_additional-end
+    read_additional-requires
+    enum_known-count
+    enum_told-in_default-read_additional
+    returns-in_default-read_additional
+    crew_allowed-requires
+    returns-then-not-crew_allowed
+    returns)

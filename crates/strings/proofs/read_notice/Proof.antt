@@ -15,59 +15,55 @@ use Rattle.strings.proofs.Notices.{notices}
 use Rattle.strings.proofs.read_notice.Statement.{statement}
 use Rattle.strings.proofs.read_notice.Tie as tie
 
-slice_aggregate_unpack : tie.Need-slice-aggregate-unpack
-slice_aggregate_unpack c = search rules
+slice_bounds-unpack-end : tie.Need-slice_bounds-unpack-end
+slice_bounds-unpack-end c = search rules
 
-unpack_requires : tie.Need-unpack-requires
-unpack_requires c κs = tt
+unpack-requires : tie.Need-unpack-requires
+unpack-requires c κs = tt
 
-enum_known_n : tie.Need-enum-known-n
-enum_known_n c = c.match.keys1
+enum_known-n : tie.Need-enum_known-n
+enum_known-n c = search rules
 
 -- the octets, and the text that they are unpacked into
 abbrev octets : tie.After-unpack → List ℕ
-octets c = c.before.before.before.args.octets.now
+octets c = c.args.octets.now
 
 abbrev text : tie.After-unpack → List ℕ
-text c = c.unpack.new.1.0
+text c = c.unpack.new.out
+
+returns-in_default : tie.Need-returns-in_default
+unfolding notice_string_of
+returns-in_default c = sym (ap notice_read (uncounted notices (octets c.before.before) (text c.before.before) c.unpack.result c.unpack.ensures c.in_default.in_default-own.keys2))
+
+counted :
+    (c : tie.In-Count) → Counted (chars_in (length (octets c.before.before))) (readable (octets c.before.before)) (unpacked (octets c.before.before)) (replicate most_characters 0) (text c.before.before) c.in-Count.n
+counted c =
+    unpack_count (octets c.before.before) _ c.unpack.result (text c.before.before) c.unpack.ensures c.in-Count.n c.in-Count.is
+
+slice_bounds-text-end : tie.Need-slice_bounds-text-end
+slice_bounds-text-end c = (counted c).within
+
+slice_bounds-read_notice_fields-end : tie.Need-slice_bounds-read_notice_fields-end
+slice_bounds-read_notice_fields-end c = sym (length-take-le _ _ (counted c.before).within)
+
+read_notice_fields-requires : tie.Need-read_notice_fields-requires
+read_notice_fields-requires c κs = tt
 
 returns : tie.Need-returns
 unfolding notice_string_of
-returns c = let u = c.before.before in sym (ap notice_read (uncounted notices (octets u) (text u) u.unpack.result u.unpack.ensures c.match.keys2))
-
-counted :
-    (c : tie.After-n) → let u = c.before.before.before in
-    Counted (chars_in (length (octets u))) (readable (octets u)) (unpacked (octets u)) (replicate most_characters 0) (text u) c.n.given.0.0
-counted c =
-    let u = c.before.before.before in
-    unpack_count (octets u) _ u.unpack.result (text u) u.unpack.ensures c.n.given.0.0 c.n.given.1
-
-array_share_prefix_text : tie.Need-array-share-prefix-text
-array_share_prefix_text c = (counted c.before).within
-
-slice_aggregate_read_notice_fields : tie.Need-slice-aggregate-read-notice-fields
-slice_aggregate_read_notice_fields c = sym (length-take-le _ _ (counted c.before.before).within)
-
-read_notice_fields_requires : tie.Need-read-notice-fields-requires
-read_notice_fields_requires c κs = tt
-
-returns_2 : tie.Need-returns-2
-unfolding notice_string_of
-returns_2 c =
-    let n = c.before.before.before in
-    let u = n.before.before.before in
-    let k = counted n in
-    rw k.start at c.read-notice-fields.ensures ∙ sym (ap notice_read (bits_good notice_string_at (octets u) k.sound))
+returns c =
+    let k = counted c.before.before in
+    rw k.start at c.read_notice_fields.ensures ∙ sym (ap notice_read (bits_good notice_string_at (octets c.before.before.before.before) k.sound))
 
 pub read_notice_spec : {M : Type 1} → statement M
 read_notice_spec =
     tie.close
     (tie.spec
-    slice_aggregate_unpack
-    unpack_requires
-    enum_known_n
-    returns
-    array_share_prefix_text
-    slice_aggregate_read_notice_fields
-    read_notice_fields_requires
-    returns_2)
+    slice_bounds-unpack-end
+    unpack-requires
+    enum_known-n
+    returns-in_default
+    slice_bounds-text-end
+    slice_bounds-read_notice_fields-end
+    read_notice_fields-requires
+    returns)

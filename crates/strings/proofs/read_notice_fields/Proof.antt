@@ -23,240 +23,223 @@ use Rattle.strings.proofs.read_notice_fields.Tie as tie
 
 -- ---- the way back from each field to the one before, the text, and the cursor behind each field
 
-abbrev text : tie.Else1 → List ℕ
-text c = c.before.before.before.before.args.text.now
+abbrev text : tie.Else-not-begins_with → List ℕ
+text c = c.args.text.now
 
-abbrev past_number : tie.After-word → tie.Else1
-past_number c = c.before.before.before.before
+abbrev past_number : tie.In-Read → tie.Else-not-begins_with
+past_number c = c.before.before.before
+abbrev past_88 : tie.Else-not-begins_with_three → tie.In-Read
+past_88 c = c.before.before.before
+abbrev past_supervisor : tie.In-Read-read_supervisor → tie.Else-not-begins_with_three
+past_supervisor c = c.before.before.before
+abbrev past_crew : tie.In-Read-read_additional → tie.In-Read-read_supervisor
+past_crew c = c.before.before.before
+abbrev cursor1 : tie.In-Read → ℕ
+cursor1 c = 6 + c.in-Read.n
 
-abbrev past_88 : tie.Else2 → tie.After-word
-past_88 c = c.before.before.before.before
+abbrev cursor2 : tie.In-Read-read_supervisor → ℕ
+cursor2 c = cursor1 (past_88 (past_supervisor c)) + 3 + c.in-Read-read_supervisor.n
 
-abbrev past_supervisor : tie.After-word2 → tie.Else2
-past_supervisor c = c.before.before.before.before
-
-abbrev past_crew : tie.After-crew → tie.After-word2
-past_crew c = c.before.before.before.before.before
-
-abbrev cursor1 : tie.After-word → ℕ
-cursor1 c = 6 + c.word.given.0.1.0
-
-abbrev cursor2 : tie.After-word2 → ℕ
-cursor2 c = cursor1 (past_88 (past_supervisor c)) + 3 + c.word2.given.0.1.0
-
-abbrev whole : tie.After-word2 → List ℕ
+abbrev whole : tie.In-Read-read_supervisor → List ℕ
 whole c = text (past_number (past_88 (past_supervisor c)))
 
 -- ---- the fields found
 
-begun : (c : tie.Else1) → begins (ascii "##214*") (text c) ≡ true
-begun c = sym c.before.begins-with.ensures ∙ not-false _ c.if1.false
+begun : (c : tie.Else-not-begins_with) → begins (ascii "##214*") (text c) ≡ true
+begun c = sym c.begins_with.ensures ∙ not-false _ c.if-not-begins_with.false-raw
 
-number : (c : tie.After-word) → Found number_field_at (text (past_number c)) 6 c.word.given.0.0 (cursor1 c)
+number : (c : tie.In-Read) → Found number_field_at (text (past_number c)) 6 c.in-Read.word (cursor1 c)
 number c =
     let b = past_number c in
-    found_at number_field_at _ 6 _ _ (begins_within _ _ (begun b)) (rw c.word.given.1 at c.before.before.read-number-field.ensures)
+    found_at number_field_at _ 6 _ _ (begins_within _ _ (begun b)) (rw c.in-Read.is at c.read_number_field.ensures)
 
-forced : (c : tie.Else2) → begins (ascii "88*") (drop (cursor1 (past_88 c)) (text (past_number (past_88 c)))) ≡ true
-forced c = sym (rw rest_of at c.before.begins-with-three.ensures) ∙ not-false _ c.if2.false
+forced : (c : tie.Else-not-begins_with_three) → begins (ascii "88*") (drop (cursor1 (past_88 c)) (text (past_number (past_88 c)))) ≡ true
+forced c = sym (rw rest_of at c.begins_with_three.ensures) ∙ not-false _ c.if-not-begins_with_three.false-raw
 
-within : (c : tie.Else2) → cursor1 (past_88 c) + 3 ≤ length (text (past_number (past_88 c)))
+within : (c : tie.Else-not-begins_with_three) → cursor1 (past_88 c) + 3 ≤ length (text (past_number (past_88 c)))
 within c =
     let s = text (past_number (past_88 c)) in
     omega (arith, begins_within _ _ (forced c), length-drop (cursor1 (past_88 c)) s, (number (past_88 c)).within)
 
 supervisor :
-    (c : tie.After-word2)
-    → Found supervisor_field_at (whole c) (cursor1 (past_88 (past_supervisor c)) + 3) c.word2.given.0.0 (cursor2 c)
+    (c : tie.In-Read-read_supervisor)
+    → Found supervisor_field_at (whole c) (cursor1 (past_88 (past_supervisor c)) + 3) c.in-Read-read_supervisor.word (cursor2 c)
 supervisor c =
-    found_at supervisor_field_at _ _ _ _ (within (past_supervisor c)) (rw c.word2.given.1 at c.before.before.read-supervisor.ensures)
+    found_at supervisor_field_at _ _ _ _ (within (past_supervisor c)) (rw c.in-Read-read_supervisor.is at c.read_supervisor.ensures)
 
 additional :
-    (c : tie.After-crew) → let a = c.crew.given.0 in
-    AdditionalIs (AdditionalField a.0 a.1.0) (drop (cursor2 (past_crew c)) (whole (past_crew c)))
-additional c = rw rest_of at (rw c.crew.given.1 at c.before.before.read-additional.ensures)
+    (c : tie.In-Read-read_additional) → AdditionalIs (AdditionalField c.in-Read-read_additional.field-0 c.in-Read-read_additional.crew) (drop (cursor2 (past_crew c)) (whole (past_crew c)))
+additional c = rw rest_of at (rw c.in-Read-read_additional.is at c.read_additional.ensures)
 
 -- ---- the needs
 
-slice_aggregate_begins_with : tie.Need-slice-aggregate-begins-with
-slice_aggregate_begins_with c = search rules
+begins_with-requires : tie.Need-begins_with-requires
+begins_with-requires c κs = tt
 
-begins_with_requires : tie.Need-begins-with-requires
-begins_with_requires c κs = tt
+returns-then-not-begins_with : tie.Need-returns-then-not-begins_with
+returns-then-not-begins_with c = sym (ap notice_read (notice_other _ (sym c.begins_with.ensures ∙ not-true _ c.if-not-begins_with.true-raw)))
 
-returns : tie.Need-returns
-returns c = sym (ap notice_read (notice_other _ (sym c.before.begins-with.ensures ∙ not-true _ c.if1.true)))
+slice_bounds-read_number_field-count : tie.Need-slice_bounds-read_number_field-count
+slice_bounds-read_number_field-count c = begins_within _ _ (begun c)
 
-sub_read_number_field : tie.Need-overflow-sub-read-number-field
-sub_read_number_field c = begins_within _ _ (begun c)
+slice_bounds-read_number_field-start : tie.Need-slice_bounds-read_number_field-start
+slice_bounds-read_number_field-start c = begins_within _ _ (begun c)
 
-part_read_number_field_start : tie.Need-slice-bounds-read-number-field-start
-part_read_number_field_start c = begins_within _ _ (begun c)
+slice_bounds-read_number_field-end : tie.Need-slice_bounds-read_number_field-end
+slice_bounds-read_number_field-end c = le_refl _
 
-part_read_number_field_end : tie.Need-slice-bounds-read-number-field-end
-part_read_number_field_end c = le_refl _
+read_number_field-requires : tie.Need-read_number_field-requires
+read_number_field-requires c κs = tt
 
-read_number_field_requires : tie.Need-read-number-field-requires
-read_number_field_requires c κs = tt
+enum_known-word : tie.Need-enum_known-word
+enum_known-word c = search rules
 
-enum_known_word : tie.Need-enum-known-word
-enum_known_word c = c.match.keys1
+enum_told-1 : tie.Need-enum_told-1
+enum_told-1 c = search rules
 
-enum_told : tie.Need-enum-told
-enum_told c = c.match.keys2
+returns-in_default : tie.Need-returns-in_default
+returns-in_default c =
+    let none = rw rest_of at (rw c.in_default.is at c.read_number_field.ensures) in
+    sym (ap notice_read (notice_no_number _ (begun c.before.before.before) none))
 
-returns_2 : tie.Need-returns-2
-returns_2 c =
-    let r = c.before.before in
-    let none = rw rest_of at (rw c.enum_told.given.1 at r.read-number-field.ensures) in
-    sym (ap notice_read (notice_no_number _ (begun r.before.before) none))
+overflow_add-cursor : tie.Need-overflow_add-cursor
+overflow_add-cursor c = omega (arith, (number c).within)
 
-add_cursor : tie.Need-overflow-add-cursor
-add_cursor c = omega (arith, (number c.before).within)
+slice_bounds-begins_with_three-count : tie.Need-slice_bounds-begins_with_three-count
+slice_bounds-begins_with_three-count c = (number c).within
 
-sub_begins_with_three : tie.Need-overflow-sub-begins-with-three
-sub_begins_with_three c = (number c.before).within
+slice_bounds-begins_with_three-start : tie.Need-slice_bounds-begins_with_three-start
+slice_bounds-begins_with_three-start c = (number c).within
 
-part_begins_with_three_start : tie.Need-slice-bounds-begins-with-three-start
-part_begins_with_three_start c = (number c.before).within
+slice_bounds-begins_with_three-end : tie.Need-slice_bounds-begins_with_three-end
+slice_bounds-begins_with_three-end c = le_refl _
 
-part_begins_with_three_end : tie.Need-slice-bounds-begins-with-three-end
-part_begins_with_three_end c = le_refl _
+begins_with_three-requires : tie.Need-begins_with_three-requires
+begins_with_three-requires c κs = tt
 
-begins_with_three_requires : tie.Need-begins-with-three-requires
-begins_with_three_requires c κs = tt
+returns-then-not-begins_with_three : tie.Need-returns-then-not-begins_with_three
+returns-then-not-begins_with_three c =
+    let other = sym (rw rest_of at c.begins_with_three.ensures) ∙ not-true _ c.if-not-begins_with_three.true-raw in
+    sym (ap notice_read (notice_no_88 _ (begun (past_number c.before.before.before)) _ _ (number c.before.before.before) other))
 
-returns_3 : tie.Need-returns-3
-returns_3 c =
-    let n = c.before.before.before.before in
-    let other = sym (rw rest_of at c.before.begins-with-three.ensures) ∙ not-true _ c.if2.true in
-    sym (ap notice_read (notice_no_88 _ (begun (past_number n)) _ _ (number n) other))
+overflow_add-cursor-2 : tie.Need-overflow_add-cursor-2
+overflow_add-cursor-2 c = omega (arith, within c)
 
-add_cursor_2 : tie.Need-overflow-add-cursor-2
-add_cursor_2 c = omega (arith, within c)
+slice_bounds-read_supervisor-count : tie.Need-slice_bounds-read_supervisor-count
+slice_bounds-read_supervisor-count c = within c
 
-sub_read_supervisor : tie.Need-overflow-sub-read-supervisor
-sub_read_supervisor c = within c
+slice_bounds-read_supervisor-start : tie.Need-slice_bounds-read_supervisor-start
+slice_bounds-read_supervisor-start c = within c
 
-part_read_supervisor_start : tie.Need-slice-bounds-read-supervisor-start
-part_read_supervisor_start c = within c
+slice_bounds-read_supervisor-end : tie.Need-slice_bounds-read_supervisor-end
+slice_bounds-read_supervisor-end c = le_refl _
 
-part_read_supervisor_end : tie.Need-slice-bounds-read-supervisor-end
-part_read_supervisor_end c = le_refl _
+read_supervisor-requires : tie.Need-read_supervisor-requires
+read_supervisor-requires c κs = tt
 
-read_supervisor_requires : tie.Need-read-supervisor-requires
-read_supervisor_requires c κs = tt
+enum_known-word-in-Read-read_supervisor : tie.Need-enum_known-word-in-Read-read_supervisor
+enum_known-word-in-Read-read_supervisor c = search rules
 
-enum_known_word_2 : tie.Need-enum-known-word-2
-enum_known_word_2 c = c.match2.keys1
+enum_told-in_default-read_supervisor : tie.Need-enum_told-in_default-read_supervisor
+enum_told-in_default-read_supervisor c = search rules
 
-enum_told_2 : tie.Need-enum-told-2
-enum_told_2 c = c.match2.keys2
+returns-in_default-read_supervisor : tie.Need-returns-in_default-read_supervisor
+returns-in_default-read_supervisor c =
+    let n = past_88 c.before.before.before in
+    let none = rw rest_of at (rw c.in_default-read_supervisor.is at c.read_supervisor.ensures) in
+    sym (ap notice_read (notice_no_supervisor _ (begun (past_number n)) _ _ (number n) (forced c.before.before.before) none))
 
-returns_4 : tie.Need-returns-4
-returns_4 c =
-    let r = c.before.before in
-    let f = r.before.before in
+overflow_add-cursor-3 : tie.Need-overflow_add-cursor-3
+overflow_add-cursor-3 c = omega (arith, (supervisor c).within)
+
+slice_bounds-read_additional-count : tie.Need-slice_bounds-read_additional-count
+slice_bounds-read_additional-count c = (supervisor c).within
+
+slice_bounds-read_additional-start : tie.Need-slice_bounds-read_additional-start
+slice_bounds-read_additional-start c = (supervisor c).within
+
+slice_bounds-read_additional-end : tie.Need-slice_bounds-read_additional-end
+slice_bounds-read_additional-end c = le_refl _
+
+read_additional-requires : tie.Need-read_additional-requires
+read_additional-requires c κs = tt
+
+enum_known-crew : tie.Need-enum_known-crew
+enum_known-crew c = search rules
+
+enum_told-in_default-read_additional : tie.Need-enum_told-in_default-read_additional
+enum_told-in_default-read_additional c = search rules
+
+returns-in_default-read_additional : tie.Need-returns-in_default-read_additional
+returns-in_default-read_additional c =
+    let f = past_supervisor c.before.before.before in
     let n = past_88 f in
-    let none = rw rest_of at (rw c.enum-told2.given.1 at r.read-supervisor.ensures) in
-    sym (ap notice_read (notice_no_supervisor _ (begun (past_number n)) _ _ (number n) (forced f) none))
+    let none = rw rest_of at (rw c.in_default-read_additional.is at c.read_additional.ensures) in
+    sym (ap notice_read (notice_no_additional _ (begun (past_number n)) _ _ (number n) (forced f) _ _ (supervisor c.before.before.before) none))
 
-add_read_additional : tie.Need-overflow-add-read-additional
-add_read_additional c = omega (arith, (supervisor c.before).within)
-
-sub_read_additional : tie.Need-overflow-sub-read-additional
-sub_read_additional c = (supervisor c.before).within
-
-part_read_additional_start : tie.Need-slice-bounds-read-additional-start
-part_read_additional_start c = (supervisor c.before).within
-
-part_read_additional_end : tie.Need-slice-bounds-read-additional-end
-part_read_additional_end c = le_refl _
-
-read_additional_requires : tie.Need-read-additional-requires
-read_additional_requires c κs = tt
-
-enum_known_crew : tie.Need-enum-known-crew
-enum_known_crew c = c.match3.keys1
-
-enum_told_3 : tie.Need-enum-told-3
-enum_told_3 c = c.match3.keys2
-
-returns_5 : tie.Need-returns-5
-returns_5 c =
-    let r = c.before.before in
-    let v = r.before.before.before in
-    let f = past_supervisor v in
-    let n = past_88 f in
-    let none = rw rest_of at (rw c.enum-told3.given.1 at r.read-additional.ensures) in
-    sym (ap notice_read (notice_no_additional _ (begun (past_number n)) _ _ (number n) (forced f) _ _ (supervisor v) none))
-
-crew_allowed_requires : tie.Need-crew-allowed-requires
-crew_allowed_requires c κs = tt
+crew_allowed-requires : tie.Need-crew_allowed-requires
+crew_allowed-requires c κs = tt
 
 -- the fields that were read, if no crew stands in them
-abbrev fields : tie.After-crew-allowed → NoticeString
+abbrev fields : tie.After-crew_allowed → NoticeString
 fields c =
-    let a = c.before.before in
-    let v = past_crew a in
+    let v = past_crew c.before in
     let n = past_88 (past_supervisor v) in
     record {
-      number = record { 0 = n.word.given.0.0 };
-      supervisor = record { 0 = v.word2.given.0.0 };
-      additional = take a.crew.given.0.0 (drop (cursor2 v) (whole v));
+      number = record { 0 = n.in-Read.word };
+      supervisor = record { 0 = v.in-Read-read_supervisor.word };
+      additional = take c.in-Read-read_additional.field-0 (drop (cursor2 v) (whole v));
     }
 
-reads : (c : tie.After-crew-allowed) → notice_string_at (whole (past_crew c.before.before)) ≡ only_if c.crew-allowed.result (fields c)
+reads : (c : tie.After-crew_allowed) → notice_string_at (whole (past_crew c.before)) ≡ only_if c.crew_allowed.result (fields c)
 reads c =
-    let a = c.before.before in
-    let v = past_crew a in
+    let v = past_crew c.before in
     let f = past_supervisor v in
     let n = past_88 f in
-    rw c.crew-allowed.ensures
-    (notice_read_lem _ (begun (past_number n)) _ _ (number n) (forced f) _ _ (supervisor v) _ (additional a).1 _ (additional a).2)
+    rw c.crew_allowed.ensures
+    (notice_read_lem _ (begun (past_number n)) _ _ (number n) (forced f) _ _ (supervisor v) _ (additional c.before).1 _ (additional c.before).2)
 
-returns_6 : tie.Need-returns-6
-returns_6 c = sym (ap notice_read (rw (not-true c.before.crew-allowed.result c.if3.true) at (reads c.before)))
+returns-then-not-crew_allowed : tie.Need-returns-then-not-crew_allowed
+returns-then-not-crew_allowed c = sym (ap notice_read (rw (not-true c.crew_allowed.result c.if-not-crew_allowed.true-raw) at (reads c.before)))
 
-returns_7 : tie.Need-returns-7
-returns_7 c = sym (ap notice_read (rw (not-false c.before.crew-allowed.result c.if3.false) at (reads c.before)))
+returns : tie.Need-returns
+returns c = sym (ap notice_read (rw (not-false c.crew_allowed.result c.if-not-crew_allowed.false-raw) at (reads c.before)))
 
 pub read_notice_fields_spec : {M : Type 1} → statement M
 read_notice_fields_spec =
     tie.close
     (tie.spec
-    slice_aggregate_begins_with
-    begins_with_requires
-    returns
-    sub_read_number_field
-    part_read_number_field_start
-    part_read_number_field_end
-    read_number_field_requires
-    enum_known_word
-    enum_told
-    returns_2
-    add_cursor
-    sub_begins_with_three
-    part_begins_with_three_start
-    part_begins_with_three_end
-    begins_with_three_requires
-    returns_3
-    add_cursor_2
-    sub_read_supervisor
-    part_read_supervisor_start
-    part_read_supervisor_end
-    read_supervisor_requires
-    enum_known_word_2
-    enum_told_2
-    returns_4
-    add_read_additional
-    sub_read_additional
-    part_read_additional_start
-    part_read_additional_end
-    read_additional_requires
-    enum_known_crew
-    enum_told_3
-    returns_5
-    crew_allowed_requires
-    returns_6
-    returns_7)
+    begins_with-requires
+    returns-then-not-begins_with
+    slice_bounds-read_number_field-count
+    slice_bounds-read_number_field-start
+    slice_bounds-read_number_field-end
+    read_number_field-requires
+    enum_known-word
+    enum_told-1
+    returns-in_default
+    overflow_add-cursor
+    slice_bounds-begins_with_three-count
+    slice_bounds-begins_with_three-start
+    slice_bounds-begins_with_three-end
+    begins_with_three-requires
+    returns-then-not-begins_with_three
+    overflow_add-cursor-2
+    slice_bounds-read_supervisor-count
+    slice_bounds-read_supervisor-start
+    slice_bounds-read_supervisor-end
+    read_supervisor-requires
+    enum_known-word-in-Read-read_supervisor
+    enum_told-in_default-read_supervisor
+    returns-in_default-read_supervisor
+    overflow_add-cursor-3
+    slice_bounds-read_additional-count
+    slice_bounds-read_additional-start
+    slice_bounds-read_additional-end
+    read_additional-requires
+    enum_known-crew
+    enum_told-in_default-read_additional
+    returns-in_default-read_additional
+    crew_allowed-requires
+    returns-then-not-crew_allowed
+    returns)

@@ -1,4 +1,5 @@
 -- `strings::read_number_field` meets its contract: its tests are the definition's, in the same order. Assumes nothing.
+use borrow.Author.Rules.{rules}
 use mathlib.Core.Path.{◌≡◌, sym, ◌∙◌}
 use native.Mathlib.Nat.{le_refl}
 use native.Mathlib.Omega.{arith}
@@ -11,47 +12,47 @@ use Rattle.strings.proofs.Steps.{number_none, number_open, number_found}
 use Rattle.strings.proofs.read_number_field.Statement.{statement}
 use Rattle.strings.proofs.read_number_field.Tie as tie
 
-read_number_requires : tie.Need-read-number-requires
-read_number_requires c κs = tt
+read_number-requires : tie.Need-read_number-requires
+read_number-requires c κs = tt
 
-enum_known_word : tie.Need-enum-known-word
-enum_known_word c = c.match.keys1
+enum_known-word : tie.Need-enum_known-word
+enum_known-word c = search rules
 
-enum_told : tie.Need-enum-told
-enum_told c = c.match.keys2
+enum_told-1 : tie.Need-enum_told-1
+enum_told-1 c = search rules
 
-returns : tie.Need-returns
-returns c = number_none _ (sym c.before.before.read_number.ensures ∙ c.enum_told.given.1)
+returns-in_default : tie.Need-returns-in_default
+returns-in_default c = number_none _ (sym c.read_number.ensures ∙ c.in_default.is)
 
 -- the number that was read
-read : (c : tie.After-word) → leading_number c.before.before.before.before.args.part.now ≡ Number c.word.given.0.0 c.word.given.0.1.0
-read c = sym c.before.before.read_number.ensures ∙ c.word.given.1
+read : (c : tie.In-Number) → leading_number c.args.part.now ≡ Number c.in-Number.word c.in-Number.n
+read c = sym c.read_number.ensures ∙ c.in-Number.is
 
-stands_at_requires : tie.Need-stands-at-requires
-stands_at_requires c κs = tt
+stands_at-requires : tie.Need-stands_at-requires
+stands_at-requires c κs = tt
 
-returns_2 : tie.Need-returns-2
-returns_2 c =
-    number_open _ _ _ (read c.before.before.before)
-    (sym c.before.stands_at.ensures ∙ not-true _ c.if1.true)
+returns-then-not-stands_at : tie.Need-returns-then-not-stands_at
+returns-then-not-stands_at c =
+    number_open _ _ _ (read c.before.before)
+    (sym c.stands_at.ensures ∙ not-true _ c.if-not-stands_at.true-raw)
 
-add_t7 : tie.Need-overflow-add-t7
-add_t7 c = omega (arith, (read_from _ _ _ (read c.before.before.before)).within)
+overflow_add-result : tie.Need-overflow_add-result
+overflow_add-result c = omega (arith, (read_from _ _ _ (read c.before.before)).within)
 
-returns_3 : tie.Need-returns-3
-returns_3 c =
-    number_found _ _ _ (read c.before.before.before)
-    (sym c.before.stands_at.ensures ∙ not-false _ c.if1.false)
+returns : tie.Need-returns
+returns c =
+    number_found _ _ _ (read c.before.before)
+    (sym c.stands_at.ensures ∙ not-false _ c.if-not-stands_at.false-raw)
 
 pub read_number_field_spec : {M : Type 1} → statement M
 read_number_field_spec =
     tie.close
     (tie.spec
-    read_number_requires
-    enum_known_word
-    enum_told
-    returns
-    stands_at_requires
-    returns_2
-    add_t7
-    returns_3)
+    read_number-requires
+    enum_known-word
+    enum_told-1
+    returns-in_default
+    stands_at-requires
+    returns-then-not-stands_at
+    overflow_add-result
+    returns)

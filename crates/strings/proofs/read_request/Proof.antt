@@ -17,72 +17,68 @@ use Rattle.strings.proofs.Answered.{unread, read}
 use Rattle.strings.proofs.read_request.Statement.{statement}
 use Rattle.strings.proofs.read_request.Tie as tie
 
-slice_aggregate_unpack : tie.Need-slice-aggregate-unpack
-slice_aggregate_unpack c = search rules
+slice_bounds-unpack-end : tie.Need-slice_bounds-unpack-end
+slice_bounds-unpack-end c = search rules
 
-unpack_requires : tie.Need-unpack-requires
-unpack_requires c κs = tt
+unpack-requires : tie.Need-unpack-requires
+unpack-requires c κs = tt
 
-enum_known_n : tie.Need-enum-known-n
-enum_known_n c = c.match.keys1
+enum_known-n : tie.Need-enum_known-n
+enum_known-n c = search rules
 
 -- the octets, and the text before and after they are unpacked into it
 abbrev octets : tie.After-unpack → List ℕ
-octets c = c.before.before.before.args.octets.now
+octets c = c.args.octets.now
 
 abbrev zeros : List ℕ
 zeros = replicate most_characters 0
 
 abbrev text : tie.After-unpack → List ℕ
-text c = c.unpack.new.1.0
+text c = c.unpack.new.out
 
 beside : (c : tie.After-unpack) → text c ≡ text_beside (octets c)
 unfolding text_beside
 beside c = ap (λ (x : WriteOutcome). x.buffer) c.unpack.ensures
 
 -- no count: too many characters, or unreadable bits
-unreads : (c : tie.At-match-keys2) → request_of (octets c.before.before) ≡ none
+unreads : (c : tie.In_default) → request_of (octets c.before.before) ≡ none
 unfolding request_of
-unreads c = let u = c.before.before in uncounted requests (octets u) (text u) u.unpack.result u.unpack.ensures c.match.keys2
+unreads c = uncounted requests (octets c.before.before) (text c.before.before) c.unpack.result c.unpack.ensures c.in_default.in_default-own.keys2
 
-returns : tie.Need-returns
-returns c = let u = c.before.before in unread (octets u) (text u) (unreads c) (beside u)
+returns-in_default : tie.Need-returns-in_default
+returns-in_default c = unread (octets c.before.before) (text c.before.before) (unreads c) (beside c.before.before)
 
 -- ---- a count: the text is read
 
 counted :
-    (c : tie.After-n) → let u = c.before.before.before in
-    Counted (chars_in (length (octets u))) (readable (octets u)) (unpacked (octets u)) zeros (text u) c.n.given.0.0
+    (c : tie.In-Count) → Counted (chars_in (length (octets c.before.before))) (readable (octets c.before.before)) (unpacked (octets c.before.before)) zeros (text c.before.before) c.in-Count.n
 counted c =
-    let u = c.before.before.before in
-    unpack_count (octets u) zeros u.unpack.result (text u) u.unpack.ensures c.n.given.0.0 c.n.given.1
+    unpack_count (octets c.before.before) zeros c.unpack.result (text c.before.before) c.unpack.ensures c.in-Count.n c.in-Count.is
 
-array_share_prefix_text : tie.Need-array-share-prefix-text
-array_share_prefix_text c = (counted c.before).within
+slice_bounds-text-end : tie.Need-slice_bounds-text-end
+slice_bounds-text-end c = (counted c).within
 
-slice_aggregate_read_fields : tie.Need-slice-aggregate-read-fields
-slice_aggregate_read_fields c = sym (length-take-le _ _ (counted c.before.before).within)
+slice_bounds-read_fields-end : tie.Need-slice_bounds-read_fields-end
+slice_bounds-read_fields-end c = sym (length-take-le _ _ (counted c.before).within)
 
-read_fields_requires : tie.Need-read-fields-requires
-read_fields_requires c κs = tt
+read_fields-reading-requires : tie.Need-read_fields-reading-requires
+read_fields-reading-requires c κs = tt
 
-returns_2 : tie.Need-returns-2
-returns_2 c =
-    let n = c.before.before.before in
-    let u = n.before.before.before in
-    let k = counted n in
-    read (octets u) (text u) (drop n.n.given.0.0 zeros) c.read-fields.result k.sound
-    (rw k.start at c.read-fields.ensures) k.buffer (beside u)
+returns : tie.Need-returns
+returns c =
+    let k = counted c.before.before in
+    read (octets c.before.before.before.before) (text c.before.before.before.before) (drop c.in-Count.n zeros) c.read_fields-reading.result k.sound
+    (rw k.start at c.read_fields-reading.ensures) k.buffer (beside c.before.before.before.before)
 
 pub read_request_spec : {M : Type 1} → statement M
 read_request_spec =
     tie.close
     (tie.spec
-    slice_aggregate_unpack
-    unpack_requires
-    enum_known_n
-    returns
-    array_share_prefix_text
-    slice_aggregate_read_fields
-    read_fields_requires
-    returns_2)
+    slice_bounds-unpack-end
+    unpack-requires
+    enum_known-n
+    returns-in_default
+    slice_bounds-text-end
+    slice_bounds-read_fields-end
+    read_fields-reading-requires
+    returns)

@@ -3,23 +3,29 @@ use borrow.Author.Rules.{rules}
 use Rattle.structs.proofs.of_added.Statement.{statement}
 use Rattle.structs.proofs.of_added.Tie as tie
 
-enum_known_added : tie.Need-enum-known-added
-enum_known_added c = search rules
+enum_known-added : tie.Need-enum_known-added
+enum_known-added c = search rules
 
-cast_numbered : tie.Need-overflow-cast-numbered
-cast_numbered c = search rules
+overflow_cast-n : tie.Need-overflow_cast-n
+overflow_cast-n c = search rules
 
-numbered_requires : tie.Need-numbered-requires
-numbered_requires c κs = search rules
+numbered-requires : tie.Need-numbered-requires
+numbered-requires c κs = search rules
 
-enum_known_added_2 : tie.Need-enum-known-added-2
-enum_known_added_2 c = search rules
+enum_known-added-in-Rows-1 : tie.Need-enum_known-added-in-Rows-1
+enum_known-added-in-Rows-1 c = search rules
 
-returns : tie.Need-returns
-returns c = rw c.before.before.added.given.1 c.numbered.ensures
+returns-in-Refused : tie.Need-returns-in-Refused
+returns-in-Refused c = rw c.in-Refused.is c.numbered.ensures
 
-returns_2 : tie.Need-returns-2
-returns_2 c = rw c.before.added2.given.1
+returns-in-Rows : tie.Need-returns-in-Rows
+returns-in-Rows c = rw c.in-Rows.is
 
 pub of_added_spec : {M : Type 1} → statement M
-of_added_spec = tie.close (tie.spec enum_known_added cast_numbered numbered_requires enum_known_added_2 returns returns_2)
+of_added_spec = tie.close (tie.spec
+    enum_known-added
+    overflow_cast-n
+    numbered-requires
+    enum_known-added-in-Rows-1
+    returns-in-Refused
+    returns-in-Rows)

@@ -3,23 +3,29 @@ use borrow.Author.Rules.{rules}
 use Rattle.structs.proofs.of_compacted.Statement.{statement}
 use Rattle.structs.proofs.of_compacted.Tie as tie
 
-enum_known_compacted : tie.Need-enum-known-compacted
-enum_known_compacted c = search rules
+enum_known-compacted : tie.Need-enum_known-compacted
+enum_known-compacted c = search rules
 
-cast_numbered : tie.Need-overflow-cast-numbered
-cast_numbered c = search rules
+overflow_cast-n : tie.Need-overflow_cast-n
+overflow_cast-n c = search rules
 
-numbered_requires : tie.Need-numbered-requires
-numbered_requires c κs = search rules
+numbered-requires : tie.Need-numbered-requires
+numbered-requires c κs = search rules
 
-enum_known_compacted_2 : tie.Need-enum-known-compacted-2
-enum_known_compacted_2 c = search rules
+enum_known-compacted-in-Rows-1 : tie.Need-enum_known-compacted-in-Rows-1
+enum_known-compacted-in-Rows-1 c = search rules
 
-returns : tie.Need-returns
-returns c = rw c.before.before.compacted.given.1 c.numbered.ensures
+returns-in-Refused : tie.Need-returns-in-Refused
+returns-in-Refused c = rw c.in-Refused.is c.numbered.ensures
 
-returns_2 : tie.Need-returns-2
-returns_2 c = rw c.before.compacted2.given.1
+returns-in-Rows : tie.Need-returns-in-Rows
+returns-in-Rows c = rw c.in-Rows.is
 
 pub of_compacted_spec : {M : Type 1} → statement M
-of_compacted_spec = tie.close (tie.spec enum_known_compacted cast_numbered numbered_requires enum_known_compacted_2 returns returns_2)
+of_compacted_spec = tie.close (tie.spec
+    enum_known-compacted
+    overflow_cast-n
+    numbered-requires
+    enum_known-compacted-in-Rows-1
+    returns-in-Refused
+    returns-in-Rows)

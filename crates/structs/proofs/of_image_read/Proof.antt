@@ -3,20 +3,20 @@ use borrow.Author.Rules.{rules}
 use Rattle.structs.proofs.of_image_read.Statement.{statement}
 use Rattle.structs.proofs.of_image_read.Tie as tie
 
-enum_known_read : tie.Need-enum-known-read
-enum_known_read c = search rules
+enum_known-read : tie.Need-enum_known-read
+enum_known-read c = search rules
 
-cast_t6 : tie.Need-overflow-cast-t6
-cast_t6 c = search rules
+overflow_cast-result : tie.Need-overflow_cast-result
+overflow_cast-result c = search rules
 
-enum_known_read_2 : tie.Need-enum-known-read-2
-enum_known_read_2 c = search rules
+enum_known-read-in-Rows-1 : tie.Need-enum_known-read-in-Rows-1
+enum_known-read-in-Rows-1 c = search rules
 
-returns : tie.Need-returns
-returns c = rw c.before.read.given.1
+returns-in-Refused : tie.Need-returns-in-Refused
+returns-in-Refused c = rw c.in-Refused.is
 
-returns_2 : tie.Need-returns-2
-returns_2 c = rw c.before.read2.given.1
+returns-in-Rows : tie.Need-returns-in-Rows
+returns-in-Rows c = rw c.in-Rows.is
 
 pub of_image_read_spec : {M : Type 1} → statement M
-of_image_read_spec = tie.close (tie.spec enum_known_read cast_t6 enum_known_read_2 returns returns_2)
+of_image_read_spec = tie.close (tie.spec enum_known-read overflow_cast-result enum_known-read-in-Rows-1 returns-in-Refused returns-in-Rows)

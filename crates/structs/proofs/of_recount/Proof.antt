@@ -3,17 +3,17 @@ use borrow.Author.Rules.{rules}
 use Rattle.structs.proofs.of_recount.Statement.{statement}
 use Rattle.structs.proofs.of_recount.Tie as tie
 
-enum_told : tie.Need-enum-told
-enum_told c = search rules
+enum_told-1 : tie.Need-enum_told-1
+enum_told-1 c = search rules
 
-enum_known_recounted : tie.Need-enum-known-recounted
-enum_known_recounted c = search rules
+enum_known-recounted : tie.Need-enum_known-recounted
+enum_known-recounted c = search rules
 
-returns : tie.Need-returns
-returns c = rw c.enum_told.given.1
+returns-in-Unsound : tie.Need-returns-in-Unsound
+returns-in-Unsound c = rw c.in-Unsound.is
 
-returns_2 : tie.Need-returns-2
-returns_2 c = rw c.before.recounted.given.1
+returns-in-Counted : tie.Need-returns-in-Counted
+returns-in-Counted c = rw c.in-Counted.is
 
 pub of_recount_spec : {M : Type 1} → statement M
-of_recount_spec = tie.close (tie.spec enum_told enum_known_recounted returns returns_2)
+of_recount_spec = tie.close (tie.spec enum_told-1 enum_known-recounted returns-in-Unsound returns-in-Counted)

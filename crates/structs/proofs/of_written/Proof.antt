@@ -3,39 +3,39 @@ use borrow.Author.Rules.{rules}
 use Rattle.structs.proofs.of_written.Statement.{statement}
 use Rattle.structs.proofs.of_written.Tie as tie
 
-enum_known_written : tie.Need-enum-known-written
-enum_known_written c = search rules
+enum_known-written : tie.Need-enum_known-written
+enum_known-written c = search rules
 
-enum_told : tie.Need-enum-told
-enum_told c = search rules
+enum_told-1 : tie.Need-enum_told-1
+enum_told-1 c = search rules
 
-numbered_requires : tie.Need-numbered-requires
-numbered_requires c κs = search rules
+numbered-requires : tie.Need-numbered-requires
+numbered-requires c κs = search rules
 
-enum_told_2 : tie.Need-enum-told-2
-enum_told_2 c = search rules
+enum_told-in-Unfit : tie.Need-enum_told-in-Unfit
+enum_told-in-Unfit c = search rules
 
-numbered_requires_2 : tie.Need-numbered-requires-2
-numbered_requires_2 c κs = search rules
+numbered-requires-in-Unfit : tie.Need-numbered-requires-in-Unfit
+numbered-requires-in-Unfit c κs = search rules
 
-returns : tie.Need-returns
-returns c = rw c.before.written.given.1
+returns-in-Count : tie.Need-returns-in-Count
+returns-in-Count c = rw c.in-Count.is
 
-returns_2 : tie.Need-returns-2
-returns_2 c = rw c.before.enum_told.given.1 c.numbered.ensures
+returns-in-TooShort : tie.Need-returns-in-TooShort
+returns-in-TooShort c = rw c.in-TooShort.is c.numbered.ensures
 
-returns_3 : tie.Need-returns-3
-returns_3 c = rw c.before.enum-told2.given.1 c.numbered2.ensures
+returns-in-Unfit : tie.Need-returns-in-Unfit
+returns-in-Unfit c = rw c.in-Unfit.is c.numbered-in-Unfit.ensures
 
 pub of_written_spec : {M : Type 1} → statement M
 of_written_spec =
     tie.close
     (tie.spec
-    enum_known_written
-    enum_told
-    numbered_requires
-    enum_told_2
-    numbered_requires_2
-    returns
-    returns_2
-    returns_3)
+    enum_known-written
+    enum_told-1
+    numbered-requires
+    enum_told-in-Unfit
+    numbered-requires-in-Unfit
+    returns-in-Count
+    returns-in-TooShort
+    returns-in-Unfit)

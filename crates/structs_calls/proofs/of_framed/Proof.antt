@@ -3,67 +3,67 @@ use borrow.Author.Rules.{rules}
 use Rattle.structs_calls.proofs.of_framed.Statement.{statement}
 use Rattle.structs_calls.proofs.of_framed.Tie as tie
 
-enum_known_answer : tie.Need-enum-known-answer
-enum_known_answer c = search rules
+enum_known-answer : tie.Need-enum_known-answer
+enum_known-answer c = search rules
 
-cast_numbered : tie.Need-overflow-cast-numbered
-cast_numbered c = search rules
+overflow_cast-n : tie.Need-overflow_cast-n
+overflow_cast-n c = search rules
 
-numbered_requires : tie.Need-numbered-requires
-numbered_requires c κs = search rules
+numbered-requires : tie.Need-numbered-requires
+numbered-requires c κs = search rules
 
-enum_known_answer_2 : tie.Need-enum-known-answer-2
-enum_known_answer_2 c = search rules
+enum_known-answer-in-Outcome-1 : tie.Need-enum_known-answer-in-Outcome-1
+enum_known-answer-in-Outcome-1 c = search rules
 
-counted_requires : tie.Need-counted-requires
-counted_requires c κs = search rules
+counted-requires : tie.Need-counted-requires
+counted-requires c κs = search rules
 
-enum_known_answer_3 : tie.Need-enum-known-answer-3
-enum_known_answer_3 c = search rules
+enum_known-answer-in-Held-1 : tie.Need-enum_known-answer-in-Held-1
+enum_known-answer-in-Held-1 c = search rules
 
-enum_known_answer_4 : tie.Need-enum-known-answer-4
-enum_known_answer_4 c = search rules
+enum_known-answer-in-Error-1 : tie.Need-enum_known-answer-in-Error-1
+enum_known-answer-in-Error-1 c = search rules
 
-counted_requires_2 : tie.Need-counted-requires-2
-counted_requires_2 c κs = search rules
+counted-requires-in-Error : tie.Need-counted-requires-in-Error
+counted-requires-in-Error c κs = search rules
 
-enum_known_answer_5 : tie.Need-enum-known-answer-5
-enum_known_answer_5 c = search rules
+enum_known-answer-in-Reject-1 : tie.Need-enum_known-answer-in-Reject-1
+enum_known-answer-in-Reject-1 c = search rules
 
-counted_requires_3 : tie.Need-counted-requires-3
-counted_requires_3 c κs = search rules
+counted-requires-in-Reject : tie.Need-counted-requires-in-Reject
+counted-requires-in-Reject c κs = search rules
 
-returns : tie.Need-returns
-returns c = rw c.before.before.answer.given.1 c.numbered.ensures
+returns-in-Refused : tie.Need-returns-in-Refused
+returns-in-Refused c = rw c.in-Refused.is c.numbered.ensures
 
-returns_2 : tie.Need-returns-2
-returns_2 c = rw c.before.before.answer2.given.1 c.counted.ensures
+returns-in-Outcome : tie.Need-returns-in-Outcome
+returns-in-Outcome c = rw c.in-Outcome.is c.counted.ensures
 
-returns_3 : tie.Need-returns-3
-returns_3 c = rw c.before.answer3.given.1
+returns-in-Held : tie.Need-returns-in-Held
+returns-in-Held c = rw c.in-Held.is
 
-returns_4 : tie.Need-returns-4
-returns_4 c = rw c.before.before.answer4.given.1 c.counted2.ensures
+returns-in-Error : tie.Need-returns-in-Error
+returns-in-Error c = rw c.in-Error.is c.counted-in-Error.ensures
 
-returns_5 : tie.Need-returns-5
-returns_5 c = rw c.before.before.answer5.given.1 c.counted3.ensures
+returns-in-Reject : tie.Need-returns-in-Reject
+returns-in-Reject c = rw c.in-Reject.is c.counted-in-Reject.ensures
 
 pub of_framed_spec : {M : Type 1} → statement M
 of_framed_spec =
     tie.close
     (tie.spec
-    enum_known_answer
-    cast_numbered
-    numbered_requires
-    enum_known_answer_2
-    counted_requires
-    enum_known_answer_3
-    enum_known_answer_4
-    counted_requires_2
-    enum_known_answer_5
-    counted_requires_3
-    returns
-    returns_2
-    returns_3
-    returns_4
-    returns_5)
+    enum_known-answer
+    overflow_cast-n
+    numbered-requires
+    enum_known-answer-in-Outcome-1
+    counted-requires
+    enum_known-answer-in-Held-1
+    enum_known-answer-in-Error-1
+    counted-requires-in-Error
+    enum_known-answer-in-Reject-1
+    counted-requires-in-Reject
+    returns-in-Refused
+    returns-in-Outcome
+    returns-in-Held
+    returns-in-Error
+    returns-in-Reject)

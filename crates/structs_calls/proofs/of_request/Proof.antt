@@ -3,59 +3,59 @@ use borrow.Author.Rules.{rules}
 use Rattle.structs_calls.proofs.of_request.Statement.{statement}
 use Rattle.structs_calls.proofs.of_request.Tie as tie
 
-enum_known_answer : tie.Need-enum-known-answer
-enum_known_answer c = search rules
+enum_known-answer : tie.Need-enum_known-answer
+enum_known-answer c = search rules
 
-cast_numbered : tie.Need-overflow-cast-numbered
-cast_numbered c = search rules
+overflow_cast-n : tie.Need-overflow_cast-n
+overflow_cast-n c = search rules
 
-numbered_requires : tie.Need-numbered-requires
-numbered_requires c κs = search rules
+numbered-requires : tie.Need-numbered-requires
+numbered-requires c κs = search rules
 
-enum_known_answer_2 : tie.Need-enum-known-answer-2
-enum_known_answer_2 c = search rules
+enum_known-answer-in-Error-1 : tie.Need-enum_known-answer-in-Error-1
+enum_known-answer-in-Error-1 c = search rules
 
-cast_numbered_2 : tie.Need-overflow-cast-numbered-2
-cast_numbered_2 c = search rules
+overflow_cast-n-in-Error : tie.Need-overflow_cast-n-in-Error
+overflow_cast-n-in-Error c = search rules
 
-numbered_requires_2 : tie.Need-numbered-requires-2
-numbered_requires_2 c κs = search rules
+numbered-requires-in-Error : tie.Need-numbered-requires-in-Error
+numbered-requires-in-Error c κs = search rules
 
-enum_known_answer_3 : tie.Need-enum-known-answer-3
-enum_known_answer_3 c = search rules
+enum_known-answer-in-Outcome-1 : tie.Need-enum_known-answer-in-Outcome-1
+enum_known-answer-in-Outcome-1 c = search rules
 
-cast_t11 : tie.Need-overflow-cast-t11
-cast_t11 c = search rules
+overflow_cast-result : tie.Need-overflow_cast-result
+overflow_cast-result c = search rules
 
-enum_known_answer_4 : tie.Need-enum-known-answer-4
-enum_known_answer_4 c = search rules
+enum_known-answer-in-Held-1 : tie.Need-enum_known-answer-in-Held-1
+enum_known-answer-in-Held-1 c = search rules
 
-returns : tie.Need-returns
-returns c = rw c.before.before.answer.given.1 c.numbered.ensures
+returns-in-Refused : tie.Need-returns-in-Refused
+returns-in-Refused c = rw c.in-Refused.is c.numbered.ensures
 
-returns_2 : tie.Need-returns-2
-returns_2 c = rw c.before.before.answer2.given.1 c.numbered2.ensures
+returns-in-Error : tie.Need-returns-in-Error
+returns-in-Error c = rw c.in-Error.is c.numbered-in-Error.ensures
 
-returns_3 : tie.Need-returns-3
-returns_3 c = rw c.before.answer3.given.1
+returns-in-Outcome : tie.Need-returns-in-Outcome
+returns-in-Outcome c = rw c.in-Outcome.is
 
-returns_4 : tie.Need-returns-4
-returns_4 c = rw c.before.answer4.given.1
+returns-in-Held : tie.Need-returns-in-Held
+returns-in-Held c = rw c.in-Held.is
 
 pub of_request_spec : {M : Type 1} → statement M
 of_request_spec =
     tie.close
     (tie.spec
-    enum_known_answer
-    cast_numbered
-    numbered_requires
-    enum_known_answer_2
-    cast_numbered_2
-    numbered_requires_2
-    enum_known_answer_3
-    cast_t11
-    enum_known_answer_4
-    returns
-    returns_2
-    returns_3
-    returns_4)
+    enum_known-answer
+    overflow_cast-n
+    numbered-requires
+    enum_known-answer-in-Error-1
+    overflow_cast-n-in-Error
+    numbered-requires-in-Error
+    enum_known-answer-in-Outcome-1
+    overflow_cast-result
+    enum_known-answer-in-Held-1
+    returns-in-Refused
+    returns-in-Error
+    returns-in-Outcome
+    returns-in-Held)

@@ -3,59 +3,59 @@ use borrow.Author.Rules.{rules}
 use Rattle.structs_calls.proofs.of_result.Statement.{statement}
 use Rattle.structs_calls.proofs.of_result.Tie as tie
 
-enum_known_answer : tie.Need-enum-known-answer
-enum_known_answer c = search rules
+enum_known-answer : tie.Need-enum_known-answer
+enum_known-answer c = search rules
 
-cast_numbered : tie.Need-overflow-cast-numbered
-cast_numbered c = search rules
+overflow_cast-n : tie.Need-overflow_cast-n
+overflow_cast-n c = search rules
 
-numbered_requires : tie.Need-numbered-requires
-numbered_requires c κs = search rules
+numbered-requires : tie.Need-numbered-requires
+numbered-requires c κs = search rules
 
-enum_told : tie.Need-enum-told
-enum_told c = search rules
+enum_told-1 : tie.Need-enum_told-1
+enum_told-1 c = search rules
 
-numbered_requires_2 : tie.Need-numbered-requires-2
-numbered_requires_2 c κs = search rules
+numbered-requires-in-Delivered : tie.Need-numbered-requires-in-Delivered
+numbered-requires-in-Delivered c κs = search rules
 
-enum_told_2 : tie.Need-enum-told-2
-enum_told_2 c = search rules
+enum_told-in-Dropped : tie.Need-enum_told-in-Dropped
+enum_told-in-Dropped c = search rules
 
-numbered_requires_3 : tie.Need-numbered-requires-3
-numbered_requires_3 c κs = search rules
+numbered-requires-in-Dropped : tie.Need-numbered-requires-in-Dropped
+numbered-requires-in-Dropped c κs = search rules
 
-enum_told_3 : tie.Need-enum-told-3
-enum_told_3 c = search rules
+enum_told-in-Again : tie.Need-enum_told-in-Again
+enum_told-in-Again c = search rules
 
-numbered_requires_4 : tie.Need-numbered-requires-4
-numbered_requires_4 c κs = search rules
+numbered-requires-in-Again : tie.Need-numbered-requires-in-Again
+numbered-requires-in-Again c κs = search rules
 
-returns : tie.Need-returns
-returns c = rw c.before.before.answer.given.1 c.numbered.ensures
+returns-in-Refused : tie.Need-returns-in-Refused
+returns-in-Refused c = rw c.in-Refused.is c.numbered.ensures
 
-returns_2 : tie.Need-returns-2
-returns_2 c = rw c.before.enum_told.given.1 c.numbered2.ensures
+returns-in-Delivered : tie.Need-returns-in-Delivered
+returns-in-Delivered c = rw c.in-Delivered.is c.numbered-in-Delivered.ensures
 
-returns_3 : tie.Need-returns-3
-returns_3 c = rw c.before.enum-told2.given.1 c.numbered3.ensures
+returns-in-Dropped : tie.Need-returns-in-Dropped
+returns-in-Dropped c = rw c.in-Dropped.is c.numbered-in-Dropped.ensures
 
-returns_4 : tie.Need-returns-4
-returns_4 c = rw c.before.enum-told3.given.1 c.numbered4.ensures
+returns-in-Again : tie.Need-returns-in-Again
+returns-in-Again c = rw c.in-Again.is c.numbered-in-Again.ensures
 
 pub of_result_spec : {M : Type 1} → statement M
 of_result_spec =
     tie.close
     (tie.spec
-    enum_known_answer
-    cast_numbered
-    numbered_requires
-    enum_told
-    numbered_requires_2
-    enum_told_2
-    numbered_requires_3
-    enum_told_3
-    numbered_requires_4
-    returns
-    returns_2
-    returns_3
-    returns_4)
+    enum_known-answer
+    overflow_cast-n
+    numbered-requires
+    enum_told-1
+    numbered-requires-in-Delivered
+    enum_told-in-Dropped
+    numbered-requires-in-Dropped
+    enum_told-in-Again
+    numbered-requires-in-Again
+    returns-in-Refused
+    returns-in-Delivered
+    returns-in-Dropped
+    returns-in-Again)

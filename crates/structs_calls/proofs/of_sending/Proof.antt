@@ -3,31 +3,31 @@ use borrow.Author.Rules.{rules}
 use Rattle.structs_calls.proofs.of_sending.Statement.{statement}
 use Rattle.structs_calls.proofs.of_sending.Tie as tie
 
-enum_known_answer : tie.Need-enum-known-answer
-enum_known_answer c = search rules
+enum_known-answer : tie.Need-enum_known-answer
+enum_known-answer c = search rules
 
-cast_numbered : tie.Need-overflow-cast-numbered
-cast_numbered c = search rules
+overflow_cast-n : tie.Need-overflow_cast-n
+overflow_cast-n c = search rules
 
-numbered_requires : tie.Need-numbered-requires
-numbered_requires c κs = search rules
+numbered-requires : tie.Need-numbered-requires
+numbered-requires c κs = search rules
 
-enum_known_answer_2 : tie.Need-enum-known-answer-2
-enum_known_answer_2 c = search rules
+enum_known-answer-in-Sent-1 : tie.Need-enum_known-answer-in-Sent-1
+enum_known-answer-in-Sent-1 c = search rules
 
-returns : tie.Need-returns
-returns c = rw c.before.before.answer.given.1 c.numbered.ensures
+returns-in-Refused : tie.Need-returns-in-Refused
+returns-in-Refused c = rw c.in-Refused.is c.numbered.ensures
 
-returns_2 : tie.Need-returns-2
-returns_2 c = rw c.before.answer2.given.1
+returns-in-Sent : tie.Need-returns-in-Sent
+returns-in-Sent c = rw c.in-Sent.is
 
 pub of_sending_spec : {M : Type 1} → statement M
 of_sending_spec =
     tie.close
     (tie.spec
-    enum_known_answer
-    cast_numbered
-    numbered_requires
-    enum_known_answer_2
-    returns
-    returns_2)
+    enum_known-answer
+    overflow_cast-n
+    numbered-requires
+    enum_known-answer-in-Sent-1
+    returns-in-Refused
+    returns-in-Sent)

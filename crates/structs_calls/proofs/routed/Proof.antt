@@ -3,17 +3,17 @@ use borrow.Author.Rules.{rules}
 use Rattle.structs_calls.proofs.routed.Statement.{statement}
 use Rattle.structs_calls.proofs.routed.Tie as tie
 
-enum_told : tie.Need-enum-told
-enum_told c = search rules
+enum_told-1 : tie.Need-enum_told-1
+enum_told-1 c = search rules
 
-enum_known_subaddress : tie.Need-enum-known-subaddress
-enum_known_subaddress c = search rules
+enum_known-subaddress : tie.Need-enum_known-subaddress
+enum_known-subaddress c = search rules
 
-returns : tie.Need-returns
-returns c = rw c.enum_told.given.1
+returns-in-Absent : tie.Need-returns-in-Absent
+returns-in-Absent c = rw c.in-Absent.is
 
-returns_2 : tie.Need-returns-2
-returns_2 c = rw c.before.subaddress.given.1
+returns-in-Octets : tie.Need-returns-in-Octets
+returns-in-Octets c = rw c.in-Octets.is
 
 pub routed_spec : {M : Type 1} → statement M
-routed_spec = tie.close (tie.spec enum_told enum_known_subaddress returns returns_2)
+routed_spec = tie.close (tie.spec enum_told-1 enum_known-subaddress returns-in-Absent returns-in-Octets)

@@ -3,11 +3,11 @@ use borrow.Author.Tests.{eq-eqb, ne_eqb}
 use Rattle.structs_read.proofs.erasing_of.Statement.{statement}
 use Rattle.structs_read.proofs.erasing_of.Tie as tie
 
-returns : tie.Need-returns
-returns c = rw (eq-eqb _ 0 c.if1.true)
+returns-then-msisdn-eq0 : tie.Need-returns-then-msisdn-eq0
+returns-then-msisdn-eq0 c = rw (eq-eqb _ 0 c.if-msisdn-eq0.true)
 
-returns_2 : tie.Need-returns-2
-returns_2 c = rw (ne_eqb _ 0 c.if1.false)
+returns : tie.Need-returns
+returns c = rw (ne_eqb _ 0 c.if-msisdn-eq0.false)
 
 pub erasing_of_spec : {M : Type 1} → statement M
-erasing_of_spec = tie.close (tie.spec returns returns_2)
+erasing_of_spec = tie.close (tie.spec returns-then-msisdn-eq0 returns)

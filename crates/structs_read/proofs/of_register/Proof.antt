@@ -7,73 +7,65 @@ use Rattle.structs_read.proofs.of_register.Statement.{statement}
 use Rattle.structs_read.proofs.of_register.Tie as tie
 
 -- what was read, from the match on what stands behind the invoke number
-abbrev read : tie.After-known-told → tie.After-read
-read c = c.before
-
-abbrev start : tie.After-known-told → tie.Start
+abbrev read : tie.In-Numbered → tie.In-Numbered
+read c = c
+abbrev start : tie.In-Numbered → tie.Start
 start c = (read c).before.before.before
 
-enum_known_read : tie.Need-enum-known-read
-enum_known_read c = search rules
+enum_known-read : tie.Need-enum_known-read
+enum_known-read c = search rules
 
-enum_told : tie.Need-enum-told
-enum_told c = search rules
+enum_told-1 : tie.Need-enum_told-1
+enum_told-1 c = search rules
 
-no_string_requires : tie.Need-no-string-requires
-no_string_requires c κs = search rules
+no_string-requires : tie.Need-no_string-requires
+no_string-requires c κs = search rules
 
-returns : tie.Need-returns
-returns c =
-    let s = c.before.before.before.before in
-    c.no-string.ensures ∙ register_refused s.args.message.now _ s.requires c.before.enum_told.given.1
+returns-in_default : tie.Need-returns-in_default
+returns-in_default c =
+    c.no_string.ensures ∙ register_refused c.args.message.now _ c.requires c.in_default.is
 
-enum_known_body : tie.Need-enum-known-body
-enum_known_body c = search rules
+enum_known-body : tie.Need-enum_known-body
+enum_known-body c = search rules
 
-no_string_requires_2 : tie.Need-no-string-requires-2
-no_string_requires_2 c κs = search rules
+no_string-requires-in-Wrong : tie.Need-no_string-requires-in-Wrong
+no_string-requires-in-Wrong c κs = search rules
 
-enum_known_body_2 : tie.Need-enum-known-body-2
-enum_known_body_2 c = search rules
+enum_known-body-in-Asks-1 : tie.Need-enum_known-body-in-Asks-1
+enum_known-body-in-Asks-1 c = search rules
 
-sub_end : tie.Need-overflow-sub-end
-sub_end c =
-    let k = c.before.before.before in
-    version_within (start k).args.message.now _ (start k).requires _ _ _ (read k).read.given.1 _ _ c.before.body2.given.1
+overflow_sub-end : tie.Need-overflow_sub-end
+overflow_sub-end c =
+    version_within (start c.before).args.message.now _ (start c.before).requires _ _ _ (read c.before).in-Numbered.is _ _ c.in-Asks.is
 
-sub_string_at : tie.Need-overflow-sub-string-at
-sub_string_at c =
-    let k = c.before.before.before in
-    count_within (start k).args.message.now _ (start k).requires _ _ _ (read k).read.given.1 _ _ c.before.body2.given.1
+overflow_sub-end-in-Asks : tie.Need-overflow_sub-end-in-Asks
+overflow_sub-end-in-Asks c =
+    count_within (start c.before).args.message.now _ (start c.before).requires _ _ _ (read c.before).in-Numbered.is _ _ c.in-Asks.is
 
-string_at_requires : tie.Need-string-at-requires
-string_at_requires c κs = search rules
+string_at-requires : tie.Need-string_at-requires
+string_at-requires c κs = search rules
 
-returns_2 : tie.Need-returns-2
-returns_2 c =
-    let b = c.before.before in
-    let k = b.before.before in
-    c.no-string2.ensures ∙ register_wrong (start k).args.message.now _ (start k).requires _ _ _ (read k).read.given.1 b.body.given.1
+returns-in-Wrong : tie.Need-returns-in-Wrong
+returns-in-Wrong c =
+    c.no_string-in-Wrong.ensures ∙ register_wrong (start c.before.before).args.message.now _ (start c.before.before).requires _ _ _ (read c.before.before).in-Numbered.is c.in-Wrong.is
 
-returns_3 : tie.Need-returns-3
-returns_3 c =
-    let b = c.before.before in
-    let k = b.before.before in
-    c.string-at.ensures ∙ register_asks (start k).args.message.now _ (start k).requires _ _ _ (read k).read.given.1 _ _ b.body2.given.1
+returns-in-Asks : tie.Need-returns-in-Asks
+returns-in-Asks c =
+    c.string_at.ensures ∙ register_asks (start c.before.before).args.message.now _ (start c.before.before).requires _ _ _ (read c.before.before).in-Numbered.is _ _ c.in-Asks.is
 
 pub of_register_spec : {M : Type 1} → statement M
 of_register_spec =
     tie.close
     (tie.spec
-    enum_known_read
-    enum_told
-    no_string_requires
-    returns
-    enum_known_body
-    no_string_requires_2
-    enum_known_body_2
-    sub_end
-    sub_string_at
-    string_at_requires
-    returns_2
-    returns_3)
+    enum_known-read
+    enum_told-1
+    no_string-requires
+    returns-in_default
+    enum_known-body
+    no_string-requires-in-Wrong
+    enum_known-body-in-Asks-1
+    overflow_sub-end
+    overflow_sub-end-in-Asks
+    string_at-requires
+    returns-in-Wrong
+    returns-in-Asks)

@@ -6,74 +6,64 @@ use Rattle.structs_read.proofs.Messages.{release_refused, release_error, release
 use Rattle.structs_read.proofs.of_release.Statement.{statement}
 use Rattle.structs_read.proofs.of_release.Tie as tie
 
-enum_known_read : tie.Need-enum-known-read
-enum_known_read c = search rules
+enum_known-read : tie.Need-enum_known-read
+enum_known-read c = search rules
 
-sub_string_at : tie.Need-overflow-sub-string-at
-sub_string_at c =
-    let k = c.before in
-    let s = k.before.before.before in
-    result_within s.args.message.now _ s.requires _ _ _ k.read.given.1
+overflow_sub-message : tie.Need-overflow_sub-message
+overflow_sub-message c =
+    result_within c.args.message.now _ c.requires _ _ _ c.in-Result.is
 
-string_at_requires : tie.Need-string-at-requires
-string_at_requires c κs = search rules
+string_at-requires : tie.Need-string_at-requires
+string_at-requires c κs = search rules
 
-enum_known_read_2 : tie.Need-enum-known-read-2
-enum_known_read_2 c = search rules
+enum_known-read-in-Error-1 : tie.Need-enum_known-read-in-Error-1
+enum_known-read-in-Error-1 c = search rules
 
-no_string_requires : tie.Need-no-string-requires
-no_string_requires c κs = search rules
+no_string-requires : tie.Need-no_string-requires
+no_string-requires c κs = search rules
 
-enum_known_read_3 : tie.Need-enum-known-read-3
-enum_known_read_3 c = search rules
+enum_known-read-in-Reject-1 : tie.Need-enum_known-read-in-Reject-1
+enum_known-read-in-Reject-1 c = search rules
 
-no_string_requires_2 : tie.Need-no-string-requires-2
-no_string_requires_2 c κs = search rules
+no_string-requires-in-Reject : tie.Need-no_string-requires-in-Reject
+no_string-requires-in-Reject c κs = search rules
 
-enum_told : tie.Need-enum-told
-enum_told c = search rules
+enum_told-1 : tie.Need-enum_told-1
+enum_told-1 c = search rules
 
-no_string_requires_3 : tie.Need-no-string-requires-3
-no_string_requires_3 c κs = search rules
+no_string-requires-in-Refused : tie.Need-no_string-requires-in-Refused
+no_string-requires-in-Refused c κs = search rules
 
-returns : tie.Need-returns
-returns c =
-    let k = c.before.before in
-    let s = k.before.before.before in
-    c.string-at.ensures ∙ release_result s.args.message.now _ s.requires _ _ _ k.read.given.1
+returns-in-Result : tie.Need-returns-in-Result
+returns-in-Result c =
+    c.string_at.ensures ∙ release_result c.args.message.now _ c.requires _ _ _ c.in-Result.is
 
-returns_2 : tie.Need-returns-2
-returns_2 c =
-    let k = c.before.before in
-    let s = k.before.before.before in
-    c.no-string.ensures ∙ release_error s.args.message.now _ s.requires k.read2.given.1
+returns-in-Error : tie.Need-returns-in-Error
+returns-in-Error c =
+    c.no_string.ensures ∙ release_error c.args.message.now _ c.requires c.in-Error.is
 
-returns_3 : tie.Need-returns-3
-returns_3 c =
-    let k = c.before.before in
-    let s = k.before.before.before in
-    c.no-string2.ensures ∙ release_reject s.args.message.now _ s.requires k.read3.given.1
+returns-in-Reject : tie.Need-returns-in-Reject
+returns-in-Reject c =
+    c.no_string-in-Reject.ensures ∙ release_reject c.args.message.now _ c.requires c.in-Reject.is
 
-returns_4 : tie.Need-returns-4
-returns_4 c =
-    let k = c.before in
-    let s = k.before.before.before in
-    c.no-string3.ensures ∙ release_refused s.args.message.now _ s.requires k.enum_told.given.1
+returns-in-Refused : tie.Need-returns-in-Refused
+returns-in-Refused c =
+    c.no_string-in-Refused.ensures ∙ release_refused c.args.message.now _ c.requires c.in-Refused.is
 
 pub of_release_spec : {M : Type 1} → statement M
 of_release_spec =
     tie.close
     (tie.spec
-    enum_known_read
-    sub_string_at
-    string_at_requires
-    enum_known_read_2
-    no_string_requires
-    enum_known_read_3
-    no_string_requires_2
-    enum_told
-    no_string_requires_3
-    returns
-    returns_2
-    returns_3
-    returns_4)
+    enum_known-read
+    overflow_sub-message
+    string_at-requires
+    enum_known-read-in-Error-1
+    no_string-requires
+    enum_known-read-in-Reject-1
+    no_string-requires-in-Reject
+    enum_told-1
+    no_string-requires-in-Refused
+    returns-in-Result
+    returns-in-Error
+    returns-in-Reject
+    returns-in-Refused)

@@ -11,17 +11,17 @@ use Rattle.tables.proofs.Counts.{one_most}
 use Rattle.tables.proofs.count_row.Statement.{statement}
 use Rattle.tables.proofs.count_row.Tie as tie
 
-shared_slice_read_one_if : tie.Need-shared-slice-read-one-if
-shared_slice_read_one_if c = search rules
+bounds-words-1 : tie.Need-bounds-words-1
+bounds-words-1 c = search rules
 
-one_if_requires : tie.Need-one-if-requires
-one_if_requires c κs = search rules
+one_if-requires : tie.Need-one_if-requires
+one_if-requires c κs = search rules
 
-add_held : tie.Need-overflow-add-held
-add_held c = omega (arith, c.before.one-if.ensures, one_most (is_held_at c.before.before.before.before.args.words.now 0))
+overflow_add-held : tie.Need-overflow_add-held
+overflow_add-held c = omega (arith, c.one_if.ensures, one_most (is_held_at c.args.words.now 0))
 
-shared_slice_read_phase : tie.Need-shared-slice-read-phase
-shared_slice_read_phase c = search rules
+bounds-words-2 : tie.Need-bounds-words-2
+bounds-words-2 c = search rules
 
 -- what a row counts, by its phase
 module _ (t : List ℕ) where
@@ -38,40 +38,40 @@ module _ (t : List ℕ) where
       → ◌≡◌ {A = Figures} (record { held = held; waiting = waiting; flying = flying }) (with_row f t 0)
   counted f held waiting flying h w k = rw (h, w, k) refl
 
+returns-then-phase-eq0 : tie.Need-returns-then-phase-eq0
+returns-then-phase-eq0 c =
+    let a = c.args in
+    let n = absent a.words.now c.if-phase-eq0.true in
+    counted a.words.now a.figures _ _ _ (omega (arith, c.one_if.ensures)) (omega (arith, n.0)) (omega (arith, n.1))
+
+overflow_add-result : tie.Need-overflow_add-result
+overflow_add-result c = search rules
+
+returns-then-phase-eq1 : tie.Need-returns-then-phase-eq1
+returns-then-phase-eq1 c =
+    let a = c.args in
+    let n = odd a.words.now c.if-phase-eq1.true in
+    counted a.words.now a.figures _ _ _ (omega (arith, c.one_if.ensures)) (omega (arith, n.0)) (omega (arith, n.1))
+
+overflow_add-result-2 : tie.Need-overflow_add-result-2
+overflow_add-result-2 c = search rules
+
 returns : tie.Need-returns
 returns c =
-    let a = c.before.before.before.before.before.before.args in
-    let n = absent a.words.now c.if1.true in
-    counted a.words.now a.figures _ _ _ (omega (arith, c.before.before.before.one-if.ensures)) (omega (arith, n.0)) (omega (arith, n.1))
-
-add_t12 : tie.Need-overflow-add-t12
-add_t12 c = search rules
-
-returns_2 : tie.Need-returns-2
-returns_2 c =
-    let a = c.before.before.before.before.before.before.before.args in
-    let n = odd a.words.now c.if2.true in
-    counted a.words.now a.figures _ _ _ (omega (arith, c.before.before.before.before.one-if.ensures)) (omega (arith, n.0)) (omega (arith, n.1))
-
-add_t9 : tie.Need-overflow-add-t9
-add_t9 c = search rules
-
-returns_3 : tie.Need-returns-3
-returns_3 c =
-    let a = c.before.before.before.before.before.before.before.args in
-    let n = even a.words.now c.before.if1.false c.if2.false in
-    counted a.words.now a.figures _ _ _ (omega (arith, c.before.before.before.before.one-if.ensures)) (omega (arith, n.0)) (omega (arith, n.1))
+    let a = c.args in
+    let n = even a.words.now c.if-phase-eq0.false c.if-phase-eq1.false in
+    counted a.words.now a.figures _ _ _ (omega (arith, c.one_if.ensures)) (omega (arith, n.0)) (omega (arith, n.1))
 
 pub count_row_spec : {M : Type 1} → statement M
 count_row_spec =
     tie.close
     (tie.spec
-    shared_slice_read_one_if
-    one_if_requires
-    add_held
-    shared_slice_read_phase
-    returns
-    add_t12
-    returns_2
-    add_t9
-    returns_3)
+    bounds-words-1
+    one_if-requires
+    overflow_add-held
+    bounds-words-2
+    returns-then-phase-eq0
+    overflow_add-result
+    returns-then-phase-eq1
+    overflow_add-result-2
+    returns)

@@ -8,53 +8,51 @@ use Rattle.tables.proofs.Sound.{list_ascends}
 use Rattle.tables.proofs.flags_of.Statement.{statement}
 use Rattle.tables.proofs.flags_of.Tie as tie
 
-place_of_requires : tie.Need-place-of-requires
-place_of_requires c κs = (omega arith, list_ascends _ c.before.requires)
+place_of-requires : tie.Need-place_of-requires
+place_of-requires c κs = (omega arith, list_ascends _ c.requires)
 
-enum_known_row : tie.Need-enum-known-row
-enum_known_row c = search rules
+enum_known-row : tie.Need-enum_known-row
+enum_known-row c = search rules
 
 -- the row found is one of the list's
-row_within : (c : tie.After-known-told) → c.before.row.given.0.0 < subscribers_in c.before.before.before.before.before.args.list.now
+row_within : (c : tie.In-At) → c.in-At.row < subscribers_in c.args.list.now
 row_within c =
-    let found = c.before.before.before in
-    (place_found _ _ _ _ (sym found.place_of.ensures ∙ c.before.row.given.1)).0
+    (place_found _ _ _ _ (sym c.place_of.ensures ∙ c.in-At.is)).0
 
-mul_result : tie.Need-overflow-mul-result
-mul_result c = omega (arith, row_within c)
+overflow_mul-result : tie.Need-overflow_mul-result
+overflow_mul-result c = omega (arith, row_within c)
 
-add_result : tie.Need-overflow-add-result
-add_result c = omega (arith, row_within c)
+overflow_add-result : tie.Need-overflow_add-result
+overflow_add-result c = omega (arith, row_within c)
 
-mul_result_2 : tie.Need-overflow-mul-result-2
-mul_result_2 c = omega (arith, row_within c)
+offset_bounds-list-row : tie.Need-offset_bounds-list-row
+offset_bounds-list-row c = omega (arith, row_within c)
 
-shared_slice_read_result : tie.Need-shared-slice-read-result
-shared_slice_read_result c = omega (arith, row_within c.before)
+bounds-list-row : tie.Need-bounds-list-row
+bounds-list-row c = omega (arith, row_within c.before)
 
-enum_told : tie.Need-enum-told
-enum_told c = search rules
+enum_told-1 : tie.Need-enum_told-1
+enum_told-1 c = search rules
 
-returns : tie.Need-returns
+returns-in-At : tie.Need-returns-in-At
 unfolding flags_of
-returns c =
-    let found = c.before.before.before.before in
-    simp (sym found.place_of.ensures ∙ c.before.before.row.given.1)
+returns-in-At c =
+    simp (sym c.place_of.ensures ∙ c.in-At.is)
 
-returns_2 : tie.Need-returns-2
+returns-in-Nothing : tie.Need-returns-in-Nothing
 unfolding flags_of
-returns_2 c = simp (sym c.before.before.place_of.ensures ∙ c.enum_told.given.1)
+returns-in-Nothing c = simp (sym c.place_of.ensures ∙ c.in-Nothing.is)
 
 pub flags_of_spec : {M : Type 1} → statement M
 flags_of_spec =
     tie.close
     (tie.spec
-    place_of_requires
-    enum_known_row
-    mul_result
-    add_result
-    mul_result_2
-    shared_slice_read_result
-    enum_told
-    returns
-    returns_2)
+    place_of-requires
+    enum_known-row
+    overflow_mul-result
+    overflow_add-result
+    offset_bounds-list-row
+    bounds-list-row
+    enum_told-1
+    returns-in-At
+    returns-in-Nothing)

@@ -58,152 +58,143 @@ module _ (l : List ℕ) (at before end : ℕ) (p : Passed l at before end) where
       let two = scan_next _ _ _ _ _ one (omega (arith, p.place, room)) (scan_test _ _ _ _ _ one _ refl ∙ rw (next, p.place) at q.1) in
       record { row = i + 1 + 1; place = omega (arith, p.place); stood = rw next two; reaches = q.2 }
 
-abbrev invariant_loop : tie.invariant_loop
-invariant_loop list before₀ end₀ at₀ before end at = Passed list at before end
+abbrev invariant-loop-at : tie.invariant-loop-at
+invariant-loop-at list before₀ end₀ at₀ before end at = Passed list at before end
 
-abbrev decreases_loop : tie.decreases_loop
-decreases_loop list before₀ end₀ at₀ before end at = length list - at
+abbrev decreases-loop-at : tie.decreases-loop-at
+decreases-loop-at list before₀ end₀ at₀ before end at = length list - at
 
-returns : tie.Need-returns invariant_loop decreases_loop
+returns-then-list-ne0 : tie.Need-returns-then-list-ne0 invariant-loop-at decreases-loop-at
 unfolding list_sound
-returns c =
-    let t = c.before.before.args.list.now in
-    ragged subscriber_words most_subscribers (subscriber_stands t) t c.if1.true
+returns-then-list-ne0 c =
+    let t = c.args.list.now in
+    ragged subscriber_words most_subscribers (subscriber_stands t) t c.if-list-ne0.true
 
-returns_2 : tie.Need-returns-2 invariant_loop decreases_loop
+returns-then-list-gt-MOST_SUBSCRIBERS : tie.Need-returns-then-list-gt-MOST_SUBSCRIBERS invariant-loop-at decreases-loop-at
 unfolding list_sound
-returns_2 c =
-    let t = c.before.before.before.args.list.now in
+returns-then-list-gt-MOST_SUBSCRIBERS c =
+    let t = c.args.list.now in
     too_many subscriber_words most_subscribers (subscriber_stands t) t (omega arith)
 
-loop_holds : tie.Need-loop-init invariant_loop decreases_loop
-loop_holds c = record { row = 0; place = refl; stood = scan_start _ _ _; reaches = reaches_none _ }
+loop-at-init : tie.Need-loop-at-init invariant-loop-at decreases-loop-at
+loop-at-init c = record { row = 0; place = refl; stood = scan_start _ _ _; reaches = reaches_none _ }
 
-pair_follows_requires : tie.Need-pair-follows-requires invariant_loop decreases_loop
-pair_follows_requires c κs = search rules
+pair_follows-requires : tie.Need-pair_follows-requires invariant-loop-at decreases-loop-at
+pair_follows-requires c κs = search rules
 
 -- a pair that follows is within the list
-room : (c : tie.Then3 invariant_loop decreases_loop) → let l = c.before.before.before in l.loop.at + 2 * subscriber_words ≤ length l.before.before.before.before.args.list.now
+room : (c : tie.Then-pair_follows invariant-loop-at decreases-loop-at) → c.loop-at.at + 2 * subscriber_words ≤ length c.args.list.now
 unfolding pair_within
-room c = leb-true _ _ (and_left _ _ (sym c.before.pair-follows.ensures ∙ c.if3.true))
+room c = leb-true _ _ (and_left _ _ (sym c.pair_follows.ensures ∙ c.if-pair_follows.true))
 
-add_before : tie.Need-overflow-add-before invariant_loop decreases_loop
-add_before c = omega (arith, room c)
+overflow_add-before : tie.Need-overflow_add-before invariant-loop-at decreases-loop-at
+overflow_add-before c = omega (arith, room c)
 
-mul_before : tie.Need-overflow-mul-before invariant_loop decreases_loop
-mul_before c = omega (arith, room c)
+offset_bounds-list-at : tie.Need-offset_bounds-list-at invariant-loop-at decreases-loop-at
+offset_bounds-list-at c = omega (arith, room c)
 
-shared_slice_read_before : tie.Need-shared-slice-read-before invariant_loop decreases_loop
-shared_slice_read_before c = omega (arith, room c.before)
+bounds-list-at : tie.Need-bounds-list-at invariant-loop-at decreases-loop-at
+bounds-list-at c = omega (arith, room c.before)
 
-mul_at : tie.Need-overflow-mul-at invariant_loop decreases_loop
-mul_at c = omega (arith, room c.before)
+overflow_mul-at : tie.Need-overflow_mul-at invariant-loop-at decreases-loop-at
+overflow_mul-at c = omega (arith, room c.before)
 
-add_at : tie.Need-overflow-add-at invariant_loop decreases_loop
-add_at c = omega (arith, room c.before)
+overflow_add-at : tie.Need-overflow_add-at invariant-loop-at decreases-loop-at
+overflow_add-at c = omega (arith, room c.before)
 
-loop_less : tie.Need-loop-smaller invariant_loop decreases_loop
-loop_less c = omega (arith, room c.before)
+loop-at-smaller-then-pair_follows : tie.Need-loop-at-smaller-then-pair_follows invariant-loop-at decreases-loop-at
+loop-at-smaller-then-pair_follows c = omega (arith, room c.before)
 
-loop_again : tie.Need-loop-preserved invariant_loop decreases_loop
-loop_again c =
-    let l = c.before.before.before.before in
-    two_more _ l.loop.at l.loop.before l.loop.end l.loop.invariant (sym c.before.before.pair-follows.ensures ∙ c.before.if3.true)
+loop-at-preserved-then-pair_follows : tie.Need-loop-at-preserved-then-pair_follows invariant-loop-at decreases-loop-at
+loop-at-preserved-then-pair_follows c =
+    two_more _ c.loop-at.at c.loop-at.before c.loop-at.end c.loop-at.invariant (sym c.pair_follows.ensures ∙ c.if-pair_follows.true)
 
-mul_msisdn : tie.Need-overflow-mul-msisdn invariant_loop decreases_loop
-mul_msisdn c = search rules
+offset_bounds-list-at-else-pair_follows : tie.Need-offset_bounds-list-at-else-pair_follows invariant-loop-at decreases-loop-at
+offset_bounds-list-at-else-pair_follows c = search rules
 
-shared_slice_read_msisdn : tie.Need-shared-slice-read-msisdn invariant_loop decreases_loop
-shared_slice_read_msisdn c = search rules
+bounds-list-at-else-pair_follows : tie.Need-bounds-list-at-else-pair_follows invariant-loop-at decreases-loop-at
+bounds-list-at-else-pair_follows c = search rules
 
-end_for_requires : tie.Need-end-for-requires invariant_loop decreases_loop
-end_for_requires c κs = search rules
+end_for-end-requires : tie.Need-end_for-end-requires invariant-loop-at decreases-loop-at
+end_for-end-requires c κs = search rules
 
-add_follows : tie.Need-overflow-add-follows invariant_loop decreases_loop
-add_follows c = search rules
+overflow_add-at-else-pair_follows : tie.Need-overflow_add-at-else-pair_follows invariant-loop-at decreases-loop-at
+overflow_add-at-else-pair_follows c = search rules
 
-mul_follows : tie.Need-overflow-mul-follows invariant_loop decreases_loop
-mul_follows c = search rules
+offset_bounds-list-at-else-pair_follows-2 : tie.Need-offset_bounds-list-at-else-pair_follows-2 invariant-loop-at decreases-loop-at
+offset_bounds-list-at-else-pair_follows-2 c = search rules
 
-shared_slice_read_follows : tie.Need-shared-slice-read-follows invariant_loop decreases_loop
-shared_slice_read_follows c =
-    let l = c.before.before.before.before.before.before in
-    omega (arith, (within_list _ _ _ _ l.loop.invariant l.before.before.if1.false c.before.before.before.before.before.loop-test.true).0)
+bounds-list-at-else-pair_follows-2 : tie.Need-bounds-list-at-else-pair_follows-2 invariant-loop-at decreases-loop-at
+bounds-list-at-else-pair_follows-2 c =
+    omega (arith, (within_list _ _ _ _ c.loop-at.invariant c.if-list-ne0.false c.loop-at-test.true).0)
 
-follows_requires : tie.Need-follows-requires invariant_loop decreases_loop
-follows_requires c κs = search rules
+follows-requires : tie.Need-follows-requires invariant-loop-at decreases-loop-at
+follows-requires c κs = search rules
 
 -- whether the row stands
 stands :
-    (c : tie.After-follows invariant_loop decreases_loop)
-    → let l = c.before.before.before.before.before.before.before in
-    subscriber_stands l.before.before.before.before.args.list.now l.loop.invariant.row ≡ c.follows.result
+    (c : tie.After-follows invariant-loop-at decreases-loop-at)
+    → subscriber_stands c.args.list.now c.loop-at.invariant.row ≡ c.follows.result
 stands c =
-    let l = c.before.before.before.before.before.before.before in
-    tested _ l.loop.at l.loop.before l.loop.end l.loop.invariant ∙ rw (← c.before.before.end-for.ensures) (sym c.follows.ensures)
+    tested _ c.loop-at.at c.loop-at.before c.loop-at.end c.loop-at.invariant ∙ rw (← c.end_for-end.ensures) (sym c.follows.ensures)
 
 inside :
-    (c : tie.After-follows invariant_loop decreases_loop)
-    → let l = c.before.before.before.before.before.before.before in
-    l.loop.invariant.row < subscribers_in l.before.before.before.before.args.list.now
+    (c : tie.After-follows invariant-loop-at decreases-loop-at)
+    → c.loop-at.invariant.row < subscribers_in c.args.list.now
 inside c =
-    let l = c.before.before.before.before.before.before.before in
-    (within_list _ _ _ _ l.loop.invariant l.before.before.if1.false c.before.before.before.before.before.before.loop-test.true).1
+    (within_list _ _ _ _ c.loop-at.invariant c.if-list-ne0.false c.loop-at-test.true).1
 
-returns_3 : tie.Need-returns-3 invariant_loop decreases_loop
+returns-then-not-follows : tie.Need-returns-then-not-follows invariant-loop-at decreases-loop-at
 unfolding list_sound
-returns_3 c =
-    let l = c.before.before.before.before.before.before.before.before in
-    let t = l.before.before.before.before.args.list.now in
-    not_every subscriber_words most_subscribers (subscriber_stands t) t l.loop.invariant.row (inside c.before) (stands c.before ∙ not-true _ c.if4.true)
+returns-then-not-follows c =
+    let t = c.args.list.now in
+    not_every subscriber_words most_subscribers (subscriber_stands t) t c.loop-at.invariant.row (inside c.before) (stands c.before ∙ not-true _ c.if-not-follows.true-raw)
 
-add_at_2 : tie.Need-overflow-add-at-2 invariant_loop decreases_loop
-add_at_2 c = search rules
+overflow_add-at-else-pair_follows-2 : tie.Need-overflow_add-at-else-pair_follows-2 invariant-loop-at decreases-loop-at
+overflow_add-at-else-pair_follows-2 c = search rules
 
-loop_less_2 : tie.Need-loop-smaller-2 invariant_loop decreases_loop
-loop_less_2 c = search rules
+loop-at-smaller : tie.Need-loop-at-smaller invariant-loop-at decreases-loop-at
+loop-at-smaller c = search rules
 
-loop_again_2 : tie.Need-loop-preserved-2 invariant_loop decreases_loop
-loop_again_2 c =
-    let l = c.before.before.before.before.before.before.before.before in
-    rw c.before.before.before.end-for.ensures
-    (one_more _ l.loop.at l.loop.before l.loop.end l.loop.invariant (inside c.before) (stands c.before ∙ not-false _ c.if4.false))
+loop-at-preserved : tie.Need-loop-at-preserved invariant-loop-at decreases-loop-at
+loop-at-preserved c =
+    rw c.end_for-end.ensures
+    (one_more _ c.loop-at.at c.loop-at.before c.loop-at.end c.loop-at.invariant (inside c.before) (stands c.before ∙ not-false _ c.if-not-follows.false-raw))
 
-returns_4 : tie.Need-returns-4 invariant_loop decreases_loop
+returns : tie.Need-returns invariant-loop-at decreases-loop-at
 unfolding list_sound
-returns_4 c =
-    let l = c.before in
-    let t = l.before.before.before.before.args.list.now in
-    let p = l.loop.invariant in
+returns c =
+    let t = c.args.list.now in
+    let p = c.loop-at.invariant in
     all_stand subscriber_words most_subscribers (subscriber_stands t) t (search rules) (search rules)
-    (scan_end _ _ _ _ _ p.stood (omega (arith, p.place, c.loop-test.false)))
+    (scan_end _ _ _ _ _ p.stood (omega (arith, p.place, c.loop-at-test.false)))
 
 pub list_sound_spec : {M : Type 1} → statement M
 list_sound_spec =
     tie.close
     (tie.spec
-    invariant_loop
-    decreases_loop
-    returns
-    returns_2
-    loop_holds
-    pair_follows_requires
-    add_before
-    mul_before
-    shared_slice_read_before
-    mul_at
-    add_at
-    loop_less
-    loop_again
-    mul_msisdn
-    shared_slice_read_msisdn
-    end_for_requires
-    add_follows
-    mul_follows
-    shared_slice_read_follows
-    follows_requires
-    returns_3
-    add_at_2
-    loop_less_2
-    loop_again_2
-    returns_4)
+    invariant-loop-at
+    decreases-loop-at
+    returns-then-list-ne0
+    returns-then-list-gt-MOST_SUBSCRIBERS
+    loop-at-init
+    pair_follows-requires
+    overflow_add-before
+    offset_bounds-list-at
+    bounds-list-at
+    overflow_mul-at
+    overflow_add-at
+    loop-at-smaller-then-pair_follows
+    loop-at-preserved-then-pair_follows
+    offset_bounds-list-at-else-pair_follows
+    bounds-list-at-else-pair_follows
+    end_for-end-requires
+    overflow_add-at-else-pair_follows
+    offset_bounds-list-at-else-pair_follows-2
+    bounds-list-at-else-pair_follows-2
+    follows-requires
+    returns-then-not-follows
+    overflow_add-at-else-pair_follows-2
+    loop-at-smaller
+    loop-at-preserved
+    returns)

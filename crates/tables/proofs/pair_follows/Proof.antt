@@ -8,79 +8,79 @@ use borrow.Author.Rules.{rules}
 use Rattle.tables.proofs.pair_follows.Statement.{statement}
 use Rattle.tables.proofs.pair_follows.Tie as tie
 
-sub_if1 : tie.Need-overflow-sub-if1
-sub_if1 c = search rules
+overflow_sub-list : tie.Need-overflow_sub-list
+overflow_sub-list c = search rules
 
-mul_if1 : tie.Need-overflow-mul-if1
-mul_if1 c = search rules
+overflow_mul-t-12 : tie.Need-overflow_mul-t-12
+overflow_mul-t-12 c = search rules
+
+returns-then-list-at : tie.Need-returns-then-list-at
+unfolding pair_within
+returns-then-list-at c = let a = c.args in rw (lt-leb (a.at + 2 * subscriber_words) (length a.list.now) (omega arith))
+
+overflow_add-next : tie.Need-overflow_add-next
+overflow_add-next c = search rules
+
+offset_bounds-list-at : tie.Need-offset_bounds-list-at
+offset_bounds-list-at c = search rules
+
+bounds-list-at : tie.Need-bounds-list-at
+bounds-list-at c = search rules
+
+offset_bounds-list-next : tie.Need-offset_bounds-list-next
+offset_bounds-list-next c = search rules
+
+bounds-list-next : tie.Need-bounds-list-next
+bounds-list-next c = search rules
+
+overflow_add-flags : tie.Need-overflow_add-flags
+overflow_add-flags c = search rules
+
+offset_bounds-list-at-2 : tie.Need-offset_bounds-list-at-2
+offset_bounds-list-at-2 c = search rules
+
+bounds-list-at-2 : tie.Need-bounds-list-at-2
+bounds-list-at-2 c = search rules
+
+overflow_add-others : tie.Need-overflow_add-others
+overflow_add-others c = search rules
+
+offset_bounds-list-next-2 : tie.Need-offset_bounds-list-next-2
+offset_bounds-list-next-2 c = search rules
+
+bounds-list-next-2 : tie.Need-bounds-list-next-2
+bounds-list-next-2 c = search rules
+
+follows-requires : tie.Need-follows-requires
+follows-requires c κs = search rules
+
+follows-requires-2 : tie.Need-follows-requires-2
+follows-requires-2 c κs = search rules
 
 returns : tie.Need-returns
 unfolding pair_within
-returns c = let a = c.before.before.args in rw (lt-leb (a.at + 2 * subscriber_words) (length a.list.now) (omega arith))
-
-add_next : tie.Need-overflow-add-next
-add_next c = search rules
-
-mul_first : tie.Need-overflow-mul-first
-mul_first c = search rules
-
-shared_slice_read_first : tie.Need-shared-slice-read-first
-shared_slice_read_first c = search rules
-
-mul_second : tie.Need-overflow-mul-second
-mul_second c = search rules
-
-shared_slice_read_second : tie.Need-shared-slice-read-second
-shared_slice_read_second c = search rules
-
-add_flags : tie.Need-overflow-add-flags
-add_flags c = search rules
-
-mul_flags : tie.Need-overflow-mul-flags
-mul_flags c = search rules
-
-shared_slice_read_flags : tie.Need-shared-slice-read-flags
-shared_slice_read_flags c = search rules
-
-add_others : tie.Need-overflow-add-others
-add_others c = search rules
-
-mul_others : tie.Need-overflow-mul-others
-mul_others c = search rules
-
-shared_slice_read_others : tie.Need-shared-slice-read-others
-shared_slice_read_others c = search rules
-
-follows_requires : tie.Need-follows-requires
-follows_requires c κs = search rules
-
-follows_requires_2 : tie.Need-follows-requires-2
-follows_requires_2 c κs = search rules
-
-returns_2 : tie.Need-returns-2
-unfolding pair_within
-returns_2 c =
-    let a = c.before.before.before.before.before.before.before.before.args in
-    rw (le-leb (a.at + 2 * subscriber_words) (length a.list.now) (omega arith), ← c.before.follows.ensures, ← c.follows2.ensures)
+returns c =
+    let a = c.args in
+    rw (le-leb (a.at + 2 * subscriber_words) (length a.list.now) (omega arith), ← c.follows.ensures, ← c.follows-2.ensures)
 
 pub pair_follows_spec : {M : Type 1} → statement M
 pair_follows_spec =
     tie.close
     (tie.spec
-    sub_if1
-    mul_if1
-    returns
-    add_next
-    mul_first
-    shared_slice_read_first
-    mul_second
-    shared_slice_read_second
-    add_flags
-    mul_flags
-    shared_slice_read_flags
-    add_others
-    mul_others
-    shared_slice_read_others
-    follows_requires
-    follows_requires_2
-    returns_2)
+    overflow_sub-list
+    overflow_mul-t-12
+    returns-then-list-at
+    overflow_add-next
+    offset_bounds-list-at
+    bounds-list-at
+    offset_bounds-list-next
+    bounds-list-next
+    overflow_add-flags
+    offset_bounds-list-at-2
+    bounds-list-at-2
+    overflow_add-others
+    offset_bounds-list-next-2
+    bounds-list-next-2
+    follows-requires
+    follows-requires-2
+    returns)

@@ -9,85 +9,82 @@ use Rattle.tables.proofs.Keys.{first_within, place_at, Bracket, bracket_all, bra
 use Rattle.tables.proofs.place_of.Statement.{statement}
 use Rattle.tables.proofs.place_of.Tie as tie
 
-abbrev invariant_loop : tie.invariant_loop
-invariant_loop words width wanted low₀ high₀ low high = Bracket (key width words) (length words / width) wanted low high
+abbrev invariant-loop-low : tie.invariant-loop-low
+invariant-loop-low words width wanted low₀ high₀ low high = Bracket (key width words) (length words / width) wanted low high
 
-abbrev decreases_loop : tie.decreases_loop
-decreases_loop words width wanted low₀ high₀ low high = high - low
+abbrev decreases-loop-low : tie.decreases-loop-low
+decreases-loop-low words width wanted low₀ high₀ low high = high - low
 
 -- the first word of the middle row stands in the slice
-middle_within : (c : tie.In-loop invariant_loop decreases_loop) → c.before.before.args.width * (c.before.loop.low + (c.before.loop.high - c.before.loop.low) / 2) < length c.before.before.args.words.now
-middle_within c = first_within _ _ _ c.before.before.requires.0 (search rules)
+middle_within : (c : tie.In-loop-low invariant-loop-low decreases-loop-low) → c.args.width * (c.loop-low.low + (c.loop-low.high - c.loop-low.low) / 2) < length c.args.words.now
+middle_within c = first_within _ _ _ c.requires.0 (search rules)
 
-div_high : tie.Need-nonzero-div-high invariant_loop decreases_loop
-div_high c = search rules
+nonzero_div-high : tie.Need-nonzero_div-high invariant-loop-low decreases-loop-low
+nonzero_div-high c = search rules
 
-loop_holds : tie.Need-loop-init invariant_loop decreases_loop
-loop_holds c = bracket_all _ _ _
+loop-low-init : tie.Need-loop-low-init invariant-loop-low decreases-loop-low
+loop-low-init c = bracket_all _ _ _
 
-sub_middle : tie.Need-overflow-sub-middle invariant_loop decreases_loop
-sub_middle c = search rules
+overflow_sub-middle : tie.Need-overflow_sub-middle invariant-loop-low decreases-loop-low
+overflow_sub-middle c = search rules
 
-add_middle : tie.Need-overflow-add-middle invariant_loop decreases_loop
-add_middle c = omega (arith, div-le_self (length c.before.before.args.words.now) c.before.before.args.width)
+overflow_add-middle : tie.Need-overflow_add-middle invariant-loop-low decreases-loop-low
+overflow_add-middle c = omega (arith, div-le_self (length c.args.words.now) c.args.width)
 
-mul_first : tie.Need-overflow-mul-first invariant_loop decreases_loop
-mul_first c = omega (arith, middle_within c)
+overflow_mul-first : tie.Need-overflow_mul-first invariant-loop-low decreases-loop-low
+overflow_mul-first c = omega (arith, middle_within c)
 
-mul_first_2 : tie.Need-overflow-mul-first-2 invariant_loop decreases_loop
-mul_first_2 c = omega (arith, middle_within c)
+offset_bounds-words-width : tie.Need-offset_bounds-words-width invariant-loop-low decreases-loop-low
+offset_bounds-words-width c = omega (arith, middle_within c)
 
-shared_slice_read_first : tie.Need-shared-slice-read-first invariant_loop decreases_loop
-shared_slice_read_first c = middle_within c.before
+bounds-words-width : tie.Need-bounds-words-width invariant-loop-low decreases-loop-low
+bounds-words-width c = middle_within c.before
 
-returns : tie.Need-returns invariant_loop decreases_loop
-returns c =
-    let l = c.before.before.before.loop in
-    place_at _ _ c.before.before.before.before.requires.1 _ (l.low + (l.high - l.low) / 2) (search rules) c.if1.true
+returns-then-first-wanted : tie.Need-returns-then-first-wanted invariant-loop-low decreases-loop-low
+returns-then-first-wanted c =
+    let l = c.loop-low in
+    place_at _ _ c.requires.1 _ (l.low + (l.high - l.low) / 2) (search rules) c.if-first-wanted.true
 
-add_low : tie.Need-overflow-add-low invariant_loop decreases_loop
-add_low c =
-    let start = c.before.before.before.before.before in
-    omega (arith, div-le_self (length start.args.words.now) start.args.width)
+overflow_add-low : tie.Need-overflow_add-low invariant-loop-low decreases-loop-low
+overflow_add-low c =
+    omega (arith, div-le_self (length c.args.words.now) c.args.width)
 
-loop_less : tie.Need-loop-smaller invariant_loop decreases_loop
-loop_less c = search rules
+loop-low-smaller-then-first-wanted-2 : tie.Need-loop-low-smaller-then-first-wanted-2 invariant-loop-low decreases-loop-low
+loop-low-smaller-then-first-wanted-2 c = search rules
 
-loop_again : tie.Need-loop-preserved invariant_loop decreases_loop
-loop_again c =
-    let at = c.before.before.before.before in
-    let l = at.loop in
-    bracket_up _ _ _ _ _ l.invariant at.before.requires.1 (l.low + (l.high - l.low) / 2) (omega arith) (omega arith) c.if2.true
+loop-low-preserved-then-first-wanted-2 : tie.Need-loop-low-preserved-then-first-wanted-2 invariant-loop-low decreases-loop-low
+loop-low-preserved-then-first-wanted-2 c =
+    let l = c.loop-low in
+    bracket_up _ _ _ _ _ l.invariant c.requires.1 (l.low + (l.high - l.low) / 2) (omega arith) (omega arith) c.if-first-wanted-2.true
 
-loop_less_2 : tie.Need-loop-smaller-2 invariant_loop decreases_loop
-loop_less_2 c = search rules
+loop-low-smaller : tie.Need-loop-low-smaller invariant-loop-low decreases-loop-low
+loop-low-smaller c = search rules
 
-loop_again_2 : tie.Need-loop-preserved-2 invariant_loop decreases_loop
-loop_again_2 c =
-    let at = c.before.before.before.before in
-    let l = at.loop in
-    bracket_down _ _ _ _ _ l.invariant at.before.requires.1 (l.low + (l.high - l.low) / 2) (omega arith) (omega arith) c.before.if1.false c.if2.false
+loop-low-preserved : tie.Need-loop-low-preserved invariant-loop-low decreases-loop-low
+loop-low-preserved c =
+    let l = c.loop-low in
+    bracket_down _ _ _ _ _ l.invariant c.requires.1 (l.low + (l.high - l.low) / 2) (omega arith) (omega arith) c.if-first-wanted.false c.if-first-wanted-2.false
 
-returns_2 : tie.Need-returns-2 invariant_loop decreases_loop
-returns_2 c = bracket_none _ _ _ _ _ c.before.loop.invariant c.loop-test.false
+returns : tie.Need-returns invariant-loop-low decreases-loop-low
+returns c = bracket_none _ _ _ _ _ c.loop-low.invariant c.loop-low-test.false
 
 pub place_of_spec : {M : Type 1} → statement M
 place_of_spec =
     tie.close
     (tie.spec
-    invariant_loop
-    decreases_loop
-    div_high
-    loop_holds
-    sub_middle
-    add_middle
-    mul_first
-    mul_first_2
-    shared_slice_read_first
-    returns
-    add_low
-    loop_less
-    loop_again
-    loop_less_2
-    loop_again_2
-    returns_2)
+    invariant-loop-low
+    decreases-loop-low
+    nonzero_div-high
+    loop-low-init
+    overflow_sub-middle
+    overflow_add-middle
+    overflow_mul-first
+    offset_bounds-words-width
+    bounds-words-width
+    returns-then-first-wanted
+    overflow_add-low
+    loop-low-smaller-then-first-wanted-2
+    loop-low-preserved-then-first-wanted-2
+    loop-low-smaller
+    loop-low-preserved
+    returns)

@@ -77,62 +77,61 @@ module _ (t : List ℕ) (figures : Figures) (before end near at : ℕ) (p : Pass
       counts = row_counted;
     }
 
-abbrev invariant_loop : tie.invariant_loop
-invariant_loop table figures₀ before₀ end₀ near₀ at₀ figures before end near at = Passed table figures before end near at
+abbrev invariant-loop-at : tie.invariant-loop-at
+invariant-loop-at table figures₀ before₀ end₀ near₀ at₀ figures before end near at = Passed table figures before end near at
 
-abbrev decreases_loop : tie.decreases_loop
-decreases_loop table figures₀ before₀ end₀ near₀ at₀ figures before end near at = length table - at
+abbrev decreases-loop-at : tie.decreases-loop-at
+decreases-loop-at table figures₀ before₀ end₀ near₀ at₀ figures before end near at = length table - at
 
-returns : tie.Need-returns invariant_loop decreases_loop
+returns-then-table-ne0 : tie.Need-returns-then-table-ne0 invariant-loop-at decreases-loop-at
 unfolding table_up_to
-returns c =
-    let t = c.before.before.args.table.now in
-    not_counted t (ragged row_words most_numbers (row_stands t) t c.if1.true)
+returns-then-table-ne0 c =
+    let t = c.args.table.now in
+    not_counted t (ragged row_words most_numbers (row_stands t) t c.if-table-ne0.true)
 
-returns_2 : tie.Need-returns-2 invariant_loop decreases_loop
+returns-then-table-gt-MOST_NUMBERS : tie.Need-returns-then-table-gt-MOST_NUMBERS invariant-loop-at decreases-loop-at
 unfolding table_up_to
-returns_2 c =
-    let t = c.before.before.before.args.table.now in
+returns-then-table-gt-MOST_NUMBERS c =
+    let t = c.args.table.now in
     not_counted t (too_many row_words most_numbers (row_stands t) t (omega arith))
 
-loop_holds : tie.Need-loop-init invariant_loop decreases_loop
-loop_holds c = record { row = 0; place = refl; stood = scan_start _ _ _; reaches = reaches_none _; starts = starts_none; counts = refl }
+loop-at-init : tie.Need-loop-at-init invariant-loop-at decreases-loop-at
+loop-at-init c = record { row = 0; place = refl; stood = scan_start _ _ _; reaches = reaches_none _; starts = starts_none; counts = refl }
 
 -- the row at word `at` lies in the table
-row_room : (c : tie.In-loop invariant_loop decreases_loop) → let l = c.before in l.loop.at + row_words ≤ length l.before.before.before.before.args.table.now
-row_room c = let l = c.before in room _ _ _ _ _ _ l.loop.invariant l.before.before.if1.false c.loop-test.true
+row_room : (c : tie.In-loop-at invariant-loop-at decreases-loop-at) → c.loop-at.at + row_words ≤ length c.args.table.now
+row_room c = room _ _ _ _ _ _ c.loop-at.invariant c.if-table-ne0.false c.loop-at-test.true
 
-row_lent : (c : tie.In-loop invariant_loop decreases_loop) → let l = c.before in 0 < rows_in (lent l.before.before.before.before.args.table.now l.loop.at)
-row_lent c = let l = c.before in lent_row _ _ _ _ _ _ l.loop.invariant l.before.before.if1.false c.loop-test.true
+row_lent : (c : tie.In-loop-at invariant-loop-at decreases-loop-at) → 0 < rows_in (lent c.args.table.now c.loop-at.at)
+row_lent c = lent_row _ _ _ _ _ _ c.loop-at.invariant c.if-table-ne0.false c.loop-at-test.true
 
-add_next : tie.Need-overflow-add-next invariant_loop decreases_loop
-add_next c = omega (arith, row_room c)
+overflow_add-next : tie.Need-overflow_add-next invariant-loop-at decreases-loop-at
+overflow_add-next c = omega (arith, row_room c)
 
-mul_words : tie.Need-overflow-mul-words invariant_loop decreases_loop
-mul_words c = search rules
+offset_bounds-table-at : tie.Need-offset_bounds-table-at invariant-loop-at decreases-loop-at
+offset_bounds-table-at c = search rules
 
-sub_words : tie.Need-overflow-sub-words invariant_loop decreases_loop
-sub_words c = search rules
+slice_bounds-words-count : tie.Need-slice_bounds-words-count invariant-loop-at decreases-loop-at
+slice_bounds-words-count c = search rules
 
-part_words_start : tie.Need-slice-bounds-words-start invariant_loop decreases_loop
-part_words_start c = search rules
+slice_bounds-words-start : tie.Need-slice_bounds-words-start invariant-loop-at decreases-loop-at
+slice_bounds-words-start c = search rules
 
-part_words_end : tie.Need-slice-bounds-words-end invariant_loop decreases_loop
-part_words_end c = row_room c
+slice_bounds-words-end : tie.Need-slice_bounds-words-end invariant-loop-at decreases-loop-at
+slice_bounds-words-end c = row_room c
 
-shared_slice_read_number : tie.Need-shared-slice-read-number invariant_loop decreases_loop
-shared_slice_read_number c = omega (arith, row_lent c.before.before)
+bounds-words-0 : tie.Need-bounds-words-0 invariant-loop-at decreases-loop-at
+bounds-words-0 c = omega (arith, row_lent c.before.before)
 
-is_near_requires : tie.Need-is-near-requires invariant_loop decreases_loop
-is_near_requires c κs = (row_lent c.before.before, c.before.before.before.loop.invariant.starts.small)
+is_near-requires : tie.Need-is_near-requires invariant-loop-at decreases-loop-at
+is_near-requires c κs = (row_lent c.before.before, c.loop-at.invariant.starts.small)
 
-end_for_requires : tie.Need-end-for-requires invariant_loop decreases_loop
-end_for_requires c κs = search rules
+end_for-end-requires : tie.Need-end_for-end-requires invariant-loop-at decreases-loop-at
+end_for-end-requires c κs = search rules
 
-holder_start_requires : tie.Need-holder-start-requires invariant_loop decreases_loop
-holder_start_requires c κs =
-    let turn = c.before.before.before.before.before in
-    (row_lent turn, turn.before.loop.invariant.starts.small)
+holder_start-near-requires : tie.Need-holder_start-near-requires invariant-loop-at decreases-loop-at
+holder_start-near-requires c κs =
+    (row_lent c.before.before.before.before.before, c.loop-at.invariant.starts.small)
 
 -- a row that follows and is near stands
 near_stands :
@@ -144,96 +143,86 @@ near_stands before near t i s e =
     (near_sound near t i s (and_left (is_number (number_at t i)) _ b) (and_right (is_number (number_at t i)) _ b))
 
 -- the start that the holder is tested by
-starts_next : (c : tie.After-holder-start invariant_loop decreases_loop) → Starts c.holder-start.result
-starts_next c = let l = c.before.before.before.before.before.before.before in rw c.holder-start.ensures (starts_holder _ _ l.loop.invariant.starts)
+starts_next : (c : tie.After-holder_start-near invariant-loop-at decreases-loop-at) → Starts c.holder_start-near.result
+starts_next c = rw c.holder_start-near.ensures (starts_holder _ _ c.loop-at.invariant.starts)
 
-rest_sound_requires : tie.Need-rest-sound-requires invariant_loop decreases_loop
-rest_sound_requires c κs = (row_lent c.before.before.before.before.before.before, (starts_next c).small)
+rest_sound-rest-requires : tie.Need-rest_sound-rest-requires invariant-loop-at decreases-loop-at
+rest_sound-rest-requires c κs = (row_lent c.before.before.before.before.before.before, (starts_next c).small)
 
 -- whether the row stands, by the scan's test
 stands :
-    (c : tie.After-rest-sound invariant_loop decreases_loop)
-    → let l = c.before.before.before.before.before.before.before.before in
-    let t = l.before.before.before.before.args.table.now in
-    row_stands t l.loop.invariant.row ≡ within l.loop.before c.before.before.end-for.result (number_at (lent t l.loop.at) 0) c.rest-sound.result
+    (c : tie.After-rest_sound-rest invariant-loop-at decreases-loop-at)
+    → let t = c.args.table.now in
+    row_stands t c.loop-at.invariant.row ≡ within c.loop-at.before c.end_for-end.result (number_at (lent t c.loop-at.at) 0) c.rest_sound-rest.result
 stands c =
-    let l = c.before.before.before.before.before.before.before.before in
-    let t = l.before.before.before.before.args.table.now in
-    let w = lent t l.loop.at in
-    tested _ _ _ _ _ _ l.loop.invariant _ (sym (row_tells l.loop.near w 0 l.loop.invariant.starts))
-    ∙ within_tells l.loop.before l.loop.end (number_at w 0) (rest_from (holder_start l.loop.near (holder_at w 0)) w 0) l.loop.invariant.reaches
-    ∙ rw (c.rest-sound.ensures, c.before.holder-start.ensures, c.before.before.end-for.ensures)
+    let t = c.args.table.now in
+    let w = lent t c.loop-at.at in
+    tested _ _ _ _ _ _ c.loop-at.invariant _ (sym (row_tells c.loop-at.near w 0 c.loop-at.invariant.starts))
+    ∙ within_tells c.loop-at.before c.loop-at.end (number_at w 0) (rest_from (holder_start c.loop-at.near (holder_at w 0)) w 0) c.loop-at.invariant.reaches
+    ∙ rw (c.rest_sound-rest.ensures, c.holder_start-near.ensures, c.end_for-end.ensures)
 
-returns_3 : tie.Need-returns-3 invariant_loop decreases_loop
+returns-then-not-before-number-2 : tie.Need-returns-then-not-before-number-2 invariant-loop-at decreases-loop-at
 unfolding table_up_to
-returns_3 c =
-    let turn = c.before.before.before.before.before.before.before.before in
-    let l = turn.before in
-    let t = l.before.before.before.before.args.table.now in
-    not_counted t (not_every row_words most_numbers (row_stands t) t l.loop.invariant.row (inside _ _ _ _ _ _ l.loop.invariant l.before.before.if1.false turn.loop-test.true)
-    (stands c.before ∙ not-true _ c.if4.true))
+returns-then-not-before-number-2 c =
+    let t = c.args.table.now in
+    not_counted t (not_every row_words most_numbers (row_stands t) t c.loop-at.invariant.row (inside _ _ _ _ _ _ c.loop-at.invariant c.if-table-ne0.false c.loop-at-test.true)
+    (stands c.before ∙ not-true _ c.if-not-before-number-2.true-raw))
 
-count_row_requires : tie.Need-count-row-requires invariant_loop decreases_loop
-count_row_requires c κs =
-    let turn = c.before.before.before.before in
-    let l = turn.before in
-    let p = l.loop.invariant in
-    (row_lent turn, counts_few l.loop.figures l.before.before.before.before.args.table.now p.row most_numbers p.counts (omega (arith, p.stood.order, l.before.if2.false)))
+count_row-figures-requires : tie.Need-count_row-figures-requires invariant-loop-at decreases-loop-at
+count_row-figures-requires c κs =
+    let p = c.loop-at.invariant in
+    (row_lent c.before.before.before.before, counts_few c.loop-at.figures c.args.table.now p.row most_numbers p.counts (omega (arith, p.stood.order, c.if-table-gt-MOST_NUMBERS.false)))
 
-loop_less : tie.Need-loop-smaller invariant_loop decreases_loop
-loop_less c = search rules
+loop-at-smaller : tie.Need-loop-at-smaller invariant-loop-at decreases-loop-at
+loop-at-smaller c = search rules
 
-loop_again : tie.Need-loop-preserved invariant_loop decreases_loop
-loop_again c =
-    let near = c.before.before in
-    let turn = near.before.before.before in
-    let l = turn.before in
-    let p = l.loop.invariant in
-    let t = l.before.before.before.before.args.table.now in
-    let w = lent t l.loop.at in
-    let next = passed _ _ _ _ _ _ p l.before.before.if1.false turn.loop-test.true in
-    rw c.count-row.ensures
+loop-at-preserved : tie.Need-loop-at-preserved invariant-loop-at decreases-loop-at
+loop-at-preserved c =
+    let p = c.loop-at.invariant in
+    let t = c.args.table.now in
+    let w = lent t c.loop-at.at in
+    let next = passed _ _ _ _ _ _ p c.if-table-ne0.false c.loop-at-test.true in
+    rw c.count_row-figures.ensures
     (⊎_elim
     (λ slow.
-    let known : tie.After-rest-sound invariant_loop decreases_loop = record { before = record { before = record { before = record { before = near; if3 = slow.0 }; end-for = slow.1 }; holder-start = slow.2 }; rest-sound = slow.3 } in
+    let known : tie.After-rest_sound-rest invariant-loop-at decreases-loop-at = record { before = record { before = record { before = record { before = near; if3 = slow.0 }; end-for = slow.1 }; holder-start = slow.2 }; rest-sound = slow.3 } in
     let e = not-false _ slow.4.left in
     next _ _ (stands known ∙ e) (rw slow.5 (rw slow.1.ensures (reaches_on _ _ _ p.reaches (ltb-true _ _ (and_left _ _ e))))) (rw slow.6 (starts_next known.before)))
     (λ fast.
-    let r = within_reached l.loop.before l.loop.end (number_at w 0) near.is-near.result p.reaches (not-false _ fast.0.left) in
-    next _ _ (tested _ _ _ _ _ _ p _ refl ∙ near_stands l.loop.before l.loop.near w 0 p.starts (rw near.is-near.ensures at r.0)) (rw fast.1 r.1) (rw fast.2 p.starts))
-    c.before.if3.branch)
+    let r = within_reached c.loop-at.before c.loop-at.end (number_at w 0) c.is_near.result p.reaches (not-false _ fast.0.left) in
+    next _ _ (tested _ _ _ _ _ _ p _ refl ∙ near_stands c.loop-at.before c.loop-at.near w 0 p.starts (rw c.is_near.ensures at r.0)) (rw fast.1 r.1) (rw fast.2 p.starts))
+    c.if-not-before-number.branch)
 
-returns_4 : tie.Need-returns-4 invariant_loop decreases_loop
+returns : tie.Need-returns invariant-loop-at decreases-loop-at
 unfolding table_up_to
-returns_4 c =
-    let l = c.before in
-    let t = l.before.before.before.before.args.table.now in
-    let p = l.loop.invariant in
+returns c =
+    let t = c.args.table.now in
+    let p = c.loop-at.invariant in
     all_counted t _ p.row
-    (all_stand row_words most_numbers (row_stands t) t (search rules) (search rules) (scan_end _ _ _ _ _ p.stood (omega (arith, p.place, c.loop-test.false))))
-    p.counts (omega (arith, p.place, p.stood.order, c.loop-test.false))
+    (all_stand row_words most_numbers (row_stands t) t (search rules) (search rules) (scan_end _ _ _ _ _ p.stood (omega (arith, p.place, c.loop-at-test.false))))
+    p.counts (omega (arith, p.place, p.stood.order, c.loop-at-test.false))
 
 pub recount_spec : {M : Type 1} → statement M
 recount_spec =
     tie.close
     (tie.spec
-    invariant_loop
-    decreases_loop
-    returns
-    returns_2
-    loop_holds
-    add_next
-    mul_words
-    sub_words
-    part_words_start
-    part_words_end
-    shared_slice_read_number
-    is_near_requires
-    end_for_requires
-    holder_start_requires
-    rest_sound_requires
-    returns_3
-    count_row_requires
-    loop_less
-    loop_again
-    returns_4)
+    invariant-loop-at
+    decreases-loop-at
+    returns-then-table-ne0
+    returns-then-table-gt-MOST_NUMBERS
+    loop-at-init
+    overflow_add-next
+    offset_bounds-table-at
+    slice_bounds-words-count
+    slice_bounds-words-start
+    slice_bounds-words-end
+    bounds-words-0
+    is_near-requires
+    end_for-end-requires
+    holder_start-near-requires
+    rest_sound-rest-requires
+    returns-then-not-before-number-2
+    count_row-figures-requires
+    loop-at-smaller
+    loop-at-preserved
+    returns)

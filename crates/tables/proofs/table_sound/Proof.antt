@@ -4,24 +4,24 @@ use Rattle.tables.proofs.Counts.{said_unsound, said_counted}
 use Rattle.tables.proofs.table_sound.Statement.{statement}
 use Rattle.tables.proofs.table_sound.Tie as tie
 
-recount_requires : tie.Need-recount-requires
-recount_requires c κs = search rules
+recount-requires : tie.Need-recount-requires
+recount-requires c κs = search rules
 
-enum_told : tie.Need-enum-told
-enum_told c = search rules
+enum_told-1 : tie.Need-enum_told-1
+enum_told-1 c = search rules
 
-enum_told_2 : tie.Need-enum-told-2
-enum_told_2 c = search rules
+enum_told-in-Counted : tie.Need-enum_told-in-Counted
+enum_told-in-Counted c = search rules
 
-returns : tie.Need-returns
-returns c =
-    let t = c.before.before.before.before.args.table.now in
-    sym (said_unsound t _ c.before.before.recount.ensures c.enum_told.given.1)
+returns-in-Unsound : tie.Need-returns-in-Unsound
+returns-in-Unsound c =
+    let t = c.args.table.now in
+    sym (said_unsound t _ c.recount.ensures c.in-Unsound.is)
 
-returns_2 : tie.Need-returns-2
-returns_2 c =
-    let t = c.before.before.before.before.args.table.now in
-    sym (said_counted t _ c.before.before.recount.ensures _ c.enum-told2.given.1).0
+returns-in-Counted : tie.Need-returns-in-Counted
+returns-in-Counted c =
+    let t = c.args.table.now in
+    sym (said_counted t _ c.recount.ensures _ c.in-Counted.is).0
 
 pub table_sound_spec : {M : Type 1} → statement M
-table_sound_spec = tie.close (tie.spec recount_requires enum_told enum_told_2 returns returns_2)
+table_sound_spec = tie.close (tie.spec recount-requires enum_told-1 enum_told-in-Counted returns-in-Unsound returns-in-Counted)

@@ -14,112 +14,102 @@ use borrow.Author.Rules.{rules}
 use Rattle.timetable.proofs.add.Statement.{statement}
 use Rattle.timetable.proofs.add.Tie as tie
 
-abbrev from : tie.Else1 → tie.Start
-from c = c.before.before.before.before.before
-
+abbrev from : tie.Else-refused-ne0 → tie.Start
+from c = c.before.before.before.before
 -- what the checks passed have shown
-passed : (c : tie.Else1) → let a = (from c).args in (a.used ≤ rows_in a.words.now) × (state_sound (beside (in_use a.words.now a.used) a.figures.now) ≡ true)
-passed c = let a = (from c).args in buffer_passes a.words.now a.used a.figures.now _ c.before.refusal.ensures c.if1.false
+passed : (c : tie.Else-refused-ne0) → let a = (from c).args in (a.used ≤ rows_in a.words.now) × (state_sound (beside (in_use a.words.now a.used) a.figures.now) ≡ true)
+passed c = let a = (from c).args in buffer_passes a.words.now a.used a.figures.now _ c.refusal-refused.ensures c.if-refused-ne0.false
 
-form : (c : tie.Else2) → is_number (from c.before.before).args.number.0 ≡ true
-form c = sym c.before.is_number.ensures ∙ not-false _ c.if2.false
+form : (c : tie.Else-not-is_number) → is_number (from c.before.before).args.number.0 ≡ true
+form c = sym c.is_number.ensures ∙ not-false _ c.if-not-is_number.false-raw
 
-abbrev up : tie.Else3 → tie.Else1
-up c = c.before.before.before.before.before
+abbrev up : tie.Else-is_there → tie.Else-refused-ne0
+up c = c.before.before.before.before
+absent : (c : tie.Else-is_there) → let a = (from (up c)).args in is_there (row_of (in_use a.words.now a.used) a.number.0) ≡ false
+absent c = sym c.is_there.ensures ∙ c.if-is_there.false
 
-absent : (c : tie.Else3) → let a = (from (up c)).args in is_there (row_of (in_use a.words.now a.used) a.number.0) ≡ false
-absent c = sym c.before.is-there.ensures ∙ c.if3.false
+refusal-refused-requires : tie.Need-refusal-refused-requires
+refusal-refused-requires c κs = search rules
 
-refusal_requires : tie.Need-refusal-requires
-refusal_requires c κs = search rules
+shape_of-words-then-refused-ne0 : tie.Need-shape_of-words-then-refused-ne0
+shape_of-words-then-refused-ne0 c = search rules
 
-same_length : tie.Need-same-length
-same_length c = search rules
+returns-then-refused-ne0 : tie.Need-returns-then-refused-ne0
+returns-then-refused-ne0 c =
+    let a = c.args in
+    adding_refused a.words.now a.used a.figures.now a.number.0 _ c.refusal-refused.ensures c.if-refused-ne0.true
 
-returns : tie.Need-returns
-returns c =
-    let a = c.before.before.before.before.before.args in
-    adding_refused a.words.now a.used a.figures.now a.number.0 _ c.before.refusal.ensures c.if1.true
+is_number-requires : tie.Need-is_number-requires
+is_number-requires c κs = search rules
 
-is_number_requires : tie.Need-is-number-requires
-is_number_requires c κs = search rules
+shape_of-words-then-not-is_number : tie.Need-shape_of-words-then-not-is_number
+shape_of-words-then-not-is_number c = search rules
 
-same_length_2 : tie.Need-same-length-2
-same_length_2 c = search rules
+returns-then-not-is_number : tie.Need-returns-then-not-is_number
+returns-then-not-is_number c =
+    let a = (from c.before.before).args in
+    adding_malformed a.words.now a.used a.figures.now a.number.0 (passed c.before.before).0 (passed c.before.before).1 (sym c.is_number.ensures ∙ not-true _ c.if-not-is_number.true-raw)
 
-returns_2 : tie.Need-returns-2
-returns_2 c =
-    let e = c.before.before in
+is_there-requires : tie.Need-is_there-requires
+is_there-requires c κs = let p = passed c.before.before in (p.0, state_table _ p.1)
+
+shape_of-words-then-is_there : tie.Need-shape_of-words-then-is_there
+shape_of-words-then-is_there c = search rules
+
+returns-then-is_there : tie.Need-returns-then-is_there
+returns-then-is_there c =
+    let a = (from c.before.before.before.before).args in
+    adding_present a.words.now a.used a.figures.now a.number.0 (passed c.before.before.before.before).0 (passed c.before.before.before.before).1 (form c.before.before) (sym c.is_there.ensures ∙ c.if-is_there.true)
+
+shape_of-words-then-used-words : tie.Need-shape_of-words-then-used-words
+shape_of-words-then-used-words c = search rules
+
+returns-then-used-words : tie.Need-returns-then-used-words
+returns-then-used-words c =
+    let e = up c.before in
     let a = (from e).args in
-    adding_malformed a.words.now a.used a.figures.now a.number.0 (passed e).0 (passed e).1 (sym c.before.is_number.ensures ∙ not-true _ c.if2.true)
+    adding_full a.words.now a.used a.figures.now a.number.0 (passed e).0 (passed e).1 (form c.before.before.before) (absent c.before) c.if-used-words.true
 
-is_there_requires : tie.Need-is-there-requires
-is_there_requires c κs = let p = passed c.before.before.before in (p.0, state_table _ p.1)
-
-same_length_3 : tie.Need-same-length-3
-same_length_3 c = search rules
-
-returns_3 : tie.Need-returns-3
-returns_3 c =
-    let n = c.before.before.before in
-    let e = n.before.before in
-    let a = (from e).args in
-    adding_present a.words.now a.used a.figures.now a.number.0 (passed e).0 (passed e).1 (form n) (sym c.before.is-there.ensures ∙ c.if3.true)
-
-same_length_4 : tie.Need-same-length-4
-same_length_4 c = search rules
-
-returns_4 : tie.Need-returns-4
-returns_4 c =
-    let o = c.before in
-    let e = up o in
-    let a = (from e).args in
-    adding_full a.words.now a.used a.figures.now a.number.0 (passed e).0 (passed e).1 (form o.before.before.before) (absent o) c.if4.true
-
-insert_requires : tie.Need-insert-requires
-insert_requires c κs =
-    let o = c.before in
-    let a = (from (up o.before)).args in
-    let r = room_for a.words.now a.used o.if4.false in
+insert-requires : tie.Need-insert-requires
+insert-requires c κs =
+    let a = (from (up c.before.before)).args in
+    let r = room_for a.words.now a.used c.if-used-words.false in
     let l = r.1 in
     omega arith
 
-add_t13 : tie.Need-overflow-add-t13
-add_t13 c =
-    let o = c.before.before.before.before in
-    let a = (from (up o.before)).args in
-    let r = room_for a.words.now a.used o.if4.false in
+overflow_add-result : tie.Need-overflow_add-result
+overflow_add-result c =
+    let a = (from (up c.before.before.before.before.before)).args in
+    let r = room_for a.words.now a.used c.if-used-words.false in
     let l = r.0 in
     omega arith
 
-same_length_5 : tie.Need-same-length-5
-same_length_5 c = search rules
+shape_of-words : tie.Need-shape_of-words
+shape_of-words c = search rules
 
-returns_5 : tie.Need-returns-5
-returns_5 c =
-    let i = c.before.before in
-    let o = i.before.before in
-    let e = up o.before in
+returns : tie.Need-returns
+returns c =
+    let e = up c.before.before.before.before.before in
     let a = (from e).args in
-    ap (leaving (rows _)) i.insert.ensures
-    ∙ sym (adding_done a.words.now a.used a.figures.now a.number.0 (passed e).0 (passed e).1 (form o.before.before.before.before) (absent o.before) o.if4.false)
+    ap (leaving (rows _)) c.insert.ensures
+    ∙ sym (adding_done a.words.now a.used a.figures.now a.number.0 (passed e).0 (passed e).1 (form c.before.before.before.before.before.before.before) (absent c.before.before.before.before.before) c.if-used-words.false)
 
 pub add_spec : {M : Type 1} → statement M
 add_spec =
     tie.close
     (tie.spec
-    refusal_requires
-    same_length
-    returns
-    is_number_requires
-    same_length_2
-    returns_2
-    is_there_requires
-    same_length_3
-    returns_3
-    same_length_4
-    returns_4
-    insert_requires
-    add_t13
-    same_length_5
-    returns_5)
+    refusal-refused-requires
+    shape_of-words-then-refused-ne0
+    returns-then-refused-ne0
+    is_number-requires
+    shape_of-words-then-not-is_number
+    returns-then-not-is_number
+    is_there-requires
+    shape_of-words-then-is_there
+    returns-then-is_there
+    shape_of-words-then-used-words
+    returns-then-used-words
+    insert-requires
+    overflow_add-result
+    shape_of-words
+    returns)

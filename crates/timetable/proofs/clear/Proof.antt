@@ -10,40 +10,40 @@ use borrow.Author.Fill.{fill_more}
 use Rattle.timetable.proofs.clear.Statement.{statement}
 use Rattle.timetable.proofs.clear.Tie as tie
 
-abbrev invariant_loop : tie.invariant_loop
-invariant_loop words₀ i₀ words i = (i ≤ length words₀) × (length words ≡ length words₀) × (words ≡ replicate i 0 ++ drop i words₀)
+abbrev invariant-loop-i : tie.invariant-loop-i
+invariant-loop-i words₀ i₀ words i = (i ≤ length words₀) × (length words ≡ length words₀) × (words ≡ replicate i 0 ++ drop i words₀)
 
-abbrev decreases_loop : tie.decreases_loop
-decreases_loop words₀ i₀ words i = length words₀ - i
+abbrev decreases-loop-i : tie.decreases-loop-i
+decreases-loop-i words₀ i₀ words i = length words₀ - i
 
-loop_holds : tie.Need-loop-init invariant_loop decreases_loop
-loop_holds c = search rules
+loop-i-init : tie.Need-loop-i-init invariant-loop-i decreases-loop-i
+loop-i-init c = search rules
 
-mul_words : tie.Need-overflow-mul-words invariant_loop decreases_loop
-mul_words c = search rules
+offset_bounds-words-i : tie.Need-offset_bounds-words-i invariant-loop-i decreases-loop-i
+offset_bounds-words-i c = search rules
 
-slice_write_words : tie.Need-slice-write-words invariant_loop decreases_loop
-slice_write_words c = search rules
+bounds-words-i : tie.Need-bounds-words-i invariant-loop-i decreases-loop-i
+bounds-words-i c = search rules
 
-add_i : tie.Need-overflow-add-i invariant_loop decreases_loop
-add_i c = search rules
+overflow_add-i : tie.Need-overflow_add-i invariant-loop-i decreases-loop-i
+overflow_add-i c = search rules
 
-loop_less : tie.Need-loop-smaller invariant_loop decreases_loop
-loop_less c = search rules
+loop-i-smaller : tie.Need-loop-i-smaller invariant-loop-i decreases-loop-i
+loop-i-smaller c = search rules
 
-loop_again : tie.Need-loop-preserved invariant_loop decreases_loop
-loop_again c =
-    let l = c.before.loop in
-    let t = c.before.before.args.words.now in
+loop-i-preserved : tie.Need-loop-i-preserved invariant-loop-i decreases-loop-i
+loop-i-preserved c =
+    let l = c.loop-i in
+    let t = c.args.words.now in
     (search rules, simp length-set l.invariant.1, rw l.invariant.2 (fill_more l.i 0 t (omega arith)))
 
-same_length : tie.Need-same-length invariant_loop decreases_loop
-same_length c = search rules
+shape_of-words : tie.Need-shape_of-words invariant-loop-i decreases-loop-i
+shape_of-words c = search rules
 
-returns : tie.Need-returns invariant_loop decreases_loop
+returns : tie.Need-returns invariant-loop-i decreases-loop-i
 returns c =
-    let l = c.before.loop in
-    let t = c.before.before.args.words.now in
+    let l = c.loop-i in
+    let t = c.args.words.now in
     let whole : l.i ≡ length t = omega arith in
     l.invariant.2 ∙ rw (whole, drop-length, append-nil)
 
@@ -51,13 +51,13 @@ pub clear_spec : {M : Type 1} → statement M
 clear_spec =
     tie.close
     (tie.spec
-    invariant_loop
-    decreases_loop
-    loop_holds
-    mul_words
-    slice_write_words
-    add_i
-    loop_less
-    loop_again
-    same_length
+    invariant-loop-i
+    decreases-loop-i
+    loop-i-init
+    offset_bounds-words-i
+    bounds-words-i
+    overflow_add-i
+    loop-i-smaller
+    loop-i-preserved
+    shape_of-words
     returns)

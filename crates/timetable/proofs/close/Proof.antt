@@ -18,109 +18,97 @@ use Rattle.timetable.proofs.close.Tie as tie
 abbrev T : tie.Start → State
 T c = beside c.args.table.now c.args.figures.now
 
-abbrev from : tie.Else1 → tie.Start
-from c = c.before.before.before.before.before
+abbrev from : tie.Else-refused-ne0 → tie.Start
+from c = c.before.before.before.before
+sound : (c : tie.Else-refused-ne0) → state_sound (T (from c)) ≡ true
+sound c = state_passes (T (from c)) _ c.refusal-refused.ensures c.if-refused-ne0.false
 
-sound : (c : tie.Else1) → state_sound (T (from c)) ≡ true
-sound c = state_passes (T (from c)) _ c.before.refusal.ensures c.if1.false
-
-form : (c : tie.Else2) → is_number (from c.before.before).args.number.0 ≡ true
-form c = sym c.before.is_number.ensures ∙ not-false _ c.if2.false
+form : (c : tie.Else-not-is_number) → is_number (from c.before.before).args.number.0 ≡ true
+form c = sym c.is_number.ensures ∙ not-false _ c.if-not-is_number.false-raw
 
 -- where the row was found
-abbrev up : tie.After-known-told → tie.Else2
-up c = c.before.before.before.before.before
+abbrev up : tie.In-At → tie.Else-not-is_number
+up c = c.before.before
+place : (c : tie.In-At) → let s = from (up c).before.before in row_of s.args.table.now s.args.number.0 ≡ At c.in-At.row
+place c = sym c.row_of.ensures ∙ c.in-At.is
 
-place : (c : tie.After-known-told) → let s = from (up c).before.before in row_of s.args.table.now s.args.number.0 ≡ At c.before.row.given.0.0
-place c = sym c.before.before.before.row_of.ensures ∙ c.before.row.given.1
+refusal-refused-requires : tie.Need-refusal-refused-requires
+refusal-refused-requires c κs = search rules
 
-refusal_requires : tie.Need-refusal-requires
-refusal_requires c κs = search rules
+shape_of-table-then-refused-ne0 : tie.Need-shape_of-table-then-refused-ne0
+shape_of-table-then-refused-ne0 c = search rules
 
-same_length : tie.Need-same-length
-same_length c = search rules
+returns-then-refused-ne0 : tie.Need-returns-then-refused-ne0
+returns-then-refused-ne0 c =
+    closing_state (T c.before.before.before.before) c.args.number.0 _ c.refusal-refused.ensures c.if-refused-ne0.true
+
+is_number-requires : tie.Need-is_number-requires
+is_number-requires c κs = search rules
+
+shape_of-table-then-not-is_number : tie.Need-shape_of-table-then-not-is_number
+shape_of-table-then-not-is_number c = search rules
+
+returns-then-not-is_number : tie.Need-returns-then-not-is_number
+returns-then-not-is_number c =
+    closing_malformed (T (from c.before.before)) (from c.before.before).args.number.0 (sound c.before.before) (sym c.is_number.ensures ∙ not-true _ c.if-not-is_number.true-raw)
+
+row_of-requires : tie.Need-row_of-requires
+row_of-requires c κs = state_table (T (from c.before.before)) (sound c.before.before)
+
+enum_known-row : tie.Need-enum_known-row
+enum_known-row c = search rules
+
+enum_told-1 : tie.Need-enum_told-1
+enum_told-1 c = search rules
+
+shape_of-table-in_default : tie.Need-shape_of-table-in_default
+shape_of-table-in_default c = search rules
+
+returns-in_default : tie.Need-returns-in_default
+returns-in_default c =
+    closing_missing (T (from c.before.before.before.before)) (from c.before.before.before.before).args.number.0 (sound c.before.before.before.before) (form c.before.before) (sym c.row_of.ensures ∙ c.in_default.is)
+
+load-requires : tie.Need-load-requires
+load-requires c κs =
+    let e = (up c).before.before in
+    let f = row_found (from e).args.table.now (from e).args.number.0 _ (place c) in
+    (f.0, state_row (T (from e)) _ (sound e) f.0)
+
+close-next-requires : tie.Need-close-next-requires
+close-next-requires c κs = search rules
+
+store-requires : tie.Need-store-requires
+store-requires c κs =
+    let e = (up c.before.before.before).before.before in
+    (row_found (from e).args.table.now (from e).args.number.0 _ (place c.before.before.before)).0
+
+shape_of-table : tie.Need-shape_of-table
+shape_of-table c = search rules
 
 returns : tie.Need-returns
 returns c =
-    let s = c.before.before.before.before.before in
-    closing_state (T s) s.args.number.0 _ c.before.refusal.ensures c.if1.true
-
-is_number_requires : tie.Need-is-number-requires
-is_number_requires c κs = search rules
-
-same_length_2 : tie.Need-same-length-2
-same_length_2 c = search rules
-
-returns_2 : tie.Need-returns-2
-returns_2 c =
-    let e = c.before.before in
-    closing_malformed (T (from e)) (from e).args.number.0 (sound e) (sym c.before.is_number.ensures ∙ not-true _ c.if2.true)
-
-row_of_requires : tie.Need-row-of-requires
-row_of_requires c κs = let e = c.before.before.before in state_table (T (from e)) (sound e)
-
-enum_known_row : tie.Need-enum-known-row
-enum_known_row c = search rules
-
-enum_told : tie.Need-enum-told
-enum_told c = search rules
-
-same_length_3 : tie.Need-same-length-3
-same_length_3 c = search rules
-
-returns_3 : tie.Need-returns-3
-returns_3 c =
-    let r = c.before.before in
-    let n = r.before.before in
+    let n = up c.before.before.before.before.before.before in
     let e = n.before.before in
-    closing_missing (T (from e)) (from e).args.number.0 (sound e) (form n) (sym r.row_of.ensures ∙ c.enum_told.given.1)
-
-load_requires : tie.Need-load-requires
-load_requires c κs =
-    let k = c.before in
-    let e = (up k).before.before in
-    let f = row_found (from e).args.table.now (from e).args.number.0 _ (place k) in
-    (f.0, state_row (T (from e)) _ (sound e) f.0)
-
-close_requires : tie.Need-close-requires
-close_requires c κs = search rules
-
-store_requires : tie.Need-store-requires
-store_requires c κs =
-    let k = c.before.before.before.before in
-    let e = (up k).before.before in
-    (row_found (from e).args.table.now (from e).args.number.0 _ (place k)).0
-
-same_length_4 : tie.Need-same-length-4
-same_length_4 c = search rules
-
-returns_4 : tie.Need-returns-4
-returns_4 c =
-    let w = c.before.before in
-    let o = w.before.before in
-    let k = o.before.before.before in
-    let n = up k in
-    let e = n.before.before in
-    ap (leaving shut) (w.store.ensures ∙ ap (stored (from e).args.table.now _) (o.close.ensures ∙ ap closing o.before.load.ensures))
-    ∙ sym (closing_done (T (from e)) (from e).args.number.0 (sound e) (form n) _ (place k))
+    ap (leaving shut) (c.store.ensures ∙ ap (stored (from e).args.table.now _) (c.close-next.ensures ∙ ap closing c.load.ensures))
+    ∙ sym (closing_done (T (from e)) (from e).args.number.0 (sound e) (form n) _ (place c.before.before.before.before.before.before))
 
 pub close_spec : {M : Type 1} → statement M
 close_spec =
-    tie.close
+    tie.close-next
     (tie.spec
-    refusal_requires
-    same_length
-    returns
-    is_number_requires
-    same_length_2
-    returns_2
-    row_of_requires
-    enum_known_row
-    enum_told
-    same_length_3
-    returns_3
-    load_requires
-    close_requires
-    store_requires
-    same_length_4
-    returns_4)
+    refusal-refused-requires
+    shape_of-table-then-refused-ne0
+    returns-then-refused-ne0
+    is_number-requires
+    shape_of-table-then-not-is_number
+    returns-then-not-is_number
+    row_of-requires
+    enum_known-row
+    enum_told-1
+    shape_of-table-in_default
+    returns-in_default
+    load-requires
+    close-next-requires
+    store-requires
+    shape_of-table
+    returns)

@@ -13,44 +13,47 @@ use borrow.Author.Rules.{rules}
 use Rattle.timetable.proofs.compact.Statement.{statement}
 use Rattle.timetable.proofs.compact.Tie as tie
 
-abbrev from : tie.Else1 → tie.Start
-from c = c.before.before.before.before.before
-
+abbrev from : tie.Else-refused-ne0 → tie.Start
+from c = c.before.before.before.before
 -- what the checks passed have shown
-passed : (c : tie.Else1) → let a = (from c).args in (a.used ≤ rows_in a.words.now) × (state_sound (beside (in_use a.words.now a.used) a.figures.now) ≡ true)
-passed c = let a = (from c).args in buffer_passes a.words.now a.used a.figures.now _ c.before.refusal.ensures c.if1.false
+passed : (c : tie.Else-refused-ne0) → let a = (from c).args in (a.used ≤ rows_in a.words.now) × (state_sound (beside (in_use a.words.now a.used) a.figures.now) ≡ true)
+passed c = let a = (from c).args in buffer_passes a.words.now a.used a.figures.now _ c.refusal-refused.ensures c.if-refused-ne0.false
 
-refusal_requires : tie.Need-refusal-requires
-refusal_requires c κs = search rules
+refusal-refused-requires : tie.Need-refusal-refused-requires
+refusal-refused-requires c κs = search rules
 
-same_length : tie.Need-same-length
-same_length c = search rules
+shape_of-words-then-refused-ne0 : tie.Need-shape_of-words-then-refused-ne0
+shape_of-words-then-refused-ne0 c = search rules
+
+returns-then-refused-ne0 : tie.Need-returns-then-refused-ne0
+returns-then-refused-ne0 c =
+    let a = c.args in
+    compacting_refused a.words.now a.used a.figures.now _ c.refusal-refused.ensures c.if-refused-ne0.true
+
+remove-left-requires : tie.Need-remove-left-requires
+remove-left-requires c κs = let p = passed c.before in (p.0, state_table _ p.1)
+
+overflow_sub-result : tie.Need-overflow_sub-result
+overflow_sub-result c =
+    let a = (from c.before.before.before.before).args in
+    omega (arith, c.remove-left.ensures.0, stay_few a.used a.words.now)
+
+shape_of-words : tie.Need-shape_of-words
+shape_of-words c = search rules
 
 returns : tie.Need-returns
 returns c =
-    let a = c.before.before.before.before.before.args in
-    compacting_refused a.words.now a.used a.figures.now _ c.before.refusal.ensures c.if1.true
-
-remove_requires : tie.Need-remove-requires
-remove_requires c κs = let p = passed c.before in (p.0, state_table _ p.1)
-
-sub_t11 : tie.Need-overflow-sub-t11
-sub_t11 c =
-    let r = c.before.before in
-    let a = (from r.before.before).args in
-    omega (arith, r.remove.ensures.0, stay_few a.used a.words.now)
-
-same_length_2 : tie.Need-same-length-2
-same_length_2 c = search rules
-
-returns_2 : tie.Need-returns-2
-returns_2 c =
-    let r = c.before.before in
-    let e = r.before.before in
-    let a = (from e).args in
-    compacting_as a.words.now a.used a.figures.now (passed e).0 (passed e).1 _ _ r.remove.ensures.0 r.remove.ensures.1
+    let a = (from c.before.before.before.before).args in
+    compacting_as a.words.now a.used a.figures.now (passed c.before.before.before.before).0 (passed c.before.before.before.before).1 _ _ c.remove-left.ensures.0 c.remove-left.ensures.1
 
 pub compact_spec : {M : Type 1} → statement M
 compact_spec =
     tie.close
-    (tie.spec refusal_requires same_length returns remove_requires sub_t11 same_length_2 returns_2)
+    (tie.spec
+    refusal-refused-requires
+    shape_of-words-then-refused-ne0
+    returns-then-refused-ne0
+    remove-left-requires
+    overflow_sub-result
+    shape_of-words
+    returns)

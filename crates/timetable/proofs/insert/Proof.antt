@@ -12,79 +12,77 @@ use Rattle.timetable.proofs.Opening.{Opened, opened_none, opened_row, opened_on,
 use Rattle.timetable.proofs.insert.Statement.{statement}
 use Rattle.timetable.proofs.insert.Tie as tie
 
-abbrev invariant_loop : tie.invariant_loop
-invariant_loop words₀ used number i₀ words i = Opened number used words₀ i words
+abbrev invariant-loop-i : tie.invariant-loop-i
+invariant-loop-i words₀ used number i₀ words i = Opened number used words₀ i words
 
-abbrev decreases_loop : tie.decreases_loop
-decreases_loop words₀ used number i₀ words i = i
+abbrev decreases-loop-i : tie.decreases-loop-i
+decreases-loop-i words₀ used number i₀ words i = i
 
-loop_holds : tie.Need-loop-init invariant_loop decreases_loop
-loop_holds c = opened_none _ _ _
+loop-i-init : tie.Need-loop-i-init invariant-loop-i decreases-loop-i
+loop-i-init c = opened_none _ _ _
 
-sub_row_at : tie.Need-overflow-sub-row-at invariant_loop decreases_loop
-sub_row_at c = search rules
+overflow_sub-i : tie.Need-overflow_sub-i invariant-loop-i decreases-loop-i
+overflow_sub-i c = search rules
 
-row_at_requires : tie.Need-row-at-requires invariant_loop decreases_loop
-row_at_requires c κs = search rules
+row_at-r-requires : tie.Need-row_at-r-requires invariant-loop-i decreases-loop-i
+row_at-r-requires c κs = search rules
 
-array_read_if1 : tie.Need-array-read-if1 invariant_loop decreases_loop
-array_read_if1 c = search rules
+bounds-r-0 : tie.Need-bounds-r-0 invariant-loop-i decreases-loop-i
+bounds-r-0 c = search rules
 
-put_row_requires : tie.Need-put-row-requires invariant_loop decreases_loop
-put_row_requires c κs = search rules
+put_row-requires : tie.Need-put_row-requires invariant-loop-i decreases-loop-i
+put_row-requires c κs = search rules
 
-sub_i : tie.Need-overflow-sub-i invariant_loop decreases_loop
-sub_i c = search rules
+overflow_sub-i-in-loop-i : tie.Need-overflow_sub-i-in-loop-i invariant-loop-i decreases-loop-i
+overflow_sub-i-in-loop-i c = search rules
 
-loop_less : tie.Need-loop-smaller invariant_loop decreases_loop
-loop_less c = search rules
+loop-i-smaller : tie.Need-loop-i-smaller invariant-loop-i decreases-loop-i
+loop-i-smaller c = search rules
 
-loop_again : tie.Need-loop-preserved invariant_loop decreases_loop
-loop_again c =
-    let l = c.before.before.before.before.before.before.before.before.loop in
-    let start = c.before.before.before.before.before.before.before.before.before.before in
-    let r : c.before.before.before.before.before.row_at.result ≡ row start.args.words.now (l.i - 1) =
-    c.before.before.before.before.before.row_at.ensures ∙ opened_row _ _ _ _ _ start.requires l.invariant (l.i - 1) (omega arith) in
-    rw (c.before.before.put-row.ensures, r)
-    (opened_on _ _ _ _ _ start.requires l.invariant (l.i - 1) (omega arith) (le-ltb _ _ (rw r at c.before.before.before.before.if1.false)))
+loop-i-preserved : tie.Need-loop-i-preserved invariant-loop-i decreases-loop-i
+loop-i-preserved c =
+    let l = c.loop-i in
+    let r : c.row_at-r.result ≡ row c.args.words.now (l.i - 1) =
+    c.row_at-r.ensures ∙ opened_row _ _ _ _ _ c.requires l.invariant (l.i - 1) (omega arith) in
+    rw (c.put_row.ensures, r)
+    (opened_on _ _ _ _ _ c.requires l.invariant (l.i - 1) (omega arith) (le-ltb _ _ (rw r at c.if-r-number.false)))
 
-array_write_new : tie.Need-array-write-new invariant_loop decreases_loop
-array_write_new c = search rules
+bounds-new-0 : tie.Need-bounds-new-0 invariant-loop-i decreases-loop-i
+bounds-new-0 c = search rules
 
-put_row_requires_2 : tie.Need-put-row-requires-2 invariant_loop decreases_loop
-put_row_requires_2 c κs = search rules
+put_row-requires-2 : tie.Need-put_row-requires-2 invariant-loop-i decreases-loop-i
+put_row-requires-2 c κs = search rules
 
-same_length : tie.Need-same-length invariant_loop decreases_loop
-same_length c = ap length c.before.before.put-row2.ensures ∙ simp length-set c.before.before.before.before.before.loop.invariant.long
+shape_of-words : tie.Need-shape_of-words invariant-loop-i decreases-loop-i
+shape_of-words c = ap length c.put_row-2.ensures ∙ simp length-set c.loop-i.invariant.long
 
-returns : tie.Need-returns invariant_loop decreases_loop
+returns : tie.Need-returns invariant-loop-i decreases-loop-i
 returns c =
-    let l = c.before.before.before.before.before.loop in
-    let start = c.before.before.before.before.before.before.before in
-    let stopped : place start.args.number start.args.words.now l.i ≡ l.i =
+    let l = c.loop-i in
+    let stopped : place c.args.number c.args.words.now l.i ≡ l.i =
     ⊎_elim
     (λ w. stops_low _ _ _ w.left)
     (λ w.
-    let r : w.2.result ≡ row start.args.words.now (l.i - 1) = w.2.ensures ∙ opened_row _ _ _ _ _ start.requires l.invariant (l.i - 1) (omega (arith, w.0.taken)) in
+    let r : w.2.result ≡ row c.args.words.now (l.i - 1) = w.2.ensures ∙ opened_row _ _ _ _ _ c.requires l.invariant (l.i - 1) (omega (arith, w.0.taken)) in
     stops_below _ _ _ (l.i - 1) (omega (arith, w.0.taken)) (lt-ltb _ _ (rw r at w.3.taken)))
-    c.before.before.before.before.loop-test.branch in
-    c.before.before.put-row2.ensures ∙ opened_end _ _ _ _ _ start.requires l.invariant stopped
+    c.loop-i-test.branch in
+    c.put_row-2.ensures ∙ opened_end _ _ _ _ _ c.requires l.invariant stopped
 
 pub insert_spec : {M : Type 1} → statement M
 insert_spec =
     tie.close
     (tie.spec
-    invariant_loop
-    decreases_loop
-    loop_holds
-    sub_row_at
-    row_at_requires
-    array_read_if1
-    put_row_requires
-    sub_i
-    loop_less
-    loop_again
-    array_write_new
-    put_row_requires_2
-    same_length
+    invariant-loop-i
+    decreases-loop-i
+    loop-i-init
+    overflow_sub-i
+    row_at-r-requires
+    bounds-r-0
+    put_row-requires
+    overflow_sub-i-in-loop-i
+    loop-i-smaller
+    loop-i-preserved
+    bounds-new-0
+    put_row-requires-2
+    shape_of-words
     returns)

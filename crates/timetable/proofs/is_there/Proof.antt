@@ -5,35 +5,35 @@ use borrow.Author.Rules.{rules}
 use Rattle.timetable.proofs.is_there.Statement.{statement}
 use Rattle.timetable.proofs.is_there.Tie as tie
 
-mul_end : tie.Need-overflow-mul-end
-mul_end c = search rules
+overflow_mul-end : tie.Need-overflow_mul-end
+overflow_mul-end c = search rules
 
-slice_aggregate_row_of : tie.Need-slice-aggregate-row-of
-slice_aggregate_row_of c = let s = c.before.before in sym (use_length s.args.words.now s.args.used s.requires.0)
+slice_bounds-row_of-end : tie.Need-slice_bounds-row_of-end
+slice_bounds-row_of-end c = sym (use_length c.args.words.now c.args.used c.requires.0)
 
-row_of_requires : tie.Need-row-of-requires
-row_of_requires c κs = search rules
+row_of-requires : tie.Need-row_of-requires
+row_of-requires c κs = search rules
 
-enum_told : tie.Need-enum-told
-enum_told c = search rules
+enum_told-1 : tie.Need-enum_told-1
+enum_told-1 c = search rules
 
-enum_told_2 : tie.Need-enum-told-2
-enum_told_2 c = search rules
+enum_told-in-Nothing : tie.Need-enum_told-in-Nothing
+enum_told-in-Nothing c = search rules
 
-returns : tie.Need-returns
-returns c = sym (ap is_there (sym c.before.before.row_of.ensures ∙ c.enum_told.given.1))
+returns-in-At : tie.Need-returns-in-At
+returns-in-At c = sym (ap is_there (sym c.row_of.ensures ∙ c.in-At.is))
 
-returns_2 : tie.Need-returns-2
-returns_2 c = sym (ap is_there (sym c.before.before.row_of.ensures ∙ c.enum-told2.given.1))
+returns-in-Nothing : tie.Need-returns-in-Nothing
+returns-in-Nothing c = sym (ap is_there (sym c.row_of.ensures ∙ c.in-Nothing.is))
 
 pub is_there_spec : {M : Type 1} → statement M
 is_there_spec =
     tie.close
     (tie.spec
-    mul_end
-    slice_aggregate_row_of
-    row_of_requires
-    enum_told
-    enum_told_2
-    returns
-    returns_2)
+    overflow_mul-end
+    slice_bounds-row_of-end
+    row_of-requires
+    enum_told-1
+    enum_told-in-Nothing
+    returns-in-At
+    returns-in-Nothing)

@@ -12,110 +12,107 @@ use Rattle.timetable.proofs.Packing.{compacted_by_lem, Packed, packed_none, pack
 use Rattle.timetable.proofs.remove.Statement.{statement}
 use Rattle.timetable.proofs.remove.Tie as tie
 
-abbrev invariant_loop : tie.invariant_loop
-invariant_loop words₀ used kept₀ i₀ words kept i = (i ≤ used) × Packed goes words₀ i words kept
+abbrev invariant-loop-i : tie.invariant-loop-i
+invariant-loop-i words₀ used kept₀ i₀ words kept i = (i ≤ used) × Packed goes words₀ i words kept
 
-abbrev decreases_loop : tie.decreases_loop
-decreases_loop words₀ used kept₀ i₀ words kept i = used - i
+abbrev decreases-loop-i : tie.decreases-loop-i
+decreases-loop-i words₀ used kept₀ i₀ words kept i = used - i
 
-loop_holds : tie.Need-loop-init invariant_loop decreases_loop
-loop_holds c = (search rules, packed_none goes _)
+loop-i-init : tie.Need-loop-i-init invariant-loop-i decreases-loop-i
+loop-i-init c = (search rules, packed_none goes _)
 
-row_at_requires : tie.Need-row-at-requires invariant_loop decreases_loop
-row_at_requires c κs = search rules
+row_at-r-requires : tie.Need-row_at-r-requires invariant-loop-i decreases-loop-i
+row_at-r-requires c κs = search rules
 
-goes_requires : tie.Need-goes-requires invariant_loop decreases_loop
-goes_requires c κs =
-    let l = c.before.before.before.loop in
-    let s = c.before.before.before.before.before in
-    let t = s.args.words.now in
-    let fits = use_fits t _ s.requires.0 in
-    rw (c.row_at.ensures, packed_row goes t l.i l.words l.auto (omega arith) l.invariant.1 (omega arith)) (use_sound t s.args.used s.requires.0 s.requires.1 l.i (omega arith))
+goes-requires : tie.Need-goes-requires invariant-loop-i decreases-loop-i
+goes-requires c κs =
+    let l = c.loop-i in
+    let t = c.args.words.now in
+    let fits = use_fits t _ c.requires.0 in
+    rw (c.row_at-r.ensures, packed_row goes t l.i l.words l.auto (omega arith) l.invariant.1 (omega arith)) (use_sound t c.args.used c.requires.0 c.requires.1 l.i (omega arith))
 
-put_row_requires : tie.Need-put-row-requires invariant_loop decreases_loop
-put_row_requires c κs = search rules
+put_row-requires : tie.Need-put_row-requires invariant-loop-i decreases-loop-i
+put_row-requires c κs = search rules
 
-add_kept : tie.Need-overflow-add-kept invariant_loop decreases_loop
-add_kept c = search rules
+overflow_add-kept : tie.Need-overflow_add-kept invariant-loop-i decreases-loop-i
+overflow_add-kept c = search rules
 
-add_i : tie.Need-overflow-add-i invariant_loop decreases_loop
-add_i c = search rules
+overflow_add-i : tie.Need-overflow_add-i invariant-loop-i decreases-loop-i
+overflow_add-i c = search rules
 
-loop_less : tie.Need-loop-smaller invariant_loop decreases_loop
-loop_less c = search rules
+loop-i-smaller : tie.Need-loop-i-smaller invariant-loop-i decreases-loop-i
+loop-i-smaller c = search rules
 
-loop_again : tie.Need-loop-preserved invariant_loop decreases_loop
-loop_again c =
-    let l = c.before.before.before.before.before.loop in
-    let t = c.before.before.before.before.before.before.before.args.words.now in
-    let fits = use_fits t _ c.before.before.before.before.before.before.before.requires.0 in
+loop-i-preserved : tie.Need-loop-i-preserved invariant-loop-i decreases-loop-i
+loop-i-preserved c =
+    let l = c.loop-i in
+    let t = c.args.words.now in
+    let fits = use_fits t _ c.requires.0 in
     let at = packed_row goes t l.i l.words l.auto (omega arith) l.invariant.1 (omega arith) in
-    let r : c.before.before.row_at.result ≡ row t l.i = c.before.before.row_at.ensures ∙ at in
-    let tested : c.before.goes.result ≡ goes (row t l.i) = c.before.goes.ensures ∙ ap goes r in (
+    let r : c.row_at-r.result ≡ row t l.i = c.row_at-r.ensures ∙ at in
+    let tested : c.goes.result ≡ goes (row t l.i) = c.goes.ensures ∙ ap goes r in (
       search rules,
       ⊎_elim
           (λ w. rw (w.5, w.6, w.2.ensures, r) (packed_in goes t l.i l.words l.auto (omega arith) l.invariant.1 (omega arith) (sym tested ∙ not-true _ w.0.taken)))
           (λ w. rw (w.1, w.2) (packed_out goes t l.i l.words l.auto (omega arith) l.invariant.1 (omega arith) (sym tested ∙ not-false _ w.0.left)))
-          c.if1.branch,
+          c.if-not-goes.branch,
     )
 
-mul_from : tie.Need-overflow-mul-from invariant_loop decreases_loop
-mul_from c = search rules
+overflow_mul-from : tie.Need-overflow_mul-from invariant-loop-i decreases-loop-i
+overflow_mul-from c = search rules
 
-mul_to : tie.Need-overflow-mul-to invariant_loop decreases_loop
-mul_to c = search rules
+overflow_mul-to : tie.Need-overflow_mul-to invariant-loop-i decreases-loop-i
+overflow_mul-to c = search rules
 
-mul_clear : tie.Need-overflow-mul-clear invariant_loop decreases_loop
-mul_clear c = search rules
+offset_bounds-words-from : tie.Need-offset_bounds-words-from invariant-loop-i decreases-loop-i
+offset_bounds-words-from c = search rules
 
-sub_clear : tie.Need-overflow-sub-clear invariant_loop decreases_loop
-sub_clear c = search rules
+slice_bounds-clear-count : tie.Need-slice_bounds-clear-count invariant-loop-i decreases-loop-i
+slice_bounds-clear-count c = search rules
 
-part_clear_start : tie.Need-slice-bounds-clear-start invariant_loop decreases_loop
-part_clear_start c = search rules
+slice_bounds-clear-start : tie.Need-slice_bounds-clear-start invariant-loop-i decreases-loop-i
+slice_bounds-clear-start c = search rules
 
-part_clear_end : tie.Need-slice-bounds-clear-end invariant_loop decreases_loop
-part_clear_end c = search rules
+slice_bounds-clear-end : tie.Need-slice_bounds-clear-end invariant-loop-i decreases-loop-i
+slice_bounds-clear-end c = search rules
 
-clear_requires : tie.Need-clear-requires invariant_loop decreases_loop
-clear_requires c κs = search rules
+clear-requires : tie.Need-clear-requires invariant-loop-i decreases-loop-i
+clear-requires c κs = search rules
 
 -- all rows are passed
 passed :
-    (c : tie.After-loop invariant_loop decreases_loop)
-    → let start = c.before.before.before in Packed goes start.args.words.now start.args.used c.before.loop.words c.before.loop.auto
-passed c = let all : c.before.loop.i ≡ c.before.before.before.args.used = omega arith in rw all at c.before.loop.invariant.1
+    (c : tie.After-loop-i invariant-loop-i decreases-loop-i)
+    → Packed goes c.args.words.now c.args.used c.loop-i.words c.loop-i.auto
+passed c = let all : c.loop-i.i ≡ c.args.used = omega arith in rw all at c.loop-i.invariant.1
 
-returns : tie.Need-returns invariant_loop decreases_loop
+returns : tie.Need-returns invariant-loop-i decreases-loop-i
 returns c =
-    let left = c.before.before.before.before in
-    ((passed left).counted, packed_end goes _ _ _ _ (use_fits left.before.before.before.args.words.now _ left.before.before.before.requires.0) (passed left) _ c.before.before.clear.ensures ∙ sym (compacted_by_lem _ _))
+    ((passed c.before.before.before.before).counted, packed_end goes _ _ _ _ (use_fits c.args.words.now _ c.requires.0) (passed c.before.before.before.before) _ c.clear.ensures ∙ sym (compacted_by_lem _ _))
 
-same_length : tie.Need-same-length invariant_loop decreases_loop
-same_length c =
-    let left = c.before.before.before.before in
-    packed_long goes _ _ _ _ (use_fits left.before.before.before.args.words.now _ left.before.before.before.requires.0) (passed left) _ c.before.before.clear.ensures
+shape_of-words : tie.Need-shape_of-words invariant-loop-i decreases-loop-i
+shape_of-words c =
+    packed_long goes _ _ _ _ (use_fits c.args.words.now _ c.requires.0) (passed c.before.before.before.before) _ c.clear.ensures
 
 pub remove_spec : {M : Type 1} → statement M
 remove_spec =
     tie.close
     (tie.spec
-    invariant_loop
-    decreases_loop
-    loop_holds
-    row_at_requires
-    goes_requires
-    put_row_requires
-    add_kept
-    add_i
-    loop_less
-    loop_again
-    mul_from
-    mul_to
-    mul_clear
-    sub_clear
-    part_clear_start
-    part_clear_end
-    clear_requires
-    same_length
+    invariant-loop-i
+    decreases-loop-i
+    loop-i-init
+    row_at-r-requires
+    goes-requires
+    put_row-requires
+    overflow_add-kept
+    overflow_add-i
+    loop-i-smaller
+    loop-i-preserved
+    overflow_mul-from
+    overflow_mul-to
+    offset_bounds-words-from
+    slice_bounds-clear-count
+    slice_bounds-clear-start
+    slice_bounds-clear-end
+    clear-requires
+    shape_of-words
     returns)

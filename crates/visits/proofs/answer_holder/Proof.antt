@@ -4,52 +4,46 @@ use Rattle.visits.proofs.Placed.{holder_found}
 use Rattle.visits.proofs.answer_holder.Statement.{statement}
 use Rattle.visits.proofs.answer_holder.Tie as tie
 
-interrogate_requires : tie.Need-interrogate-requires
-interrogate_requires c κs = search rules
+interrogate-found-requires : tie.Need-interrogate-found-requires
+interrogate-found-requires c κs = search rules
 
-enum_known_found : tie.Need-enum-known-found
-enum_known_found c = search rules
+enum_known-found : tie.Need-enum_known-found
+enum_known-found c = search rules
 
-say_requires : tie.Need-say-requires
-say_requires c κs = search rules
+say-requires : tie.Need-say-requires
+say-requires c κs = search rules
 
-enum_known_found_2 : tie.Need-enum-known-found-2
-enum_known_found_2 c = search rules
+enum_known-found-in-Held-1 : tie.Need-enum_known-found-in-Held-1
+enum_known-found-in-Held-1 c = search rules
 
-tell_requires : tie.Need-tell-requires
-tell_requires c κs =
-    let i = c.before.before.before.before in
-    let s = i.before.before in
-    (holder_found s.args.held _ s.requires.0 (sym i.interrogate.ensures ∙ c.before.before.found2.given.1), s.requires.1)
+tell-requires : tie.Need-tell-requires
+tell-requires c κs =
+    (holder_found c.args.held _ c.requires.0 (sym c.interrogate-found.ensures ∙ c.in-Held.is), c.requires.1)
 
-same_length : tie.Need-same-length
-same_length c = search rules
+shape_of-reply-in-Stays : tie.Need-shape_of-reply-in-Stays
+shape_of-reply-in-Stays c = search rules
 
-returns : tie.Need-returns
-returns c =
-    let s = c.before.before in
-    let f = s.before.before.before in
-    rw (sym f.before.before.interrogate.ensures ∙ f.found.given.1, s.say.ensures.0, s.say.ensures.1)
+returns-in-Stays : tie.Need-returns-in-Stays
+returns-in-Stays c =
+    rw (sym c.interrogate-found.ensures ∙ c.in-Stays.is, c.say.ensures.0, c.say.ensures.1)
 
-same_length_2 : tie.Need-same-length-2
-same_length_2 c = search rules
+shape_of-reply-in-Held : tie.Need-shape_of-reply-in-Held
+shape_of-reply-in-Held c = search rules
 
-returns_2 : tie.Need-returns-2
-returns_2 c =
-    let s = c.before.before in
-    let f = s.before.before.before in
-    rw (sym f.before.before.interrogate.ensures ∙ f.found2.given.1, s.tell.ensures.0, s.tell.ensures.1)
+returns-in-Held : tie.Need-returns-in-Held
+returns-in-Held c =
+    rw (sym c.interrogate-found.ensures ∙ c.in-Held.is, c.tell.ensures.0, c.tell.ensures.1)
 
 pub answer_holder_spec : {M : Type 1} → statement M
 answer_holder_spec =
     tie.close
     (tie.spec
-    interrogate_requires
-    enum_known_found
-    say_requires
-    enum_known_found_2
-    tell_requires
-    same_length
-    returns
-    same_length_2
-    returns_2)
+    interrogate-found-requires
+    enum_known-found
+    say-requires
+    enum_known-found-in-Held-1
+    tell-requires
+    shape_of-reply-in-Stays
+    returns-in-Stays
+    shape_of-reply-in-Held
+    returns-in-Held)

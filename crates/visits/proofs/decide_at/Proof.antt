@@ -21,125 +21,112 @@ T c = beside c.args.table.now c.args.figures.now
 abbrev B : tie.Start → List ℕ
 B c = c.args.reply.now
 
-abbrev start : tie.After-load → tie.Start
-start c = c.before.before.before.before.before
+abbrev start : tie.After-load-record → tie.Start
+start c = c.before.before.before.before
+load-record-requires : tie.Need-load-record-requires
+load-record-requires c κs = (c.requires.1, state_row (T c.before.before.before) c.args.row c.requires.0 c.requires.1)
 
-load_requires : tie.Need-load-requires
-load_requires c κs = let s = c.before.before.before.before in (s.requires.1, state_row (T s) s.args.row s.requires.0 s.requires.1)
+enum_told-1 : tie.Need-enum_told-1
+enum_told-1 c = search rules
 
-enum_told : tie.Need-enum-told
-enum_told c = search rules
+register-step-requires : tie.Need-register-step-requires
+register-step-requires c κs = search rules
 
-register_requires : tie.Need-register-requires
-register_requires c κs = search rules
+settle-n-requires : tie.Need-settle-n-requires
+settle-n-requires c κs = search rules
 
-settle_requires : tie.Need-settle-requires
-settle_requires c κs = search rules
+say-requires : tie.Need-say-requires
+say-requires c κs = search rules
 
-say_requires : tie.Need-say-requires
-say_requires c κs = search rules
+enum_told-in-Erase : tie.Need-enum_told-in-Erase
+enum_told-in-Erase c = search rules
 
-enum_told_2 : tie.Need-enum-told-2
-enum_told_2 c = search rules
+erasure-step-requires : tie.Need-erasure-step-requires
+erasure-step-requires c κs = search rules
 
-erasure_requires : tie.Need-erasure-requires
-erasure_requires c κs = search rules
+settle-n-requires-in-Erase : tie.Need-settle-n-requires-in-Erase
+settle-n-requires-in-Erase c κs = search rules
 
-settle_requires_2 : tie.Need-settle-requires-2
-settle_requires_2 c κs = search rules
+say-requires-in-Erase : tie.Need-say-requires-in-Erase
+say-requires-in-Erase c κs = search rules
 
-say_requires_2 : tie.Need-say-requires-2
-say_requires_2 c κs = search rules
+enum_told-in-Interrogate : tie.Need-enum_told-in-Interrogate
+enum_told-in-Interrogate c = search rules
 
-enum_told_3 : tie.Need-enum-told-3
-enum_told_3 c = search rules
+answer_holder-requires : tie.Need-answer_holder-requires
+answer_holder-requires c κs =
+    (rw c.load-record.ensures (record_sound_lem (T (start c.before.before.before)).table (start c.before.before.before).args.row (state_row (T (start c.before.before.before)) (start c.before.before.before).args.row (start c.before.before.before).requires.0 (start c.before.before.before).requires.1)), (start c.before.before.before).requires.2)
 
-answer_holder_requires : tie.Need-answer-holder-requires
-answer_holder_requires c κs =
-    let l = c.before.before.before.before in
-    (rw l.load.ensures (record_sound_lem (T (start l)).table (start l).args.row (state_row (T (start l)) (start l).args.row (start l).requires.0 (start l).requires.1)), (start l).requires.2)
+shape_of-table-in-Register : tie.Need-shape_of-table-in-Register
+shape_of-table-in-Register c = search rules
 
-same_length : tie.Need-same-length
-same_length c = search rules
+shape_of-figures-in-Register : tie.Need-shape_of-figures-in-Register
+shape_of-figures-in-Register c = search rules
 
-same_length_2 : tie.Need-same-length-2
-same_length_2 c = search rules
+shape_of-reply-in-Register : tie.Need-shape_of-reply-in-Register
+shape_of-reply-in-Register c = search rules
 
-same_length_3 : tie.Need-same-length-3
-same_length_3 c = search rules
-
-returns : tie.Need-returns
-returns c =
-    let q = c.before.before in
-    let w = q.before.before.before.before.before.before in
-    let g = w.before.before.before in
-    let l = g.before.before.before.before in
-    let s = start l in
+returns-in-Register : tie.Need-returns-in-Register
+returns-in-Register c =
+    let s = start c.before.before.before.before.before.before.before.before.before.before.before.before.before.before in
     let a = s.args in
-    rw g.before.enum_told.given.1
-    (said_placed _ (B s) _ _ _ _ w.settle.ensures q.say.ensures.0 q.say.ensures.1
-    ∙ ap (λ (x : Step). replying (B s) (step_at (T s) a.row 1 x)) (g.register.ensures ∙ ap (registered a.fields.number a.requester) l.load.ensures))
+    rw c.in-Register.is
+    (said_placed _ (B s) _ _ _ _ c.settle-n.ensures c.say.ensures.0 c.say.ensures.1
+    ∙ ap (λ (x : Step). replying (B s) (step_at (T s) a.row 1 x)) (c.register-step.ensures ∙ ap (registered a.fields.number a.requester) c.load-record.ensures))
 
-same_length_4 : tie.Need-same-length-4
-same_length_4 c = search rules
+shape_of-table-in-Erase : tie.Need-shape_of-table-in-Erase
+shape_of-table-in-Erase c = search rules
 
-same_length_5 : tie.Need-same-length-5
-same_length_5 c = search rules
+shape_of-figures-in-Erase : tie.Need-shape_of-figures-in-Erase
+shape_of-figures-in-Erase c = search rules
 
-same_length_6 : tie.Need-same-length-6
-same_length_6 c = search rules
+shape_of-reply-in-Erase : tie.Need-shape_of-reply-in-Erase
+shape_of-reply-in-Erase c = search rules
 
-returns_2 : tie.Need-returns-2
-returns_2 c =
-    let q = c.before.before in
-    let w = q.before.before.before.before.before.before in
-    let g = w.before.before.before in
-    let l = g.before.before.before.before in
-    let s = start l in
+returns-in-Erase : tie.Need-returns-in-Erase
+returns-in-Erase c =
+    let s = start c.before.before.before.before.before.before.before.before.before.before.before.before.before.before in
     let a = s.args in
-    rw g.before.enum-told2.given.1
-    (said_placed _ (B s) _ _ _ _ w.settle2.ensures q.say2.ensures.0 q.say2.ensures.1
-    ∙ ap (λ (x : Step). replying (B s) (step_at (T s) a.row 2 x)) (g.erasure.ensures ∙ ap (erases a.fields.erasing a.fields.number a.requester) l.load.ensures))
+    rw c.in-Erase.is
+    (said_placed _ (B s) _ _ _ _ c.settle-n-in-Erase.ensures c.say-in-Erase.ensures.0 c.say-in-Erase.ensures.1
+    ∙ ap (λ (x : Step). replying (B s) (step_at (T s) a.row 2 x)) (c.erasure-step.ensures ∙ ap (erases a.fields.erasing a.fields.number a.requester) c.load-record.ensures))
 
-same_length_7 : tie.Need-same-length-7
-same_length_7 c = search rules
+shape_of-table-in-Interrogate : tie.Need-shape_of-table-in-Interrogate
+shape_of-table-in-Interrogate c = search rules
 
-same_length_8 : tie.Need-same-length-8
-same_length_8 c = search rules
+shape_of-reply-in-Interrogate : tie.Need-shape_of-reply-in-Interrogate
+shape_of-reply-in-Interrogate c = search rules
 
-returns_3 : tie.Need-returns-3
-returns_3 c =
-    let q = c.before.before in
-    let e = q.before.before in
-    let l = e.before.before.before in
-    let s = start l in
-    rw e.enum-told3.given.1
-    (told_placed (T s) (B s) _ _ _ (interrogated l.load.result) q.answer-holder.ensures
-    ∙ ap (λ (r : Record). replying (B s) (tell_at (T s) (interrogated r))) l.load.ensures)
+returns-in-Interrogate : tie.Need-returns-in-Interrogate
+returns-in-Interrogate c =
+    let s = start c.before.before.before.before.before.before in
+    rw c.in-Interrogate.is
+    (told_placed (T s) (B s) _ _ _ (interrogated c.load-record.result) c.answer_holder.ensures
+    ∙ ap (λ (r : Record). replying (B s) (tell_at (T s) (interrogated r))) c.load-record.ensures)
 
 pub decide_at_spec : {M : Type 1} → statement M
 decide_at_spec =
     tie.close
     (tie.spec
-    load_requires
-    enum_told
-    register_requires
-    settle_requires
-    say_requires
-    enum_told_2
-    erasure_requires
-    settle_requires_2
-    say_requires_2
-    enum_told_3
-    answer_holder_requires
-    same_length
-    same_length_2
-    same_length_3
-    returns
-    same_length_4
-    same_length_5
-    same_length_6
-    returns_2
-    same_length_7
-    same_length_8
-    returns_3)
+    load-record-requires
+    enum_told-1
+    register-step-requires
+    settle-n-requires
+    say-requires
+    enum_told-in-Erase
+    erasure-step-requires
+    settle-n-requires-in-Erase
+    say-requires-in-Erase
+    enum_told-in-Interrogate
+    answer_holder-requires
+    shape_of-table-in-Register
+    shape_of-figures-in-Register
+    shape_of-reply-in-Register
+    returns-in-Register
+    shape_of-table-in-Erase
+    shape_of-figures-in-Erase
+    shape_of-reply-in-Erase
+    returns-in-Erase
+    shape_of-table-in-Interrogate
+    shape_of-reply-in-Interrogate
+    returns-in-Interrogate)

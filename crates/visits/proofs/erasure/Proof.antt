@@ -2,25 +2,25 @@ use borrow.Author.Rules.{rules}
 use Rattle.visits.proofs.erasure.Statement.{statement}
 use Rattle.visits.proofs.erasure.Tie as tie
 
-enum_told : tie.Need-enum-told
-enum_told c = search rules
+enum_told-1 : tie.Need-enum_told-1
+enum_told-1 c = search rules
 
-erase_requires : tie.Need-erase-requires
-erase_requires c κs = search rules
+erase-requires : tie.Need-erase-requires
+erase-requires c κs = search rules
 
-enum_known_erasing : tie.Need-enum-known-erasing
-enum_known_erasing c = search rules
+enum_known-erasing : tie.Need-enum_known-erasing
+enum_known-erasing c = search rules
 
-force_requires : tie.Need-force-requires
-force_requires c κs = search rules
+force-requires : tie.Need-force-requires
+force-requires c κs = search rules
 
-returns : tie.Need-returns
-returns c = rw c.before.enum_told.given.1 c.erase.ensures
+returns-in-Empty : tie.Need-returns-in-Empty
+returns-in-Empty c = rw c.in-Empty.is c.erase.ensures
 
-returns_2 : tie.Need-returns-2
-returns_2 c = rw c.before.before.erasing.given.1 c.force.ensures
+returns-in-Forced : tie.Need-returns-in-Forced
+returns-in-Forced c = rw c.in-Forced.is c.force.ensures
 
 pub erasure_spec : {M : Type 1} → statement M
 erasure_spec =
     tie.close
-    (tie.spec enum_told erase_requires enum_known_erasing force_requires returns returns_2)
+    (tie.spec enum_told-1 erase-requires enum_known-erasing force-requires returns-in-Empty returns-in-Forced)

@@ -6,54 +6,51 @@ use Rattle.packing.proofs.Outcomes.{pack_count, pack_short, pack_unfit}
 use Rattle.visits.proofs.put.Statement.{statement}
 use Rattle.visits.proofs.put.Tie as tie
 
-pack_requires : tie.Need-pack-requires
-pack_requires c κs = search rules
+pack-written-requires : tie.Need-pack-written-requires
+pack-written-requires c κs = search rules
 
-enum_known_written : tie.Need-enum-known-written
-enum_known_written c = search rules
+enum_known-written : tie.Need-enum_known-written
+enum_known-written c = search rules
 
-enum_told : tie.Need-enum-told
-enum_told c = search rules
+enum_told-1 : tie.Need-enum_told-1
+enum_told-1 c = search rules
 
-enum_told_2 : tie.Need-enum-told-2
-enum_told_2 c = search rules
+enum_told-in-Unfit : tie.Need-enum_told-in-Unfit
+enum_told-in-Unfit c = search rules
 
-same_length : tie.Need-same-length
-same_length c = search rules
+shape_of-out-in-Count : tie.Need-shape_of-out-in-Count
+shape_of-out-in-Count c = search rules
 
-returns : tie.Need-returns
-returns c =
-    let p = c.before.before.before.before.before in
-    let n = pack_count _ _ _ _ p.pack.ensures _ c.before.written.given.1 in
+returns-in-Count : tie.Need-returns-in-Count
+returns-in-Count c =
+    let n = pack_count _ _ _ _ c.pack-written.ensures _ c.in-Count.is in
     (n.count, rw (← n.count) n.buffer)
 
-same_length_2 : tie.Need-same-length-2
-same_length_2 c = search rules
+shape_of-out-in-TooShort : tie.Need-shape_of-out-in-TooShort
+shape_of-out-in-TooShort c = search rules
 
-returns_2 : tie.Need-returns-2
-returns_2 c =
-    let p = c.before.before.before.before in
-    absurd (not-le_of_lt (pack_short _ _ _ _ p.pack.ensures c.enum_told.given.1).0 p.before.before.before.before.requires.1)
+returns-in-TooShort : tie.Need-returns-in-TooShort
+returns-in-TooShort c =
+    absurd (not-le_of_lt (pack_short _ _ _ _ c.pack-written.ensures c.in-TooShort.is).0 c.requires.1)
 
-same_length_3 : tie.Need-same-length-3
-same_length_3 c = search rules
+shape_of-out-in-Unfit : tie.Need-shape_of-out-in-Unfit
+shape_of-out-in-Unfit c = search rules
 
-returns_3 : tie.Need-returns-3
-returns_3 c =
-    let p = c.before.before.before.before in
-    absurd (true≢false (sym p.before.before.before.before.requires.0 ∙ (pack_unfit _ _ _ _ p.pack.ensures c.enum-told2.given.1).1))
+returns-in-Unfit : tie.Need-returns-in-Unfit
+returns-in-Unfit c =
+    absurd (true≢false (sym c.requires.0 ∙ (pack_unfit _ _ _ _ c.pack-written.ensures c.in-Unfit.is).1))
 
 pub put_spec : {M : Type 1} → statement M
 put_spec =
     tie.close
     (tie.spec
-    pack_requires
-    enum_known_written
-    enum_told
-    enum_told_2
-    same_length
-    returns
-    same_length_2
-    returns_2
-    same_length_3
-    returns_3)
+    pack-written-requires
+    enum_known-written
+    enum_told-1
+    enum_told-in-Unfit
+    shape_of-out-in-Count
+    returns-in-Count
+    shape_of-out-in-TooShort
+    returns-in-TooShort
+    shape_of-out-in-Unfit
+    returns-in-Unfit)

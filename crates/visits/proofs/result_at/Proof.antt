@@ -11,112 +11,101 @@ use Rattle.visits.proofs.result_at.Tie as tie
 abbrev T : tie.Start → State
 T c = beside c.args.table.now c.args.figures.now
 
-abbrev start : tie.After-result → tie.Start
-start c = c.before.before.before.before.before
-
+abbrev start : tie.After-result-step → tie.Start
+start c = c.before.before.before.before
 -- what the row's record comes to
-step : (c : tie.After-result) (r : Resulted) → c.result.result ≡ r → resulted (start c).args.kind (start c).args.clock (record_in (T (start c)) (start c).args.row) ≡ r
-step c r e = ap (resulted (start c).args.kind (start c).args.clock) (sym c.before.load.ensures) ∙ sym c.result.ensures ∙ e
+step : (c : tie.After-result-step) (r : Resulted) → c.result-step.result ≡ r → resulted (start c).args.kind (start c).args.clock (record_in (T (start c)) (start c).args.row) ≡ r
+step c r e = ap (resulted (start c).args.kind (start c).args.clock) (sym c.load-held.ensures) ∙ sym c.result-step.ensures ∙ e
 
-load_requires : tie.Need-load-requires
-load_requires c κs = let s = c.before.before.before in (s.requires.1, state_row (T s) s.args.row s.requires.0 s.requires.1)
+load-held-requires : tie.Need-load-held-requires
+load-held-requires c κs = (c.requires.1, state_row (T c.before.before) c.args.row c.requires.0 c.requires.1)
 
-result_requires : tie.Need-result-requires
-result_requires c κs = search rules
+result-step-requires : tie.Need-result-step-requires
+result-step-requires c κs = search rules
 
-enum_known_step : tie.Need-enum-known-step
-enum_known_step c = search rules
+enum_known-step : tie.Need-enum_known-step
+enum_known-step c = search rules
 
-enum_known_step_2 : tie.Need-enum-known-step-2
-enum_known_step_2 c = search rules
+enum_known-step-in-Delivered-1 : tie.Need-enum_known-step-in-Delivered-1
+enum_known-step-in-Delivered-1 c = search rules
 
-store_requires : tie.Need-store-requires
-store_requires c κs = search rules
+store-requires : tie.Need-store-requires
+store-requires c κs = search rules
 
-enum_known_step_3 : tie.Need-enum-known-step-3
-enum_known_step_3 c = search rules
+enum_known-step-in-Dropped-1 : tie.Need-enum_known-step-in-Dropped-1
+enum_known-step-in-Dropped-1 c = search rules
 
-store_requires_2 : tie.Need-store-requires-2
-store_requires_2 c κs = search rules
+store-requires-in-Dropped : tie.Need-store-requires-in-Dropped
+store-requires-in-Dropped c κs = search rules
 
-enum_known_step_4 : tie.Need-enum-known-step-4
-enum_known_step_4 c = search rules
+enum_known-step-in-Again-1 : tie.Need-enum_known-step-in-Again-1
+enum_known-step-in-Again-1 c = search rules
 
-store_requires_3 : tie.Need-store-requires-3
-store_requires_3 c κs = search rules
+store-requires-in-Again : tie.Need-store-requires-in-Again
+store-requires-in-Again c κs = search rules
 
-same_length : tie.Need-same-length
-same_length c = search rules
+shape_of-table-in-Refused : tie.Need-shape_of-table-in-Refused
+shape_of-table-in-Refused c = search rules
 
-returns : tie.Need-returns
-returns c =
-    let r = c.before.before.before in
-    let s = start r in
-    result_refused (T s) s.args.row _ _ s.pre.0 s.pre.1 (step r _ c.before.step.given.1)
+returns-in-Refused : tie.Need-returns-in-Refused
+returns-in-Refused c =
+    let s = start c.before in
+    result_refused (T s) s.args.row _ _ s.requires.0 s.requires.1 (step c.before _ c.in-Refused.is)
 
-same_length_2 : tie.Need-same-length-2
-same_length_2 c = search rules
+shape_of-table-in-Delivered : tie.Need-shape_of-table-in-Delivered
+shape_of-table-in-Delivered c = search rules
 
-same_length_3 : tie.Need-same-length-3
-same_length_3 c = search rules
+shape_of-figures-in-Delivered : tie.Need-shape_of-figures-in-Delivered
+shape_of-figures-in-Delivered c = search rules
 
-returns_2 : tie.Need-returns-2
-returns_2 c =
-    let w = c.before.before.before.before in
-    let k = w.before.before.before.before in
-    let r = k.before.before in
-    let s = start r in
-    result_delivered (T s) s.args.row _ _ _ w.store.ensures (step r _ k.step2.given.1)
+returns-in-Delivered : tie.Need-returns-in-Delivered
+returns-in-Delivered c =
+    let s = start c.before.before.before.before.before.before.before.before in
+    result_delivered (T s) s.args.row _ _ _ c.store.ensures (step c.before.before.before.before.before.before.before.before _ c.in-Delivered.is)
 
-same_length_4 : tie.Need-same-length-4
-same_length_4 c = search rules
+shape_of-table-in-Dropped : tie.Need-shape_of-table-in-Dropped
+shape_of-table-in-Dropped c = search rules
 
-same_length_5 : tie.Need-same-length-5
-same_length_5 c = search rules
+shape_of-figures-in-Dropped : tie.Need-shape_of-figures-in-Dropped
+shape_of-figures-in-Dropped c = search rules
 
-returns_3 : tie.Need-returns-3
-returns_3 c =
-    let w = c.before.before.before.before in
-    let k = w.before.before.before.before in
-    let r = k.before.before in
-    let s = start r in
-    result_dropped (T s) s.args.row _ _ _ w.store2.ensures (step r _ k.step3.given.1)
+returns-in-Dropped : tie.Need-returns-in-Dropped
+returns-in-Dropped c =
+    let s = start c.before.before.before.before.before.before.before.before in
+    result_dropped (T s) s.args.row _ _ _ c.store-in-Dropped.ensures (step c.before.before.before.before.before.before.before.before _ c.in-Dropped.is)
 
-same_length_6 : tie.Need-same-length-6
-same_length_6 c = search rules
+shape_of-table-in-Again : tie.Need-shape_of-table-in-Again
+shape_of-table-in-Again c = search rules
 
-same_length_7 : tie.Need-same-length-7
-same_length_7 c = search rules
+shape_of-figures-in-Again : tie.Need-shape_of-figures-in-Again
+shape_of-figures-in-Again c = search rules
 
-returns_4 : tie.Need-returns-4
-returns_4 c =
-    let w = c.before.before.before.before in
-    let k = w.before.before.before.before in
-    let r = k.before.before in
-    let s = start r in
-    result_again (T s) s.args.row _ _ _ w.store3.ensures (step r _ k.step4.given.1)
+returns-in-Again : tie.Need-returns-in-Again
+returns-in-Again c =
+    let s = start c.before.before.before.before.before.before.before.before in
+    result_again (T s) s.args.row _ _ _ c.store-in-Again.ensures (step c.before.before.before.before.before.before.before.before _ c.in-Again.is)
 
 pub result_at_spec : {M : Type 1} → statement M
 result_at_spec =
     tie.close
     (tie.spec
-    load_requires
-    result_requires
-    enum_known_step
-    enum_known_step_2
-    store_requires
-    enum_known_step_3
-    store_requires_2
-    enum_known_step_4
-    store_requires_3
-    same_length
-    returns
-    same_length_2
-    same_length_3
-    returns_2
-    same_length_4
-    same_length_5
-    returns_3
-    same_length_6
-    same_length_7
-    returns_4)
+    load-held-requires
+    result-step-requires
+    enum_known-step
+    enum_known-step-in-Delivered-1
+    store-requires
+    enum_known-step-in-Dropped-1
+    store-requires-in-Dropped
+    enum_known-step-in-Again-1
+    store-requires-in-Again
+    shape_of-table-in-Refused
+    returns-in-Refused
+    shape_of-table-in-Delivered
+    shape_of-figures-in-Delivered
+    returns-in-Delivered
+    shape_of-table-in-Dropped
+    shape_of-figures-in-Dropped
+    returns-in-Dropped
+    shape_of-table-in-Again
+    shape_of-figures-in-Again
+    returns-in-Again)

@@ -20,84 +20,74 @@ T c = beside c.args.table.now c.args.figures.now
 abbrev R : tie.Start → Record
 R c = record_in (T c) c.args.row
 
-abbrev start : tie.After-load → tie.Start
-start c = c.before.before.before.before.before
-
+abbrev start : tie.After-load-held → tie.Start
+start c = c.before.before.before.before
 sound : (c : tie.Start) → record_sound (R c) ≡ true
 sound c = record_sound_lem (T c).table c.args.row (state_row (T c) c.args.row c.requires.0.0 c.requires.0.1)
 
 -- what the row's record comes to
-step : (c : tie.After-send) (x : Sending) → c.send.result ≡ x → sent (start c.before).args.delay (start c.before).args.clock (R (start c.before)) ≡ x
+step : (c : tie.After-send-step) (x : Sending) → c.send-step.result ≡ x → sent (start c.before).args.delay (start c.before).args.clock (R (start c.before)) ≡ x
 step c x e =
     let a = (start c.before).args in
-    ap (sent a.delay a.clock) (sym c.before.load.ensures) ∙ sym c.send.ensures ∙ e
+    ap (sent a.delay a.clock) (sym c.load-held.ensures) ∙ sym c.send-step.ensures ∙ e
 
-load_requires : tie.Need-load-requires
-load_requires c κs = let s = c.before.before.before.before in (s.requires.0.1, state_row (T s) s.args.row s.requires.0.0 s.requires.0.1)
+load-held-requires : tie.Need-load-held-requires
+load-held-requires c κs = (c.requires.0.1, state_row (T c.before.before.before) c.args.row c.requires.0.0 c.requires.0.1)
 
-send_requires : tie.Need-send-requires
-send_requires c κs = rw c.load.ensures (few_sendings (R (start c)) (sound (start c)))
+send-step-requires : tie.Need-send-step-requires
+send-step-requires c κs = rw c.load-held.ensures (few_sendings (R (start c)) (sound (start c)))
 
-enum_known_step : tie.Need-enum-known-step
-enum_known_step c = search rules
+enum_known-step : tie.Need-enum_known-step
+enum_known-step c = search rules
 
-enum_known_step_2 : tie.Need-enum-known-step-2
-enum_known_step_2 c = search rules
+enum_known-step-in-Launched-1 : tie.Need-enum_known-step-in-Launched-1
+enum_known-step-in-Launched-1 c = search rules
 
-store_requires : tie.Need-store-requires
-store_requires c κs = search rules
+store-requires : tie.Need-store-requires
+store-requires c κs = search rules
 
-write_notice_requires : tie.Need-write-notice-requires
-write_notice_requires c κs =
-    let k = c.before.before.before.before.before.before.before.before.before.before.before in
-    let d = k.before.before in
-    let l = d.before in
-    let s = start l in (
-      (s.pre.1.0, rw l.load.ensures (sent_supervisor s.args.delay s.args.clock (R s) _ (sound s) (step d _ k.step2.given.1))),
+write_notice-octets-requires : tie.Need-write_notice-octets-requires
+write_notice-octets-requires c κs =
+    let s = start c.before.before.before.before.before.before.before.before.before.before.before.before in (
+      (s.requires.1.0, rw c.load-held.ensures (sent_supervisor s.args.delay s.args.clock (R s) _ (sound s) (step c.before.before.before.before.before.before.before.before.before.before.before _ c.in-Launched.is))),
       omega arith,
     )
 
-same_length : tie.Need-same-length
-same_length c = search rules
+shape_of-table-in-Refused : tie.Need-shape_of-table-in-Refused
+shape_of-table-in-Refused c = search rules
 
-returns : tie.Need-returns
-returns c =
-    let d = c.before.before.before in
-    let s = start d.before in
-    sending_refused (T s) s.args.row _ s.args.number _ _ s.pre.0.0 s.pre.0.1 (step d _ c.before.step.given.1)
+returns-in-Refused : tie.Need-returns-in-Refused
+returns-in-Refused c =
+    let s = start c.before.before in
+    sending_refused (T s) s.args.row _ s.args.number _ _ s.requires.0.0 s.requires.0.1 (step c.before _ c.in-Refused.is)
 
-same_length_2 : tie.Need-same-length-2
-same_length_2 c = search rules
+shape_of-table-in-Launched : tie.Need-shape_of-table-in-Launched
+shape_of-table-in-Launched c = search rules
 
-same_length_3 : tie.Need-same-length-3
-same_length_3 c = search rules
+shape_of-figures : tie.Need-shape_of-figures
+shape_of-figures c = search rules
 
-same_length_4 : tie.Need-same-length-4
-same_length_4 c = search rules
+shape_of-buffer : tie.Need-shape_of-buffer
+shape_of-buffer c = search rules
 
-returns_2 : tie.Need-returns-2
-returns_2 c =
-    let w = c.before.before in
-    let q = w.before.before.before.before.before.before.before.before in
-    let k = q.before.before.before.before in
-    let d = k.before.before in
-    let l = d.before in
-    let s = start l in
-    sending_placed (T s) s.args.row s.args.buffer.now s.args.number _ _ l.load.result _ _ _ (step d _ k.step2.given.1) l.load.ensures q.store.ensures w.write-notice.ensures
+returns-in-Launched : tie.Need-returns-in-Launched
+returns-in-Launched c =
+    let s = start c.before.before.before.before.before.before.before.before.before.before.before.before.before.before.before in
+    sending_placed (T s) s.args.row s.args.buffer.now s.args.number _ _ c.load-held.result _ _ _ (step c.before.before.before.before.before.before.before.before.before.before.before.before.before.before _ c.in-Launched.is) c.load-held.ensures c.store.ensures c.write_notice-octets.ensures
 
 pub send_at_spec : {M : Type 1} → statement M
 send_at_spec =
     tie.close
     (tie.spec
-    load_requires
-    send_requires
-    enum_known_step
-    enum_known_step_2
-    store_requires
-    write_notice_requires
-    same_length
-    returns
-    same_length_2
-    same_length_3
-    same_length_4
-    returns_2)
+    load-held-requires
+    send-step-requires
+    enum_known-step
+    enum_known-step-in-Launched-1
+    store-requires
+    write_notice-octets-requires
+    shape_of-table-in-Refused
+    returns-in-Refused
+    shape_of-table-in-Launched
+    shape_of-figures
+    shape_of-buffer
+    returns-in-Launched)

@@ -5,31 +5,36 @@ use Rattle.rules.specs.Requests.{comes_to, says}
 use Rattle.visits.proofs.settle.Statement.{statement}
 use Rattle.visits.proofs.settle.Tie as tie
 
-enum_known_step : tie.Need-enum-known-step
-enum_known_step c = search rules
+enum_known-step : tie.Need-enum_known-step
+enum_known-step c = search rules
 
-enum_known_step_2 : tie.Need-enum-known-step-2
-enum_known_step_2 c = search rules
+enum_known-step-in-Becomes-1 : tie.Need-enum_known-step-in-Becomes-1
+enum_known-step-in-Becomes-1 c = search rules
 
-store_requires : tie.Need-store-requires
-store_requires c κs = search rules
+store-requires : tie.Need-store-requires
+store-requires c κs = search rules
 
-returns : tie.Need-returns
-returns c = rw c.before.step.given.1
+returns-in-Stays : tie.Need-returns-in-Stays
+returns-in-Stays c = rw c.in-Stays.is
 
-same_length : tie.Need-same-length
-same_length c = search rules
+shape_of-table : tie.Need-shape_of-table
+shape_of-table c = search rules
 
-same_length_2 : tie.Need-same-length-2
-same_length_2 c = search rules
+shape_of-figures : tie.Need-shape_of-figures
+shape_of-figures c = search rules
 
-returns_2 : tie.Need-returns-2
-returns_2 c =
-    let w = c.before.before.before.before in
-    let k = w.before.before.before.before in
-    rw k.step2.given.1 (ap (λ (s : State). comes_to (says k.before.before.before.before.args.success) s) w.store.ensures)
+returns-in-Becomes : tie.Need-returns-in-Becomes
+returns-in-Becomes c =
+    rw c.in-Becomes.is (ap (λ (s : State). comes_to (says c.args.success) s) c.store.ensures)
 
 pub settle_spec : {M : Type 1} → statement M
 settle_spec =
     tie.close
-    (tie.spec enum_known_step enum_known_step_2 store_requires returns same_length same_length_2 returns_2)
+    (tie.spec
+    enum_known-step
+    enum_known-step-in-Becomes-1
+    store-requires
+    returns-in-Stays
+    shape_of-table
+    shape_of-figures
+    returns-in-Becomes)

@@ -20,88 +20,86 @@ told c = c.args.msisdn.0
 
 -- its digits, written behind the space
 written :
-    (c : tie.After-write-digits) → (c.write-digits.result ≡ Count (length (digits_of (told c.before.before.before))))
-    × (c.write-digits.new.1.0 ≡ digits_of (told c.before.before.before) ++ drop (length (digits_of (told c.before.before.before))) (replicate 15 32))
-written c = written_digits _ _ _ _ c.before.before.before.requires.0 (omega arith) c.write-digits.ensures
+    (c : tie.After-write_digits-written) → (c.write_digits-written.result ≡ Count (length (digits_of (told c.before.before.before))))
+    × (c.write_digits-written.new.out ≡ digits_of (told c.before.before.before) ++ drop (length (digits_of (told c.before.before.before))) (replicate 15 32))
+written c = written_digits _ _ _ _ c.requires.0 (omega arith) c.write_digits-written.ensures
 
-array_write_text : tie.Need-array-write-text
-array_write_text c = search rules
+bounds-text-0 : tie.Need-bounds-text-0
+bounds-text-0 c = search rules
 
-array_write_text_2 : tie.Need-array-write-text-2
-array_write_text_2 c = search rules
+bounds-text-1 : tie.Need-bounds-text-1
+bounds-text-1 c = search rules
 
-sub_write_digits : tie.Need-overflow-sub-write-digits
-sub_write_digits c = search rules
+slice_bounds-write_digits-count : tie.Need-slice_bounds-write_digits-count
+slice_bounds-write_digits-count c = search rules
 
-part_text_start : tie.Need-slice-bounds-text-start
-part_text_start c = search rules
+slice_bounds-text-start : tie.Need-slice_bounds-text-start
+slice_bounds-text-start c = search rules
 
-part_text_end : tie.Need-slice-bounds-text-end
-part_text_end c = search rules
+slice_bounds-text-end : tie.Need-slice_bounds-text-end
+slice_bounds-text-end c = search rules
 
-write_digits_requires : tie.Need-write-digits-requires
-write_digits_requires c κs = search rules
+write_digits-written-requires : tie.Need-write_digits-written-requires
+write_digits-written-requires c κs = search rules
 
-enum_known_written : tie.Need-enum-known-written
-enum_known_written c = search rules
+enum_known-written : tie.Need-enum_known-written
+enum_known-written c = search rules
 
-returns : tie.Need-returns
-returns c = counts_only _ _ (written c.before.before).0 c.match.keys2
+returns-in_default : tie.Need-returns-in_default
+returns-in_default c = counts_only _ _ (written c.before.before).0 c.in_default.in_default-own.keys2
 
-abbrev start : tie.After-known-told → tie.Start
-start c = c.before.before.before.before.before.before.before
-
-count : (c : tie.After-known-told) → c.before.written.given.0.0 ≡ length (digits_of (told (start c)))
-count c = cc ((written c.before.before.before.before).0, c.before.written.given.1)
+abbrev start : tie.In-Count → tie.Start
+start c = c.before.before.before.before.before
+count : (c : tie.In-Count) → c.in-Count.n ≡ length (digits_of (told (start c)))
+count c = cc ((written c.before.before).0, c.in-Count.is)
 
 -- the code, the space and the digits
-abbrev front : tie.After-known-told → List ℕ
-front c = take (c.before.written.given.0.0 + 3) (48 ∷ 51 ∷ 32 ∷ (c.before.before.before.before.write-digits.new.1.0 ++ []))
+abbrev front : tie.In-Count → List ℕ
+front c = take (c.in-Count.n + 3) (48 ∷ 51 ∷ 32 ∷ (c.write_digits-written.new.out ++ []))
 
-text : (c : tie.After-known-told) → front c ≡ holder_text (told (start c))
-text c = holder_front _ _ _ _ (count c) (written c.before.before.before.before).1
+text : (c : tie.In-Count) → front c ≡ holder_text (told (start c))
+text c = holder_front _ _ _ _ (count c) (written c.before.before).1
 
-few : (c : tie.After-known-told) → c.before.written.given.0.0 ≤ 15
+few : (c : tie.In-Count) → c.in-Count.n ≤ 15
 few c = omega (arith, count c, digits_most (told (start c)) (start c).requires.0)
 
-add_text : tie.Need-overflow-add-text
-add_text c = omega (arith, few c)
+overflow_add-text : tie.Need-overflow_add-text
+overflow_add-text c = omega (arith, few c)
 
-array_share_prefix_text : tie.Need-array-share-prefix-text
-array_share_prefix_text c = let w = c.before.before.before.before in omega (arith, few c, length-append w.write-digits.new.1.0 [], w.write-digits.auto.1.0)
+slice_bounds-text-end-2 : tie.Need-slice_bounds-text-end-2
+slice_bounds-text-end-2 c = omega (arith, few c, length-append c.write_digits-written.new.out [], c.write_digits-written.auto.1.0)
 
-slice_aggregate_put : tie.Need-slice-aggregate-put
-slice_aggregate_put c = omega (arith, count c.before, ap length (text c.before))
+slice_bounds-put-end : tie.Need-slice_bounds-put-end
+slice_bounds-put-end c = omega (arith, count c.before, ap length (text c.before))
 
-put_requires : tie.Need-put-requires
-put_requires c κs =
+put-octets-requires : tie.Need-put-octets-requires
+put-octets-requires c κs =
     let s = start c.before.before in
-    rw (text c.before.before) (takes_holder (told s) s.pre.0, holder_room (told s) _ s.pre.0 s.pre.1)
+    rw (text c.before.before) (takes_holder (told s) s.requires.0, holder_room (told s) _ s.requires.0 s.requires.1)
 
-same_length : tie.Need-same-length
-same_length c = search rules
+shape_of-reply : tie.Need-shape_of-reply
+shape_of-reply c = search rules
 
-returns_2 : tie.Need-returns-2
-returns_2 c =
-    let p = c.before.before in
-    let e = rw (text p.before.before.before) at p.put.ensures in
-    (ap (λ (n : ℕ). holder_is (told (start p.before.before.before)) n) e.0, e.1)
+returns : tie.Need-returns
+returns c =
+    let e = rw (text c.before.before.before.before.before) at c.put-octets.ensures in
+    (ap (λ (n : ℕ). holder_is (told (start c.before.before.before.before.before)) n) e.0, e.1)
 
 pub tell_spec : {M : Type 1} → statement M
 tell_spec =
     tie.close
     (tie.spec
-    array_write_text
-    array_write_text_2
-    sub_write_digits
-    part_text_start
-    part_text_end
-    write_digits_requires
-    enum_known_written
-    returns
-    add_text
-    array_share_prefix_text
-    slice_aggregate_put
-    put_requires
-    same_length
-    returns_2)
+    bounds-text-0
+    bounds-text-1
+    slice_bounds-write_digits-count
+    slice_bounds-text-start
+    slice_bounds-text-end
+    write_digits-written-requires
+    enum_known-written
+    returns-in_default
+    overflow_add-text
+    slice_bounds-text-end-2
+    slice_bounds-put-end
+    put-octets-requires
+    shape_of-reply
+    returns)

@@ -12,49 +12,45 @@ use Rattle.walks.proofs.Replies.{tally_short}
 use Rattle.walks.proofs.answer.Statement.{statement}
 use Rattle.walks.proofs.answer.Tie as tie
 
-abbrev start : tie.After-write-reply → tie.Start
+abbrev start : tie.After-write_reply-count → tie.Start
 start c = c.before.before.before
+slice_bounds-write_reply-end : tie.Need-slice_bounds-write_reply-end
+slice_bounds-write_reply-end c = search rules
 
-slice_aggregate_write_reply : tie.Need-slice-aggregate-write-reply
-slice_aggregate_write_reply c = search rules
-
-write_reply_requires : tie.Need-write-reply-requires
-write_reply_requires c κs = search rules
+write_reply-count-requires : tie.Need-write_reply-count-requires
+write_reply-count-requires c κs = search rules
 
 -- the text stands, and its front is lent to the packer
-is_text : (c : tie.After-write-reply) → take c.write-reply.result c.write-reply.new.1.1.0 ≡ tally_text (start c).args.n (start c).args.tally
-is_text c = stands_front c.write-reply.ensures
+is_text : (c : tie.After-write_reply-count) → take c.write_reply-count.result c.write_reply-count.new.text ≡ tally_text (start c).args.n (start c).args.tally
+is_text c = stands_front c.write_reply-count.ensures
 
-array_share_prefix_text : tie.Need-array-share-prefix-text
-array_share_prefix_text c = stands_within c.before.write-reply.ensures
+slice_bounds-text-end : tie.Need-slice_bounds-text-end
+slice_bounds-text-end c = stands_within c.write_reply-count.ensures
 
-slice_aggregate_put : tie.Need-slice-aggregate-put
-slice_aggregate_put c = sym (length-take-le _ _ (stands_within c.before.before.write-reply.ensures))
+slice_bounds-put-end : tie.Need-slice_bounds-put-end
+slice_bounds-put-end c = sym (length-take-le _ _ (stands_within c.write_reply-count.ensures))
 
-put_requires : tie.Need-put-requires
+put-octets-requires : tie.Need-put-octets-requires
 unfolding octets_for
-put_requires c κs =
-    let w = c.before.before.before in
-    let s = start w in
-    rw (is_text w) (s.pre.1, omega (arith, tally_short s.args.n s.args.tally s.pre.0, s.pre.2))
+put-octets-requires c κs =
+    let s = start c.before.before.before in
+    rw (is_text c.before.before.before) (s.requires.1, omega (arith, tally_short s.args.n s.args.tally s.requires.0, s.requires.2))
 
-same_length : tie.Need-same-length
-same_length c = search rules
+shape_of-reply : tie.Need-shape_of-reply
+shape_of-reply c = search rules
 
 returns : tie.Need-returns
 returns c =
-    let p = c.before.before in
-    let w = p.before.before.before.before in
-    rw (← (is_text w)) (ap (outcome (start w).args.n) p.put.ensures.0, p.put.ensures.1)
+    rw (← (is_text c.before.before.before.before.before.before)) (ap (outcome (start c.before.before.before.before.before.before).args.n) c.put-octets.ensures.0, c.put-octets.ensures.1)
 
 pub answer_spec : {M : Type 1} → statement M
 answer_spec =
     tie.close
     (tie.spec
-    slice_aggregate_write_reply
-    write_reply_requires
-    array_share_prefix_text
-    slice_aggregate_put
-    put_requires
-    same_length
+    slice_bounds-write_reply-end
+    write_reply-count-requires
+    slice_bounds-text-end
+    slice_bounds-put-end
+    put-octets-requires
+    shape_of-reply
     returns)

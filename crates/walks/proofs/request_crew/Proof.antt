@@ -4,47 +4,49 @@ use Rattle.walks.proofs.Replies.{takes_tally, crew_small, crew_answered}
 use Rattle.walks.proofs.request_crew.Statement.{statement}
 use Rattle.walks.proofs.request_crew.Tie as tie
 
-abbrev past : tie.After-crew-number → tie.After-walk
+abbrev past : tie.After-crew_number-n → tie.After-walk-tally
 past c = c.before.before.before.before.before
-
-abbrev start : tie.After-walk → tie.Start
+abbrev start : tie.After-walk-tally → tie.Start
 start c = c.before.before.before.before.before.before.before
+walk-tally-requires : tie.Need-walk-tally-requires
+walk-tally-requires c κs = search rules
 
-walk_requires : tie.Need-walk-requires
-walk_requires c κs = search rules
+crew_number-n-requires : tie.Need-crew_number-n-requires
+crew_number-n-requires c κs = search rules
 
-crew_number_requires : tie.Need-crew-number-requires
-crew_number_requires c κs = search rules
-
-answer_requires : tie.Need-answer-requires
-answer_requires c κs =
-    let k = c.before in
-    let w = past k in
+answer-requires : tie.Need-answer-requires
+answer-requires c κs =
+    let w = past c.before in
     let s = start w in
-    let few = w.walk.ensures.0 in
-    let stands = w.walk.ensures.1 in (
+    let few = w.walk-tally.ensures.0 in
+    let stands = w.walk-tally.ensures.1 in (
       record { few = few; successes = stands.successes.room; failures = stands.failures.room },
-      takes_tally k.crew_number.result w.walk.result _ _ (rw k.crew_number.ensures (crew_small s.args.operation)) few stands,
-      s.pre.1.1,
+      takes_tally c.crew_number-n.result w.walk-tally.result _ _ (rw c.crew_number-n.ensures (crew_small s.args.operation)) few stands,
+      s.requires.1.1,
     )
 
-same_length : tie.Need-same-length
-same_length c = search rules
+shape_of-table : tie.Need-shape_of-table
+shape_of-table c = search rules
 
-same_length_2 : tie.Need-same-length-2
-same_length_2 c = search rules
+shape_of-figures : tie.Need-shape_of-figures
+shape_of-figures c = search rules
 
-same_length_3 : tie.Need-same-length-3
-same_length_3 c = search rules
+shape_of-reply : tie.Need-shape_of-reply
+shape_of-reply c = search rules
 
 returns : tie.Need-returns
 returns c =
-    let q = c.before.before in
-    let k = q.before.before in
-    let w = past k in
-    crew_answered (start w).args.operation w.walk.result _ _ _ _ _ _ w.walk.ensures.1 k.crew_number.ensures q.answer.ensures.0 q.answer.ensures.1
+    let w = past c.before.before.before.before in
+    crew_answered (start w).args.operation w.walk-tally.result _ _ _ _ _ _ w.walk-tally.ensures.1 c.crew_number-n.ensures c.answer.ensures.0 c.answer.ensures.1
 
 pub request_crew_spec : {M : Type 1} → statement M
 request_crew_spec =
     tie.close
-    (tie.spec walk_requires crew_number_requires answer_requires same_length same_length_2 same_length_3 returns)
+    (tie.spec
+    walk-tally-requires
+    crew_number-n-requires
+    answer-requires
+    shape_of-table
+    shape_of-figures
+    shape_of-reply
+    returns)

@@ -14,69 +14,62 @@ use Rattle.walks.proofs.step_on.Statement.{statement}
 use Rattle.walks.proofs.step_on.Tie as tie
 
 -- the step leaves a sound state
-kept : (c : tie.After-step) → state_sound (beside c.step.new.0 c.step.new.1.0) ≡ true
+kept : (c : tie.After-step-n) → state_sound (beside c.step-n.new.table c.step-n.new.figures) ≡ true
 kept c =
-    let s = c.before.before.before.before.before.before in
-    ap (λ (x : Stepping). state_sound x.state) c.step.ensures
-    ∙ (step_keeps (beside s.args.table.now s.args.figures.now) s.requires.0.0 s.args.requester s.requires.0.2 (plainly s.args.operation _) refl).sound
+    ap (λ (x : Stepping). state_sound x.state) c.step-n.ensures
+    ∙ (step_keeps (beside c.args.table.now c.args.figures.now) c.requires.0.0 c.args.requester c.requires.0.2 (plainly c.args.operation _) refl).sound
 
-mul_t13 : tie.Need-overflow-mul-t13
-mul_t13 c = search rules
+overflow_mul-number : tie.Need-overflow_mul-number
+overflow_mul-number c = search rules
 
-add_t14 : tie.Need-overflow-add-t14
-add_t14 c = let s = c.before.before.before in omega (arith, number_below s.args.lead.0 s.requires.1.0)
+overflow_add-number : tie.Need-overflow_add-number
+overflow_add-number c = omega (arith, number_below c.args.lead.0 c.requires.1.0)
 
-step_requires : tie.Need-step-requires
-step_requires c κs = search rules
+step-n-requires : tie.Need-step-n-requires
+step-n-requires c κs = search rules
 
-with_code_requires : tie.Need-with-code-requires
-with_code_requires c κs = search rules
+with_code-requires : tie.Need-with_code-requires
+with_code-requires c κs = search rules
 
-same_length : tie.Need-same-length
-same_length c = search rules
+shape_of-table-then-n : tie.Need-shape_of-table-then-n
+shape_of-table-then-n c = search rules
 
-same_length_2 : tie.Need-same-length-2
-same_length_2 c = search rules
+shape_of-figures-then-n : tie.Need-shape_of-figures-then-n
+shape_of-figures-then-n c = search rules
+
+returns-then-n : tie.Need-returns-then-n
+unfolding with_code
+returns-then-n c =
+    let a = c.args in
+    (kept c.before.before.before.before.before.before.before.before, omega (arith, c.with_code.ensures.0), λ w stands. step_succeeds a.tally _ _ _ a.requester a.operation a.lead a.code c.step-n.ensures w stands _ c.if-n.true (c.with_code.ensures.1 _ stands.successes))
+
+with_code-requires-2 : tie.Need-with_code-requires-2
+with_code-requires-2 c κs = search rules
+
+shape_of-table : tie.Need-shape_of-table
+shape_of-table c = search rules
+
+shape_of-figures : tie.Need-shape_of-figures
+shape_of-figures c = search rules
 
 returns : tie.Need-returns
 unfolding with_code
 returns c =
-    let i = c.before in
-    let p = i.before.before.before.before.before.before.before in
-    let s = p.before.before.before.before.before.before in
-    let a = s.args in
-    (kept p, omega (arith, c.with_code.ensures.0), λ w stands. step_succeeds a.tally _ _ _ a.requester a.operation a.lead a.code p.step.ensures w stands _ i.if1.true (c.with_code.ensures.1 _ stands.successes))
-
-with_code_requires_2 : tie.Need-with-code-requires-2
-with_code_requires_2 c κs = search rules
-
-same_length_3 : tie.Need-same-length-3
-same_length_3 c = search rules
-
-same_length_4 : tie.Need-same-length-4
-same_length_4 c = search rules
-
-returns_2 : tie.Need-returns-2
-unfolding with_code
-returns_2 c =
-    let i = c.before in
-    let p = i.before.before.before.before.before.before.before in
-    let s = p.before.before.before.before.before.before in
-    let a = s.args in
-    (kept p, omega (arith, c.with-code2.ensures.0), λ w stands. step_fails a.tally _ _ _ a.requester a.operation a.lead a.code p.step.ensures w stands _ i.if1.false (c.with-code2.ensures.1 _ stands.failures))
+    let a = c.args in
+    (kept c.before.before.before.before.before.before.before.before, omega (arith, c.with_code-2.ensures.0), λ w stands. step_fails a.tally _ _ _ a.requester a.operation a.lead a.code c.step-n.ensures w stands _ c.if-n.false (c.with_code-2.ensures.1 _ stands.failures))
 
 pub step_on_spec : {M : Type 1} → statement M
 step_on_spec =
     tie.close
     (tie.spec
-    mul_t13
-    add_t14
-    step_requires
-    with_code_requires
-    same_length
-    same_length_2
-    returns
-    with_code_requires_2
-    same_length_3
-    same_length_4
-    returns_2)
+    overflow_mul-number
+    overflow_add-number
+    step-n-requires
+    with_code-requires
+    shape_of-table-then-n
+    shape_of-figures-then-n
+    returns-then-n
+    with_code-requires-2
+    shape_of-table
+    shape_of-figures
+    returns)

@@ -5,49 +5,41 @@ use Rattle.answers.proofs.Parts.{stands_within, stands_room, stands_behind}
 use Rattle.writers.proofs.put_additional.Statement.{statement}
 use Rattle.writers.proofs.put_additional.Tie as tie
 
-put_requires : tie.Need-put-requires
-put_requires c κs = search rules
+put-at-requires : tie.Need-put-at-requires
+put-at-requires c κs = search rules
 
-slice_aggregate_put : tie.Need-slice-aggregate-put
-slice_aggregate_put c = search rules
+slice_bounds-put-count : tie.Need-slice_bounds-put-count
+slice_bounds-put-count c = stands_within c.put-at.ensures
 
-sub_put : tie.Need-overflow-sub-put
-sub_put c = stands_within c.before.before.before.put.ensures
+slice_bounds-put-start : tie.Need-slice_bounds-put-start
+slice_bounds-put-start c = stands_within c.put-at.ensures
 
-part_put_start : tie.Need-slice-bounds-put-start
-part_put_start c = stands_within c.before.before.before.put.ensures
+slice_bounds-put-end-2 : tie.Need-slice_bounds-put-end-2
+slice_bounds-put-end-2 c = search rules
 
-part_put_end : tie.Need-slice-bounds-put-end
-part_put_end c = search rules
+put-requires : tie.Need-put-requires
+put-requires c κs = omega (arith, stands_room c.put-at.ensures, c.put-at.ensures.count)
 
-put_requires_2 : tie.Need-put-requires-2
-put_requires_2 c κs = let p = c.before.before.before.before in omega (arith, stands_room p.put.ensures, p.put.ensures.count)
+overflow_add-result : tie.Need-overflow_add-result
+overflow_add-result c =
+    omega (arith, c.put-at.ensures.count, c.put.ensures.count)
 
-add_result : tie.Need-overflow-add-result
-add_result c =
-    let q = c.before.before in
-    let p = q.before.before.before.before.before in
-    omega (arith, p.put.ensures.count, q.put2.ensures.count)
-
-same_length : tie.Need-same-length
-same_length c = search rules
+shape_of-out : tie.Need-shape_of-out
+shape_of-out c = search rules
 
 returns : tie.Need-returns
 returns c =
-    let q = c.before.before in
-    let p = q.before.before.before.before.before in
-    stands_behind p.put.ensures q.put2.ensures
+    stands_behind c.put-at.ensures c.put.ensures
 
 pub put_additional_spec : {M : Type 1} → statement M
 put_additional_spec =
     tie.close
     (tie.spec
-    put_requires
-    slice_aggregate_put
-    sub_put
-    part_put_start
-    part_put_end
-    put_requires_2
-    add_result
-    same_length
+    put-at-requires
+    slice_bounds-put-count
+    slice_bounds-put-start
+    slice_bounds-put-end-2
+    put-requires
+    overflow_add-result
+    shape_of-out
     returns)

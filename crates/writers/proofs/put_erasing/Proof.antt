@@ -11,81 +11,67 @@ use Rattle.strings.proofs.Text.{supervisor_most}
 use Rattle.writers.proofs.put_erasing.Statement.{statement}
 use Rattle.writers.proofs.put_erasing.Tie as tie
 
-enum_told : tie.Need-enum-told
-enum_told c = search rules
+enum_told-1 : tie.Need-enum_told-1
+enum_told-1 c = search rules
 
-slice_aggregate_put : tie.Need-slice-aggregate-put
-slice_aggregate_put c = search rules
+put-requires : tie.Need-put-requires
+put-requires c κs = search rules
 
-put_requires : tie.Need-put-requires
-put_requires c κs = search rules
+enum_known-erasing : tie.Need-enum_known-erasing
+enum_known-erasing c = search rules
 
-enum_known_erasing : tie.Need-enum-known-erasing
-enum_known_erasing c = search rules
-
-slice_aggregate_put_2 : tie.Need-slice-aggregate-put-2
-slice_aggregate_put_2 c = search rules
-
-put_requires_2 : tie.Need-put-requires-2
-put_requires_2 c κs = search rules
+put-at-requires : tie.Need-put-at-requires
+put-at-requires c κs = search rules
 
 -- the MSISDN is a number, or nobody
-named : (c : tie.After-erasing) → number_or_nobody c.erasing.given.0.0.0 ≡ true
-named c = rw c.erasing.given.1 at c.before.before.before.requires.0
+named : (c : tie.In-Forced) → number_or_nobody c.in-Forced.msisdn.0 ≡ true
+named c = rw c.in-Forced.is at c.requires.0
 
-sub_put_msisdn : tie.Need-overflow-sub-put-msisdn
-sub_put_msisdn c = stands_within c.before.before.put2.ensures
+slice_bounds-put_msisdn-count : tie.Need-slice_bounds-put_msisdn-count
+slice_bounds-put_msisdn-count c = stands_within c.put-at.ensures
 
-part_put_msisdn_start : tie.Need-slice-bounds-put-msisdn-start
-part_put_msisdn_start c = stands_within c.before.before.put2.ensures
+slice_bounds-put_msisdn-start : tie.Need-slice_bounds-put_msisdn-start
+slice_bounds-put_msisdn-start c = stands_within c.put-at.ensures
 
-part_put_msisdn_end : tie.Need-slice-bounds-put-msisdn-end
-part_put_msisdn_end c = search rules
+slice_bounds-put_msisdn-end : tie.Need-slice_bounds-put_msisdn-end
+slice_bounds-put_msisdn-end c = search rules
 
-put_msisdn_requires : tie.Need-put-msisdn-requires
-put_msisdn_requires c κs =
-    let p = c.before.before.before in
-    (named p.before.before.before.before, omega (arith, stands_room p.put2.ensures, p.put2.ensures.count))
+put_msisdn-requires : tie.Need-put_msisdn-requires
+put_msisdn-requires c κs =
+    (named c.before.before.before.before.before.before.before, omega (arith, stands_room c.put-at.ensures, c.put-at.ensures.count))
 
-add_result : tie.Need-overflow-add-result
-add_result c =
-    let q = c.before.before in
-    let p = q.before.before.before.before in
-    let e = p.before.before.before.before in
-    let w = e.erasing.given.0.0.0 in
-    omega (arith, p.put2.ensures.count, q.put-msisdn.ensures.count, length-append (digits_of w) star, supervisor_most e.erasing.given.0.0 (named e))
+overflow_add-result : tie.Need-overflow_add-result
+overflow_add-result c =
+    let w = c.in-Forced.msisdn.0 in
+    omega (arith, c.put-at.ensures.count, c.put_msisdn.ensures.count, length-append (digits_of w) star, supervisor_most c.in-Forced.msisdn (named c.before.before.before.before.before.before.before.before.before.before))
 
-same_length : tie.Need-same-length
-same_length c = search rules
+shape_of-out-in-Empty : tie.Need-shape_of-out-in-Empty
+shape_of-out-in-Empty c = search rules
 
-returns : tie.Need-returns
-returns c = rw c.before.before.before.before.before.enum_told.given.1 c.before.before.put.ensures
+returns-in-Empty : tie.Need-returns-in-Empty
+returns-in-Empty c = rw c.in-Empty.is c.put.ensures
 
-same_length_2 : tie.Need-same-length-2
-same_length_2 c = search rules
+shape_of-out-in-Forced : tie.Need-shape_of-out-in-Forced
+shape_of-out-in-Forced c = search rules
 
-returns_2 : tie.Need-returns-2
-returns_2 c =
-    let q = c.before.before in
-    let p = q.before.before.before.before in
-    rw p.before.before.before.before.erasing.given.1 (stands_behind p.put2.ensures q.put-msisdn.ensures)
+returns-in-Forced : tie.Need-returns-in-Forced
+returns-in-Forced c =
+    rw c.in-Forced.is (stands_behind c.put-at.ensures c.put_msisdn.ensures)
 
 pub put_erasing_spec : {M : Type 1} → statement M
 put_erasing_spec =
     tie.close
     (tie.spec
-    enum_told
-    slice_aggregate_put
-    put_requires
-    enum_known_erasing
-    slice_aggregate_put_2
-    put_requires_2
-    sub_put_msisdn
-    part_put_msisdn_start
-    part_put_msisdn_end
-    put_msisdn_requires
-    add_result
-    same_length
-    returns
-    same_length_2
-    returns_2)
+    enum_told-1
+    put-requires
+    enum_known-erasing
+    put-at-requires
+    slice_bounds-put_msisdn-count
+    slice_bounds-put_msisdn-start
+    slice_bounds-put_msisdn-end
+    put_msisdn-requires
+    overflow_add-result
+    shape_of-out-in-Empty
+    returns-in-Empty
+    shape_of-out-in-Forced
+    returns-in-Forced)

@@ -15,83 +15,74 @@ use Rattle.numbers.proofs.Digits.{digits_most}
 use Rattle.writers.proofs.put_number.Statement.{statement}
 use Rattle.writers.proofs.put_number.Tie as tie
 
-write_digits_requires : tie.Need-write-digits-requires
-write_digits_requires c κs = search rules
+write_digits-requires : tie.Need-write_digits-requires
+write_digits-requires c κs = search rules
 
-enum_known_at : tie.Need-enum-known-at
-enum_known_at c = search rules
+enum_known-at : tie.Need-enum_known-at
+enum_known-at c = search rules
 
-abbrev start : tie.After-write-digits → tie.Start
+abbrev start : tie.After-write_digits → tie.Start
 start c = c.before.before.before
-
 -- the digits are written
 written :
-    (c : tie.After-write-digits)
-    → (c.write-digits.result ≡ Count (length (digits_of (start c).args.word)))
-    × (c.write-digits.new.1.0 ≡ digits_of (start c).args.word ++ drop (length (digits_of (start c).args.word)) (start c).args.out.now)
+    (c : tie.After-write_digits)
+    → (c.write_digits.result ≡ Count (length (digits_of (start c).args.word)))
+    × (c.write_digits.new.out ≡ digits_of (start c).args.word ++ drop (length (digits_of (start c).args.word)) (start c).args.out.now)
 written c =
     let s = start c in
-    let w = c.write-digits in
-    written_digits s.args.word s.args.out.now w.result w.new.1.0 s.pre.0 (omega arith) w.ensures
+    let w = c.write_digits in
+    written_digits s.args.word s.args.out.now w.result w.new.out s.requires.0 (omega arith) w.ensures
 
 -- and stand
 stand :
-    (c : tie.After-at) → let w = c.before.before.before.before in
-    Stands (digits_of (start w).args.word) (start w).args.out.now c.at.given.0.0 w.write-digits.new.1.0
+    (c : tie.In-Count) → Stands (digits_of (start c.before.before.before).args.word) (start c.before.before.before).args.out.now c.in-Count.at c.write_digits.new.out
 stand c =
-    let w = c.before.before.before.before in
-    counted_stands (digits_of (start w).args.word) (start w).args.out.now (written w) c.at.given.1
+    counted_stands (digits_of (start c.before.before.before).args.word) (start c.before.before.before).args.out.now (written c.before.before.before) c.in-Count.is
 
 most : (s : tie.Start) → length (digits_of s.args.word) ≤ most_digits
 most s = digits_most s.args.word s.requires.0
 
-same_length : tie.Need-same-length
-same_length c = search rules
+shape_of-out-in_default : tie.Need-shape_of-out-in_default
+shape_of-out-in_default c = search rules
+
+returns-in_default : tie.Need-returns-in_default
+returns-in_default c = absurd (miss (1 ∷ 2 ∷ []) 0 tt (rw (written c.before.before.before).0 at c.in_default.in_default-own.keys2))
+
+slice_bounds-put-count : tie.Need-slice_bounds-put-count
+slice_bounds-put-count c = stands_within (stand c.before.before)
+
+slice_bounds-put-start : tie.Need-slice_bounds-put-start
+slice_bounds-put-start c = stands_within (stand c.before.before)
+
+slice_bounds-put-end-2 : tie.Need-slice_bounds-put-end-2
+slice_bounds-put-end-2 c = search rules
+
+put-requires : tie.Need-put-requires
+put-requires c κs =
+    omega (arith, stands_room (stand c.before.before.before), (stand c.before.before.before).count, most (start c.before.before.before.before.before.before))
+
+overflow_add-result : tie.Need-overflow_add-result
+overflow_add-result c =
+    omega (arith, (stand c.before.before.before.before.before.before).count, most (start c.before.before.before.before.before.before.before.before.before), c.put.ensures.count)
+
+shape_of-out : tie.Need-shape_of-out
+shape_of-out c = search rules
 
 returns : tie.Need-returns
-returns c = absurd (miss (1 ∷ 2 ∷ []) 0 tt (rw (written c.before.before.before).0 at c.match.keys2))
-
-slice_aggregate_put : tie.Need-slice-aggregate-put
-slice_aggregate_put c = search rules
-
-sub_put : tie.Need-overflow-sub-put
-sub_put c = stands_within (stand c.before.before)
-
-part_put_start : tie.Need-slice-bounds-put-start
-part_put_start c = stands_within (stand c.before.before)
-
-part_put_end : tie.Need-slice-bounds-put-end
-part_put_end c = search rules
-
-put_requires : tie.Need-put-requires
-put_requires c κs =
-    let a = c.before.before.before in
-    omega (arith, stands_room (stand a), (stand a).count, most (start a.before.before.before.before))
-
-add_result : tie.Need-overflow-add-result
-add_result c =
-    let a = c.before.before.before.before.before.before in
-    omega (arith, (stand a).count, most (start a.before.before.before.before), c.before.before.put.ensures.count)
-
-same_length_2 : tie.Need-same-length-2
-same_length_2 c = search rules
-
-returns_2 : tie.Need-returns-2
-returns_2 c = let q = c.before.before in stands_behind (stand q.before.before.before.before) q.put.ensures
+returns c = stands_behind (stand c.before.before.before.before.before.before) c.put.ensures
 
 pub put_number_spec : {M : Type 1} → statement M
 put_number_spec =
     tie.close
     (tie.spec
-    write_digits_requires
-    enum_known_at
-    same_length
-    returns
-    slice_aggregate_put
-    sub_put
-    part_put_start
-    part_put_end
-    put_requires
-    add_result
-    same_length_2
-    returns_2)
+    write_digits-requires
+    enum_known-at
+    shape_of-out-in_default
+    returns-in_default
+    slice_bounds-put-count
+    slice_bounds-put-start
+    slice_bounds-put-end-2
+    put-requires
+    overflow_add-result
+    shape_of-out
+    returns)

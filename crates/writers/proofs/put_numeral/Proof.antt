@@ -20,47 +20,47 @@ two n [] h l = absurd (omega arith)
 two n (x ∷ []) h l = absurd (omega arith)
 two n (x ∷ y ∷ out) h l = rw (le-ltb n 10 h) (record { count = refl; buffer = refl })
 
-add_out : tie.Need-overflow-add-out
-add_out c = search rules
+overflow_add-out : tie.Need-overflow_add-out
+overflow_add-out c = search rules
 
-slice_write_out : tie.Need-slice-write-out
-slice_write_out c = search rules
+bounds-out-0 : tie.Need-bounds-out-0
+bounds-out-0 c = search rules
 
-same_length : tie.Need-same-length
-same_length c = search rules
+shape_of-out-then-n-lt10 : tie.Need-shape_of-out-then-n-lt10
+shape_of-out-then-n-lt10 c = search rules
+
+returns-then-n-lt10 : tie.Need-returns-then-n-lt10
+returns-then-n-lt10 c = one _ _ c.if-n-lt10.true c.requires
+
+overflow_add-out-2 : tie.Need-overflow_add-out-2
+overflow_add-out-2 c = search rules
+
+bounds-out-0-2 : tie.Need-bounds-out-0-2
+bounds-out-0-2 c = search rules
+
+overflow_add-out-3 : tie.Need-overflow_add-out-3
+overflow_add-out-3 c = search rules
+
+bounds-out-1 : tie.Need-bounds-out-1
+bounds-out-1 c = search rules
+
+shape_of-out : tie.Need-shape_of-out
+shape_of-out c = search rules
 
 returns : tie.Need-returns
-returns c = one _ _ c.if1.true c.before.requires
-
-add_out_2 : tie.Need-overflow-add-out-2
-add_out_2 c = search rules
-
-slice_write_out_2 : tie.Need-slice-write-out-2
-slice_write_out_2 c = search rules
-
-add_out_3 : tie.Need-overflow-add-out-3
-add_out_3 c = search rules
-
-slice_write_out_3 : tie.Need-slice-write-out-3
-slice_write_out_3 c = search rules
-
-same_length_2 : tie.Need-same-length-2
-same_length_2 c = search rules
-
-returns_2 : tie.Need-returns-2
-returns_2 c = two _ _ c.if1.false c.before.requires
+returns c = two _ _ c.if-n-lt10.false c.requires
 
 pub put_numeral_spec : {M : Type 1} → statement M
 put_numeral_spec =
     tie.close
     (tie.spec
-    add_out
-    slice_write_out
-    same_length
-    returns
-    add_out_2
-    slice_write_out_2
-    add_out_3
-    slice_write_out_3
-    same_length_2
-    returns_2)
+    overflow_add-out
+    bounds-out-0
+    shape_of-out-then-n-lt10
+    returns-then-n-lt10
+    overflow_add-out-2
+    bounds-out-0-2
+    overflow_add-out-3
+    bounds-out-1
+    shape_of-out
+    returns)

@@ -3,67 +3,55 @@ use borrow.Author.Rules.{rules}
 use Rattle.writers.proofs.put_operation.Statement.{statement}
 use Rattle.writers.proofs.put_operation.Tie as tie
 
-enum_told : tie.Need-enum-told
-enum_told c = search rules
+enum_told-1 : tie.Need-enum_told-1
+enum_told-1 c = search rules
 
-slice_aggregate_put : tie.Need-slice-aggregate-put
-slice_aggregate_put c = search rules
+put-requires : tie.Need-put-requires
+put-requires c κs = search rules
 
-put_requires : tie.Need-put-requires
-put_requires c κs = search rules
+enum_told-in-Erase : tie.Need-enum_told-in-Erase
+enum_told-in-Erase c = search rules
 
-enum_told_2 : tie.Need-enum-told-2
-enum_told_2 c = search rules
+put-requires-in-Erase : tie.Need-put-requires-in-Erase
+put-requires-in-Erase c κs = search rules
 
-slice_aggregate_put_2 : tie.Need-slice-aggregate-put-2
-slice_aggregate_put_2 c = search rules
+enum_told-in-Interrogate : tie.Need-enum_told-in-Interrogate
+enum_told-in-Interrogate c = search rules
 
-put_requires_2 : tie.Need-put-requires-2
-put_requires_2 c κs = search rules
+put-requires-in-Interrogate : tie.Need-put-requires-in-Interrogate
+put-requires-in-Interrogate c κs = search rules
 
-enum_told_3 : tie.Need-enum-told-3
-enum_told_3 c = search rules
+shape_of-out-in-Register : tie.Need-shape_of-out-in-Register
+shape_of-out-in-Register c = search rules
 
-slice_aggregate_put_3 : tie.Need-slice-aggregate-put-3
-slice_aggregate_put_3 c = search rules
+returns-in-Register : tie.Need-returns-in-Register
+returns-in-Register c = rw c.in-Register.is c.put.ensures
 
-put_requires_3 : tie.Need-put-requires-3
-put_requires_3 c κs = search rules
+shape_of-out-in-Erase : tie.Need-shape_of-out-in-Erase
+shape_of-out-in-Erase c = search rules
 
-same_length : tie.Need-same-length
-same_length c = search rules
+returns-in-Erase : tie.Need-returns-in-Erase
+returns-in-Erase c = rw c.in-Erase.is c.put-in-Erase.ensures
 
-returns : tie.Need-returns
-returns c = rw c.before.before.before.before.before.enum_told.given.1 c.before.before.put.ensures
+shape_of-out-in-Interrogate : tie.Need-shape_of-out-in-Interrogate
+shape_of-out-in-Interrogate c = search rules
 
-same_length_2 : tie.Need-same-length-2
-same_length_2 c = search rules
-
-returns_2 : tie.Need-returns-2
-returns_2 c = rw c.before.before.before.before.before.enum-told2.given.1 c.before.before.put2.ensures
-
-same_length_3 : tie.Need-same-length-3
-same_length_3 c = search rules
-
-returns_3 : tie.Need-returns-3
-returns_3 c = rw c.before.before.before.before.before.enum-told3.given.1 c.before.before.put3.ensures
+returns-in-Interrogate : tie.Need-returns-in-Interrogate
+returns-in-Interrogate c = rw c.in-Interrogate.is c.put-in-Interrogate.ensures
 
 pub put_operation_spec : {M : Type 1} → statement M
 put_operation_spec =
     tie.close
     (tie.spec
-    enum_told
-    slice_aggregate_put
-    put_requires
-    enum_told_2
-    slice_aggregate_put_2
-    put_requires_2
-    enum_told_3
-    slice_aggregate_put_3
-    put_requires_3
-    same_length
-    returns
-    same_length_2
-    returns_2
-    same_length_3
-    returns_3)
+    enum_told-1
+    put-requires
+    enum_told-in-Erase
+    put-requires-in-Erase
+    enum_told-in-Interrogate
+    put-requires-in-Interrogate
+    shape_of-out-in-Register
+    returns-in-Register
+    shape_of-out-in-Erase
+    returns-in-Erase
+    shape_of-out-in-Interrogate
+    returns-in-Interrogate)

@@ -8,22 +8,18 @@ use Rattle.strings.proofs.Notices.{forced_text}
 use Rattle.writers.proofs.write_notice.Statement.{statement}
 use Rattle.writers.proofs.write_notice.Tie as tie
 
-slice_aggregate_write_packed : tie.Need-slice-aggregate-write-packed
-slice_aggregate_write_packed c = search rules
-
-write_packed_requires : tie.Need-write-packed-requires
+write_packed-requires : tie.Need-write_packed-requires
 unfolding each
-write_packed_requires c κs =
-    let s = c.before.before.before in
-    (record { number = s.requires.0.0; msisdn = s.requires.0.1; few = refl; additional = refl }, omega arith)
+write_packed-requires c κs =
+    (record { number = c.requires.0.0; msisdn = c.requires.0.1; few = refl; additional = refl }, omega arith)
 
-same_length : tie.Need-same-length
-same_length c = search rules
+shape_of-out : tie.Need-shape_of-out
+shape_of-out c = search rules
 
 returns : tie.Need-returns
 unfolding notice_fields
-returns c = let w = c.before.before in rw (forced_text _) w.write-packed.ensures
+returns c = rw (forced_text _) c.write_packed.ensures
 
 pub write_notice_spec : {M : Type 1} → statement M
 write_notice_spec =
-    tie.close (tie.spec slice_aggregate_write_packed write_packed_requires same_length returns)
+    tie.close (tie.spec write_packed-requires shape_of-out returns)

@@ -13,37 +13,40 @@ use Rattle.writers.proofs.write_request.Tie as tie
 abbrev fields : tie.Start → Request
 fields s = request_from s.args.operation s.args.number s.args.erasing s.args.additional.now
 
-returns : tie.Need-returns
-returns c = let s = c.before.before.before in short (fields s) s.args.out.now (omega arith)
+returns-then-out-lt-WRITER_ROOM : tie.Need-returns-then-out-lt-WRITER_ROOM
+returns-then-out-lt-WRITER_ROOM c = short (fields c.before.before.before) c.args.out.now (omega arith)
 
-request_sound_requires : tie.Need-request-sound-requires
-request_sound_requires c κs = search rules
+request_sound-requires : tie.Need-request_sound-requires
+request_sound-requires c κs = search rules
 
 -- the fields break the rules, or keep them
-broken : (c : tie.Then2) → request_sound (fields c.before.before.before.before.before) ≡ false
-broken c = sym c.before.request_sound.ensures ∙ not-true _ c.if2.true
+broken : (c : tie.Then-not-request_sound) → request_sound (fields c.before.before.before.before.before) ≡ false
+broken c = sym c.request_sound.ensures ∙ not-true _ c.if-not-request_sound.true-raw
 
-sound : (c : tie.Else2) → request_sound (fields c.before.before.before.before.before) ≡ true
-sound c = sym c.before.request_sound.ensures ∙ not-false _ c.if2.false
+sound : (c : tie.Else-not-request_sound) → request_sound (fields c.before.before.before.before.before) ≡ true
+sound c = sym c.request_sound.ensures ∙ not-false _ c.if-not-request_sound.false-raw
 
-returns_2 : tie.Need-returns-2
-returns_2 c =
-    let s = c.before.before.before.before.before in
-    unsound (fields s) s.args.out.now (omega arith) (broken c)
+returns-then-not-request_sound : tie.Need-returns-then-not-request_sound
+returns-then-not-request_sound c =
+    unsound (fields c.before.before.before.before.before) c.args.out.now (omega arith) (broken c)
 
-write_packed_requires : tie.Need-write-packed-requires
-write_packed_requires c κs = (sound_writable _ (sound c.before), omega arith)
+write_packed-requires : tie.Need-write_packed-requires
+write_packed-requires c κs = (sound_writable _ (sound c.before), omega arith)
 
-same_length : tie.Need-same-length
-same_length c = search rules
+shape_of-out : tie.Need-shape_of-out
+shape_of-out c = search rules
 
-returns_3 : tie.Need-returns-3
-returns_3 c =
-    let p = c.before.before in
-    let s = p.before.before.before.before.before.before.before in
-    written (fields s) s.args.out.now (omega arith) (sound p.before.before) p.write-packed.ensures
+returns : tie.Need-returns
+returns c =
+    written (fields c.before.before.before.before.before.before.before.before.before) c.args.out.now (omega arith) (sound c.before.before.before.before) c.write_packed.ensures
 
 pub write_request_spec : {M : Type 1} → statement M
 write_request_spec =
     tie.close
-    (tie.spec returns request_sound_requires returns_2 write_packed_requires same_length returns_3)
+    (tie.spec
+    returns-then-out-lt-WRITER_ROOM
+    request_sound-requires
+    returns-then-not-request_sound
+    write_packed-requires
+    shape_of-out
+    returns)

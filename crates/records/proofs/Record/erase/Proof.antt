@@ -3,20 +3,20 @@ use Rattle.records.specs.Steps.{erased}
 use Rattle.records.proofs.Record.erase.Statement.{statement}
 use Rattle.records.proofs.Record.erase.Tie as tie
 
+returns-then-holder_word-eq0 : tie.Need-returns-then-holder_word-eq0
+unfolding erased
+returns-then-holder_word-eq0 c = simp (eq-eqb _ _ c.if-holder_word-eq0.true)
+
+returns-then-not-holder_word-requester_word : tie.Need-returns-then-not-holder_word-requester_word
+unfolding erased
+returns-then-not-holder_word-requester_word c = simp (ne_eqb _ _ c.if-holder_word-eq0.false, c.if-not-holder_word-requester_word.true-raw)
+
+held_by-requires : tie.Need-held_by-requires
+held_by-requires c κs = search rules
+
 returns : tie.Need-returns
 unfolding erased
-returns c = simp (eq-eqb _ _ c.if1.true)
-
-returns_2 : tie.Need-returns-2
-unfolding erased
-returns_2 c = simp (ne_eqb _ _ c.before.if1.false, c.if2.true)
-
-held_by_requires : tie.Need-held-by-requires
-held_by_requires c κs = search rules
-
-returns_3 : tie.Need-returns-3
-unfolding erased
-returns_3 c = simp (ne_eqb _ _ c.before.before.if1.false, c.before.if2.false, c.held_by.ensures)
+returns c = simp (ne_eqb _ _ c.if-holder_word-eq0.false, c.if-not-holder_word-requester_word.false-raw, c.held_by.ensures)
 
 pub erase_spec : {M : Type 1} → statement M
-erase_spec = tie.close (tie.spec returns returns_2 held_by_requires returns_3)
+erase_spec = tie.close (tie.spec returns-then-holder_word-eq0 returns-then-not-holder_word-requester_word held_by-requires returns)

@@ -4,29 +4,33 @@ use Rattle.records.specs.Steps.{registered}
 use Rattle.records.proofs.Record.register.Statement.{statement}
 use Rattle.records.proofs.Record.register.Tie as tie
 
+returns-then-number_word-requester_word : tie.Need-returns-then-number_word-requester_word
+unfolding registered
+returns-then-number_word-requester_word c = simp (eq-eqb _ _ c.if-number_word-requester_word.true)
+
+returns-then-self : tie.Need-returns-then-self
+unfolding registered
+returns-then-self c = simp (ne_eqb _ _ c.if-number_word-requester_word.false, c.if-self.true)
+
+returns-then-holder_word-requester_word : tie.Need-returns-then-holder_word-requester_word
+unfolding registered
+returns-then-holder_word-requester_word c = simp (ne_eqb _ _ c.if-number_word-requester_word.false, c.if-self.false, c.if-holder_word-requester_word.true)
+
+held_by-requires : tie.Need-held_by-requires
+held_by-requires c κs = search rules
+
 returns : tie.Need-returns
 unfolding registered
-returns c = simp (eq-eqb _ _ c.if1.true)
-
-returns_2 : tie.Need-returns-2
-unfolding registered
-returns_2 c = simp (ne_eqb _ _ c.before.if1.false, c.if2.true)
-
-returns_3 : tie.Need-returns-3
-unfolding registered
-returns_3 c = simp (ne_eqb _ _ c.before.before.if1.false, c.before.if2.false, c.if3.true)
-
-held_by_requires : tie.Need-held-by-requires
-held_by_requires c κs = search rules
-
-returns_4 : tie.Need-returns-4
-unfolding registered
-returns_4 c =
-    let k = c.before in
-    let a = k.before.before.before.args in
-    let unclosed : a.self.closed ≡ false = k.before.if2.false in
-    rw (ne_eqb _ _ k.before.before.if1.false, unclosed, k.if3.false, c.held_by.ensures)
+returns c =
+    let a = c.args in
+    let unclosed : a.self.closed ≡ false = c.if-self.false in
+    rw (ne_eqb _ _ c.if-number_word-requester_word.false, unclosed, c.if-holder_word-requester_word.false, c.held_by.ensures)
     (ap (λ (b : Bool). step.Becomes (record { holder = a.requester; notice = a.self.notice; addressee = a.self.addressee; supervisor = a.self.supervisor; closed = b })) unclosed)
 
 pub register_spec : {M : Type 1} → statement M
-register_spec = tie.close (tie.spec returns returns_2 returns_3 held_by_requires returns_4)
+register_spec = tie.close (tie.spec
+    returns-then-number_word-requester_word
+    returns-then-self
+    returns-then-holder_word-requester_word
+    held_by-requires
+    returns)
