@@ -1,3 +1,2 @@
--- `Copied`: characters copied over the front of a part. `Numerals`: a numeral has one or two digits.
-pub mod Copied
+-- `Numerals`: a numeral has one or two digits.
 pub mod Numerals

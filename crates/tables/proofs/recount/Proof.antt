@@ -185,13 +185,13 @@ loop-at-preserved c =
     rw c.count_row-figures.ensures
     (⊎_elim
     (λ slow.
-    let known : tie.After-rest_sound-rest invariant-loop-at decreases-loop-at = record { before = record { before = record { before = record { before = near; if3 = slow.0 }; end-for = slow.1 }; holder-start = slow.2 }; rest-sound = slow.3 } in
-    let e = not-false _ slow.4.left in
-    next _ _ (stands known ∙ e) (rw slow.5 (rw slow.1.ensures (reaches_on _ _ _ p.reaches (ltb-true _ _ (and_left _ _ e))))) (rw slow.6 (starts_next known.before)))
+    let known : tie.After-rest_sound-rest invariant-loop-at decreases-loop-at = record { before = record { before = record { before = record { before = c.before.before; if-not-before-number = slow.if-not-before-number }; end_for-end = slow.end_for-end }; holder_start-near = slow.holder_start-near }; rest_sound-rest = slow.rest_sound-rest } in
+    let e = not-false _ slow.if-not-before-number-2.false-raw in
+    next _ _ (stands known ∙ e) (rw slow.end-is (rw slow.end_for-end.ensures (reaches_on _ _ _ p.reaches (ltb-true _ _ (and_left _ _ e))))) (rw slow.near-is (starts_next known.before)))
     (λ fast.
-    let r = within_reached c.loop-at.before c.loop-at.end (number_at w 0) c.is_near.result p.reaches (not-false _ fast.0.left) in
-    next _ _ (tested _ _ _ _ _ _ p _ refl ∙ near_stands c.loop-at.before c.loop-at.near w 0 p.starts (rw c.is_near.ensures at r.0)) (rw fast.1 r.1) (rw fast.2 p.starts))
-    c.if-not-before-number.branch)
+    let r = within_reached c.loop-at.before c.loop-at.end (number_at w 0) c.is_near.result p.reaches (not-false _ fast.if-not-before-number.false-raw) in
+    next _ _ (tested _ _ _ _ _ _ p _ refl ∙ near_stands c.loop-at.before c.loop-at.near w 0 p.starts (rw c.is_near.ensures at r.0)) (rw fast.end-is r.1) (rw fast.near-is p.starts))
+    c.if-not-before-number.branch-raw)
 
 returns : tie.Need-returns invariant-loop-at decreases-loop-at
 unfolding table_up_to
