@@ -17,11 +17,11 @@ enum_told-1 c = search rules
 
 returns-in_default : tie.Need-returns-in_default
 unfolding number_form
-returns-in_default c = record { form = rw (is_none_lem _ c.number_of_lem.ensures c.in_default.is); within = zero-le }
+returns-in_default c = record { form = rw (is_none_lem _ c.number_of-field.ensures c.in_default.is); within = zero-le }
 
 returns : tie.Need-returns
 unfolding number_form
-returns c = record { form = rw (is_value _ _ c.number_of_lem.ensures c.in-Value.is); within = zero-le }
+returns c = record { form = rw (is_value _ _ c.number_of-field.ensures c.in-Value.is); within = zero-le }
 
 pub read_number_spec : {M : Type 1} → statement M
 read_number_spec =

@@ -41,7 +41,7 @@ returns-in_default : tie.Need-returns-in_default
 unfolding subscriber_form
 returns-in_default c =
     let p = parts c.before.before in
-    record { form = rw (p.behind, p.field, is_none_lem _ c.number_of_lem.ensures c.in_default.is); within = zero-le }
+    record { form = rw (p.behind, p.field, is_none_lem _ c.number_of-field.ensures c.in_default.is); within = zero-le }
 
 slice_bounds-value_below-count : tie.Need-slice_bounds-value_below-count
 slice_bounds-value_below-count c = search rules
@@ -65,7 +65,7 @@ returns-in_default-last : tie.Need-returns-in_default-last
 unfolding subscriber_form
 returns-in_default-last c =
     let p = parts c.before.before.before.before.before in
-    record { form = rw (p.behind, p.field, is_value _ _ c.number_of_lem.ensures c.in-Value.is, is_none_lem _ (rw rest_of at c.value_below-last.ensures) c.in_default-last.is); within = zero-le }
+    record { form = rw (p.behind, p.field, is_value _ _ c.number_of-field.ensures c.in-Value.is, is_none_lem _ (rw rest_of at c.value_below-last.ensures) c.in_default-last.is); within = zero-le }
 
 overflow_cast-result : tie.Need-overflow_cast-result
 overflow_cast-result c = omega (arith, value_fits _ _ _ (is_value _ _ c.value_below-last.ensures c.in-Value-last.is))
@@ -74,7 +74,7 @@ returns : tie.Need-returns
 unfolding subscriber_form
 returns c =
     let p = parts c.before.before.before.before.before in
-    record { form = rw (p.behind, p.field, is_value _ _ c.number_of_lem.ensures c.in-Value.is, is_value _ _ (rw rest_of at c.value_below-last.ensures) c.in-Value-last.is); within = zero-le }
+    record { form = rw (p.behind, p.field, is_value _ _ c.number_of-field.ensures c.in-Value.is, is_value _ _ (rw rest_of at c.value_below-last.ensures) c.in-Value-last.is); within = zero-le }
 
 pub read_subscriber_spec : {M : Type 1} → statement M
 read_subscriber_spec =

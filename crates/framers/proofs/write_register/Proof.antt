@@ -63,7 +63,7 @@ broken c = go (request_sound (fields (start (asked c)))) refl
 returns-in_default : tie.Need-returns-in_default
 returns-in_default c =
     let w = asked c in
-    register_unsound _ _ (fields (start w)) (frame (start w)) (passed w).if-frame-lt-FRAME_ROOM.left (broken c)
+    register_unsound _ _ (fields (start w)) (frame (start w)) (passed w).if-frame-lt-FRAME_ROOM.false (broken c)
 
 overflow_mul-first : tie.Need-overflow_mul-first
 overflow_mul-first c = search rules

@@ -57,7 +57,7 @@ bounds-message-0 c =
 
 returns : tie.Need-returns
 returns c =
-    rw c.end_Body.ensures
+    rw c.end_body-whole.ensures
     (register_numbered _ _ (element c.before.before.before.before.before.before) _ c.in-Numbered.body (rw c.in-Numbered.is at c.read_invoke.ensures))
 
 pub read_register_spec : {M : Type 1} → statement M

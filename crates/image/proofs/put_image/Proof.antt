@@ -21,25 +21,25 @@ room : (s : tie.Start) → word_octets * (length s.args.table.now + length s.arg
 room s = omega (arith, s.requires, length_image s.args.table.now s.args.list.now)
 
 -- the table's octets stand at the front
-one : (c : tie.After-store_words-rows) → Stands (octets_of (start c).args.table.now) (start c).args.out.now c.store_words_lem.result c.store_words_lem.new.1.0
-one c = c.store_words_lem.ensures
+one : (c : tie.After-store_words-rows) → Stands (octets_of (start c).args.table.now) (start c).args.out.now c.store_words-rows.result c.store_words-rows.new.out
+one c = c.store_words-rows.ensures
 
 -- the list's behind them
 abbrev first : tie.After-store_words → tie.After-store_words-rows
 first c = c.before.before.before.before
 abbrev mid : tie.After-store_words → List ℕ
 mid c =
-    let n = (first c).store_words_lem.result in
-    let new = (first c).store_words_lem.new.1.0 in
+    let n = (first c).store_words-rows.result in
+    let new = (first c).store_words-rows.new.out in
     put_mid n (length new - n) new c.store_words.new.out
 
 two : (c : tie.After-store_words)
-    → Stands (octets_of (start (first c)).args.table.now ++ octets_of (start (first c)).args.list.now) (start (first c)).args.out.now ((first c).store_words_lem.result + c.store_words.result) (mid c)
+    → Stands (octets_of (start (first c)).args.table.now ++ octets_of (start (first c)).args.list.now) (start (first c)).args.out.now ((first c).store_words-rows.result + c.store_words.result) (mid c)
 two c = stands_behind (one (first c)) c.store_words.ensures
 
 -- as many octets as both have words
 both : (c : tie.After-store_words)
-    → (first c).store_words_lem.result + c.store_words.result ≡ word_octets * (length (start (first c)).args.table.now + length (start (first c)).args.list.now)
+    → (first c).store_words-rows.result + c.store_words.result ≡ word_octets * (length (start (first c)).args.table.now + length (start (first c)).args.list.now)
 both c =
     let s = start (first c) in
     (two c).count ∙ simp (length-append, length_octets_lem) (omega arith)
@@ -81,7 +81,7 @@ store_words-requires-2 c κs =
 
 -- and the trailer's
 three : (c : tie.After-store_words-2) → let s = start (first c.before.before.before.before.before) in
-    let n = (first c.before.before.before.before.before).store_words_lem.result + c.store_words.result in
+    let n = (first c.before.before.before.before.before).store_words-rows.result + c.store_words.result in
     Stands (image_of s.args.table.now s.args.list.now) s.args.out.now (n + c.store_words-2.result) (put_mid n (length (mid c.before.before.before.before.before) - n) (mid c.before.before.before.before.before) c.store_words-2.new.out)
 unfolding trailer_of
 three c =

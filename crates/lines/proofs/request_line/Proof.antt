@@ -19,7 +19,7 @@ head c = c.before.before.before.before.before.before.before
 abbrev start : tie.After-put-at → tie.Start
 start c = c.before.before.before.before.before.before.before.before.before.before.before.before
 room : (c : tie.After-ask-n) → (head c).put-at.result + c.ask-n.result < length (put_mid (head c).put-at.result (length (head c).put-at.new.out - (head c).put-at.result) (head c).put-at.new.out c.ask-n.new.out)
-room c = line_room_lem (head c).put-at.ensures c.ask-n.ensures c.ask-n.auto.1.1.1.1.1.1.0 (omega arith)
+room c = line_room_lem (head c).put-at.ensures c.ask-n.ensures c.ask-n.auto.out (omega arith)
 
 overflow_mul-words : tie.Need-overflow_mul-words
 overflow_mul-words c = search rules
@@ -74,7 +74,7 @@ unfolding requested
 returns c =
     let s = start (head c.before.before.before.before.before.before.before.before.before.before.before) in
     let list = take (subscriber_words * s.args.state.subscribers) s.args.list.now in
-    line_did (λ state. asked s.args.requester s.args.string.now state list) s.requires.0 (asked_right s.args.requester s.args.string.now list) (head c.before.before.before.before.before.before.before.before.before.before.before).put-at.ensures c.ask-n.ensures (c.ask-n.auto.1.1.0 ∙ length-take-le _ _ s.requires.0.numbers) (room c.before.before.before.before.before.before.before.before.before.before.before) c.end_line.ensures.0 c.end_line.ensures.1
+    line_did (λ state. asked s.args.requester s.args.string.now state list) s.requires.0 (asked_right s.args.requester s.args.string.now list) (head c.before.before.before.before.before.before.before.before.before.before.before).put-at.ensures c.ask-n.ensures (c.ask-n.auto.table ∙ length-take-le _ _ s.requires.0.numbers) (room c.before.before.before.before.before.before.before.before.before.before.before) c.end_line.ensures.0 c.end_line.ensures.1
 
 pub request_line_spec : {M : Type 1} → statement M
 request_line_spec =

@@ -19,7 +19,7 @@ head c = c.before.before.before.before.before.before
 abbrev start : tie.After-put-at → tie.Start
 start c = c.before.before.before.before.before.before.before.before
 room : (c : tie.After-report-n) → (head c).put-at.result + c.report-n.result < length (put_mid (head c).put-at.result (length (head c).put-at.new.out - (head c).put-at.result) (head c).put-at.new.out c.report-n.new.out)
-room c = line_room_lem (head c).put-at.ensures c.report-n.ensures c.report-n.auto.1.1.1.1.1.0 (omega arith)
+room c = line_room_lem (head c).put-at.ensures c.report-n.ensures c.report-n.auto.out (omega arith)
 
 overflow_mul-words : tie.Need-overflow_mul-words
 overflow_mul-words c = search rules
@@ -64,7 +64,7 @@ returns : tie.Need-returns
 unfolding reported
 returns c = λ list s.
     let a = start (head c.before.before.before.before.before.before.before.before.before) in
-    line_did (λ state. notices.taking_result state a.args.number a.args.kind a.args.clock) s (λ t. result_right a.args.number a.args.clock a.good.1.0.1 t a.args.kind) (head c.before.before.before.before.before.before.before.before.before).put-at.ensures c.report-n.ensures (c.report-n.auto.1.1.1.0 ∙ length-take-le _ _ s.numbers) (room c.before.before.before.before.before.before.before.before.before) c.end_line.ensures.0 c.end_line.ensures.1
+    line_did (λ state. notices.taking_result state a.args.number a.args.kind a.args.clock) s (λ t. result_right a.args.number a.args.clock a.good.1.0.1 t a.args.kind) (head c.before.before.before.before.before.before.before.before.before).put-at.ensures c.report-n.ensures (c.report-n.auto.table ∙ length-take-le _ _ s.numbers) (room c.before.before.before.before.before.before.before.before.before) c.end_line.ensures.0 c.end_line.ensures.1
 
 pub result_line_spec : {M : Type 1} → statement M
 result_line_spec =

@@ -19,7 +19,7 @@ head c = c.before.before.before.before.before.before
 abbrev start : tie.After-put-at → tie.Start
 start c = c.before.before.before.before.before.before.before.before
 room : (c : tie.After-send-n) → (head c).put-at.result + c.send-n.result < length (put_mid (head c).put-at.result (length (head c).put-at.new.out - (head c).put-at.result) (head c).put-at.new.out c.send-n.new.out)
-room c = line_room_lem (head c).put-at.ensures c.send-n.ensures c.send-n.auto.1.1.1.1.1.0 (omega arith)
+room c = line_room_lem (head c).put-at.ensures c.send-n.ensures c.send-n.auto.out (omega arith)
 
 overflow_mul-words : tie.Need-overflow_mul-words
 overflow_mul-words c = search rules
@@ -64,7 +64,7 @@ returns : tie.Need-returns
 unfolding dispatched
 returns c = λ list s.
     let a = start (head c.before.before.before.before.before.before.before.before.before) in
-    line_did (λ state. notices.sending_notice state lent_buffer a.args.number a.args.state.delay a.args.clock) s (λ t. sending_right a.args.number a.args.clock a.good.1.0.1 t a.args.state.delay) (head c.before.before.before.before.before.before.before.before.before).put-at.ensures c.send-n.ensures (c.send-n.auto.1.1.1.0 ∙ length-take-le _ _ s.numbers) (room c.before.before.before.before.before.before.before.before.before) c.end_line.ensures.0 c.end_line.ensures.1
+    line_did (λ state. notices.sending_notice state lent_buffer a.args.number a.args.state.delay a.args.clock) s (λ t. sending_right a.args.number a.args.clock a.good.1.0.1 t a.args.state.delay) (head c.before.before.before.before.before.before.before.before.before).put-at.ensures c.send-n.ensures (c.send-n.auto.table ∙ length-take-le _ _ s.numbers) (room c.before.before.before.before.before.before.before.before.before) c.end_line.ensures.0 c.end_line.ensures.1
 
 pub sending_line_spec : {M : Type 1} → statement M
 sending_line_spec =

@@ -94,7 +94,7 @@ returns c =
 
 pub close_spec : {M : Type 1} → statement M
 close_spec =
-    tie.close-next
+    tie.close
     (tie.spec
     refusal-refused-requires
     shape_of-table-then-refused-ne0

@@ -61,11 +61,11 @@ returns c =
     let l = c.loop-i in
     let stopped : place c.args.number c.args.words.now l.i ≡ l.i =
     ⊎_elim
-    (λ w. stops_low _ _ _ w.left)
+    (λ w. stops_low _ _ _ w.loop-i-test.false)
     (λ w.
-    let r : w.2.result ≡ row c.args.words.now (l.i - 1) = w.2.ensures ∙ opened_row _ _ _ _ _ c.requires l.invariant (l.i - 1) (omega (arith, w.0.taken)) in
-    stops_below _ _ _ (l.i - 1) (omega (arith, w.0.taken)) (lt-ltb _ _ (rw r at w.3.taken)))
-    c.loop-i-test.branch in
+    let r : w.row_at-r.result ≡ row c.args.words.now (l.i - 1) = w.row_at-r.ensures ∙ opened_row _ _ _ _ _ c.requires l.invariant (l.i - 1) (omega (arith, w.loop-i-test.true)) in
+    stops_below _ _ _ (l.i - 1) (omega (arith, w.loop-i-test.true)) (lt-ltb _ _ (rw r at w.if-r-number.true)))
+    c.loop-i-test.branch-raw in
     c.put_row-2.ensures ∙ opened_end _ _ _ _ _ c.requires l.invariant stopped
 
 pub insert_spec : {M : Type 1} → statement M

@@ -29,7 +29,7 @@ goes-requires c κs =
     let l = c.loop-i in
     let t = c.args.words.now in
     let fits = use_fits t _ c.requires.0 in
-    rw (c.row_at-r.ensures, packed_row goes t l.i l.words l.auto (omega arith) l.invariant.1 (omega arith)) (use_sound t c.args.used c.requires.0 c.requires.1 l.i (omega arith))
+    rw (c.row_at-r.ensures, packed_row goes t l.i l.words l.kept (omega arith) l.invariant.1 (omega arith)) (use_sound t c.args.used c.requires.0 c.requires.1 l.i (omega arith))
 
 put_row-requires : tie.Need-put_row-requires invariant-loop-i decreases-loop-i
 put_row-requires c κs = search rules
@@ -48,14 +48,14 @@ loop-i-preserved c =
     let l = c.loop-i in
     let t = c.args.words.now in
     let fits = use_fits t _ c.requires.0 in
-    let at = packed_row goes t l.i l.words l.auto (omega arith) l.invariant.1 (omega arith) in
+    let at = packed_row goes t l.i l.words l.kept (omega arith) l.invariant.1 (omega arith) in
     let r : c.row_at-r.result ≡ row t l.i = c.row_at-r.ensures ∙ at in
     let tested : c.goes.result ≡ goes (row t l.i) = c.goes.ensures ∙ ap goes r in (
       search rules,
       ⊎_elim
-          (λ w. rw (w.5, w.6, w.2.ensures, r) (packed_in goes t l.i l.words l.auto (omega arith) l.invariant.1 (omega arith) (sym tested ∙ not-true _ w.0.taken)))
-          (λ w. rw (w.1, w.2) (packed_out goes t l.i l.words l.auto (omega arith) l.invariant.1 (omega arith) (sym tested ∙ not-false _ w.0.left)))
-          c.if-not-goes.branch,
+          (λ w. rw (w.words-is, w.kept-is, w.put_row.ensures, r) (packed_in goes t l.i l.words l.kept (omega arith) l.invariant.1 (omega arith) (sym tested ∙ not-true _ w.if-not-goes.true-raw)))
+          (λ w. rw (w.words-is, w.kept-is) (packed_out goes t l.i l.words l.kept (omega arith) l.invariant.1 (omega arith) (sym tested ∙ not-false _ w.if-not-goes.false-raw)))
+          c.if-not-goes.branch-raw,
     )
 
 overflow_mul-from : tie.Need-overflow_mul-from invariant-loop-i decreases-loop-i
@@ -82,7 +82,7 @@ clear-requires c κs = search rules
 -- all rows are passed
 passed :
     (c : tie.After-loop-i invariant-loop-i decreases-loop-i)
-    → Packed goes c.args.words.now c.args.used c.loop-i.words c.loop-i.auto
+    → Packed goes c.args.words.now c.args.used c.loop-i.words c.loop-i.kept
 passed c = let all : c.loop-i.i ≡ c.args.used = omega arith in rw all at c.loop-i.invariant.1
 
 returns : tie.Need-returns invariant-loop-i decreases-loop-i

@@ -67,7 +67,7 @@ overflow_add-text : tie.Need-overflow_add-text
 overflow_add-text c = omega (arith, few c)
 
 slice_bounds-text-end-2 : tie.Need-slice_bounds-text-end-2
-slice_bounds-text-end-2 c = omega (arith, few c, length-append c.write_digits-written.new.out [], c.write_digits-written.auto.1.0)
+slice_bounds-text-end-2 c = omega (arith, few c, length-append c.write_digits-written.new.out [], c.write_digits-written.auto.out)
 
 slice_bounds-put-end : tie.Need-slice_bounds-put-end
 slice_bounds-put-end c = omega (arith, count c.before, ap length (text c.before))
