@@ -178,12 +178,11 @@ returns-in-Asks c =
     let e = passed c.before.before.before.before.before.before.before.before.before.before.before in
     let k = up2 (up3 e) in
     let s = asker k in
-    let g = c.body-in-Asks-1.given in
-    let place = string_place (M s) _ (reader k).read_register.ensures _ _ (body k) k.in-Numbered.is _ _ g.1 in
+    let place = string_place (M s) _ (reader k).read_register.ensures _ _ (body k) k.in-Numbered.is _ _ c.in-Asks.is in
     c.ask_inside.ensures
-    ∙ ap (λ (x : List ℕ). in_frame (R k).first (R k).number (F s) (requesting (T s) (L s) own_reply (Q s) g.0.0 x)) place
-    ∙ asked (T s) (L s) (F s) (Q s) (M s) (room (reader k).before) (R k) (reads k) (sound_list (up3 e)) (sound_state e) g.0.0 _
-    (ap (λ (x : Body). told_body x (take (length (M s) - length version) (M s))) g.1)
+    ∙ ap (λ (x : List ℕ). in_frame (R k).first (R k).number (F s) (requesting (T s) (L s) own_reply (Q s) c.in-Asks.scheme x)) place
+    ∙ asked (T s) (L s) (F s) (Q s) (M s) (room (reader k).before) (R k) (reads k) (sound_list (up3 e)) (sound_state e) c.in-Asks.scheme _
+    (ap (λ (x : Body). told_body x (take (length (M s) - length version) (M s))) c.in-Asks.is)
 
 pub framed_request_spec : {M : Type 1} → statement M
 framed_request_spec =

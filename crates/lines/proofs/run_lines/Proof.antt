@@ -47,8 +47,7 @@ did c = rw (rest_of (head c).loop-at.at (start (head c)).args.input.now) at c.do
 
 printed : (c : tie.After-do_line-done invariant-loop-at decreases-loop-at) → c.do_line-done.result.printed ≤ 7 * (c.place_of-end.result + 1)
 printed c =
-    let k = c.do_line-done.auto.1.1 in
-    printed_most (head c).loop-at.invariant.0 (start (head c)).requires.0 c.loop-at-test.true (found c.before.before.before.before.before) (did c) k.0 k.1.0 k.1.1.1.0
+    printed_most (head c).loop-at.invariant.0 (start (head c)).requires.0 c.loop-at-test.true (found c.before.before.before.before.before) (did c) c.do_line-done.auto.table c.do_line-done.auto.list c.do_line-done.auto.out
 
 -- the line ends within the input, which is short
 ends : (c : tie.After-do_line-done invariant-loop-at decreases-loop-at) → (head c).loop-at.at + (c.place_of-end.result + 1) ≤ most_input + 1
@@ -103,8 +102,7 @@ loop-at-smaller c = search rules
 
 loop-at-preserved : tie.Need-loop-at-preserved invariant-loop-at decreases-loop-at
 loop-at-preserved c =
-    let k = c.do_line-done.auto.1.1 in
-    (run_step (head c.before.before.before.before.before.before.before.before.before.before).loop-at.invariant.0 (start (head c.before.before.before.before.before.before.before.before.before.before)).requires.0 c.loop-at-test.true (found c.before.before.before.before.before.before.before.before.before.before.before.before.before.before.before) (did c.before.before.before.before.before.before.before.before.before.before) k.0 k.1.0 k.1.1.1.0, k.1.1.0 ∙ (head c.before.before.before.before.before.before.before.before.before.before).loop-at.invariant.1)
+    (run_step (head c.before.before.before.before.before.before.before.before.before.before).loop-at.invariant.0 (start (head c.before.before.before.before.before.before.before.before.before.before)).requires.0 c.loop-at-test.true (found c.before.before.before.before.before.before.before.before.before.before.before.before.before.before.before) (did c.before.before.before.before.before.before.before.before.before.before) c.do_line-done.auto.table c.do_line-done.auto.list c.do_line-done.auto.out, c.do_line-done.auto.packed ∙ (head c.before.before.before.before.before.before.before.before.before.before).loop-at.invariant.1)
 
 shape_of-table : tie.Need-shape_of-table invariant-loop-at decreases-loop-at
 shape_of-table c = c.loop-at.invariant.0.table_long

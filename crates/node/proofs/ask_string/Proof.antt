@@ -142,7 +142,7 @@ returns c =
     let s = asker r in
     let told = c.in-Read.is in
     let reads = was_read (S s) r.read_request-read.result r.read_request-read.ensures (fields c.before.before.before.before.before.before.before.before.before.before.before.before.before) told in
-    let passed = none_refuses (T s) (L s) (B s) (Q s) (C s) (S s) s.requires.2 s.requires.1 s.requires.0 (number (tested r)) l.if-scheme-ne-CODING_SCHEME.left l.if-string-eq0.left l.if-string-gt-MOST_STRING_OCTETS.left _ reads in
+    let passed = none_refuses (T s) (L s) (B s) (Q s) (C s) (S s) s.requires.2 s.requires.1 s.requires.0 (number (tested r)) l.if-scheme-ne-CODING_SCHEME.false l.if-string-eq0.false l.if-string-gt-MOST_STRING_OCTETS.false _ reads in
     c.ask.ensures
     ∙ ap (λ (x : List ℕ). asked_by (T s) (flags_of (L s) (Q s).0) (B s) (Q s) (with_additional (fields c.before.before.before.before.before.before.before.before.before.before.before.before.before) x)) (read_part (S s) r.read_request-read.result r.read_request-read.ensures (fields c.before.before.before.before.before.before.before.before.before.before.before.before.before) told)
     ∙ sym (request_asked (T s) (L s) (B s) (Q s) (C s) (S s) _ s.requires.0 passed reads)

@@ -113,7 +113,7 @@ returns : tie.Need-returns
 returns c =
     let e = up c.before.before.before.before.before.before.before.before.before.before in
     let s = from1 (up2 e) in
-    c.IsSend-at.ensures ∙ sym (sending_visits (T s) (B s) s.args.number _ _ (sound e) _ (place c.before.before.before.before.before.before.before.before.before.before) ∙ passed_visit (T s) _ (B s) s.args.number _ _ (room (up2 e)))
+    c.send_at.ensures ∙ sym (sending_visits (T s) (B s) s.args.number _ _ (sound e) _ (place c.before.before.before.before.before.before.before.before.before.before) ∙ passed_visit (T s) _ (B s) s.args.number _ _ (room (up2 e)))
 
 pub sending_spec : {M : Type 1} → statement M
 sending_spec =

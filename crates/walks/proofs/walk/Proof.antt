@@ -75,7 +75,7 @@ loop-i-preserved c =
       omega (arith, done.1, c.loop-i.invariant.4),
       λ first stands.
           let (w, t, e) = c.loop-i.invariant.5 first stands in
-          (_, done.2 w t, walk_on s.args.requester s.args.operation s.args.lead s.args.digits.now c.loop-i.i w c.code_at.result (omega arith) c.code_at.ensures ∙ e),
+          (_, done.2 w t, walk_on s.args.requester s.args.operation s.args.lead s.args.digits.now c.loop-i.i w c.code_at-code.result (omega arith) c.code_at-code.ensures ∙ e),
     )
 
 shape_of-table : tie.Need-shape_of-table invariant-loop-i decreases-loop-i
