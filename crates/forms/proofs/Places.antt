@@ -3,7 +3,7 @@ use mathlib.Core.Path.{◌≡◌, refl, ap, ◌∙◌}
 use mathlib.Core.Bool.{Bool, true, false, cond}
 use mathlib.Core.Option.{none, some}
 use mathlib.Core.List.{List, [], ◌∷◌}
-use Prim.Native.Nat.{ℕ, suc, ◌+◌, ◌≤◌, ◌<◌}
+use Prim.Native.Nat.{ℕ, suc, ◌+◌, ◌-◌, ◌≤◌, ◌<◌}
 use native.Mathlib.Numerals.{add-one}
 use native.Mathlib.Omega.{arith}
 use lib.ListN.{length, take, drop, get_or}
@@ -15,7 +15,7 @@ use Rattle.forms.specs.Lines.{line_feed, on_first, lines_of, space, first_field,
 
 pub whole_slice : (s : List ℕ) → slice 0 (length s) s ≡ s
 unfolding slice
-whole_slice s = take_all (length s) s (omega arith)
+whole_slice s = let n : length s - 0 ≡ length s = omega arith in rw n (take_all (length s) s (omega arith))
 
 pub field_front : (s : List ℕ) → first_field s ≡ take (index_of space s) s
 unfolding index_of index_after first_field

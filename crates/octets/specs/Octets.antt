@@ -2,7 +2,7 @@
 use Rattle.std.specs.Prelude.{ℕ, suc, ◌-◌, Bool, true, false, List, [], ◌∷◌, take, drop, eqb}
 
 -- a place further on, but for what was found at once
-abbrev pub index_after : Bool → ℕ → ℕ
+unfoldable pub index_after : Bool → ℕ → ℕ
 index_after true n = 0
 index_after false n = suc n
 

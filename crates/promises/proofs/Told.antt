@@ -1,5 +1,5 @@
 -- The told: who is forced off a number is the addressee of every sending that succeeds, up to the result that clears the notice, and reads the number and the supervisor in it, or nobody. Assumes nothing.
-use mathlib.Core.Path.{◌≡◌, refl, sym, ap, ◌∙◌}
+use mathlib.Core.Path.{◌≡◌, refl, sym, ap, subst, ◌∙◌}
 use mathlib.Core.Bool.{Bool, true, false}
 use mathlib.Core.Option.{Option, some}
 use mathlib.Core.List.{List, [], ◌∷◌}
@@ -99,7 +99,9 @@ module _ (list : List ℕ) (k : ℕ) where
     told_along (passes {c = c} {a = a} {l = l} n rest) t u (suc i) x e d = told_along rest t (never_first (notice_cleared k) (c, a) l u).1 i x e d
     told_along {r} (visits {c = c} {v = v} n w rest) t u zero x e d =
         let same_entry : x ≡ (c, v.reply) = cc in
-        rw (same_entry, ← t.addressee, ← t.supervisor) (sending_tells w (ap (holds_of (sending_done k)) e ∙ d))
+        let sent : Tells r.addressee r.supervisor (c, v.reply) = sending_tells w (ap (holds_of (sending_done k)) e ∙ d) in
+        let named : Tells h r.supervisor (c, v.reply) = subst (λ (m : Msisdn). Tells m r.supervisor (c, v.reply)) t.addressee sent in
+        rw same_entry (subst (λ (m : Msisdn). Tells h m (c, v.reply)) t.supervisor named)
     told_along (visits {c = c} {v = v} {l = l} n w rest) t u (suc i) x e d =
         let (first, then) = never_first (notice_cleared k) (c, v.reply) l u in
         let still = still_pending list k n w t.pending first in

@@ -1,5 +1,5 @@
 -- Laws of stored numbers: which are still to be asked, and what a new number, a notice and an answer make of them. Assumes nothing.
-use mathlib.Core.Path.{◌≡◌, refl, sym, ap, ◌∙◌}
+use mathlib.Core.Path.{◌≡◌, refl, sym, ap, subst, ◌∙◌}
 use mathlib.Core.Bool.{Bool, true, false, not, cond, ◌&&◌, ◌||◌, or-false, or_assoc}
 use mathlib.Core.List.{List, [], ◌∷◌, ◌++◌}
 use Prim.Native.Nat.{ℕ, suc, ◌≤◌}
@@ -91,7 +91,7 @@ unfolding each
 root_same root [] h = refl
 root_same root (n ∷ ns) h =
     let e : root_of n ≡ root = eqb-true (root_of n) root (and_left (eqb (root_of n) root) (each (λ m. eqb (root_of m) root) ns) h) in
-    rw (← e) at h
+    subst (λ (r : ℕ). each (λ m. eqb (root_of m) r) (n ∷ ns) ≡ true) (sym e) h
 
 pub root_rest : (ns : List ℕ) → same_root ns ≡ true → same_root (drop 1 ns) ≡ true
 unfolding each

@@ -64,7 +64,7 @@ returns : tie.Need-returns
 unfolding reported
 returns c = λ list s.
     let a = start (head c.before.before.before.before.before.before.before.before.before) in
-    line_did (λ state. notices.taking_result state a.args.number a.args.kind a.args.clock) s (λ t. result_right a.args.number a.args.clock a.good.1.0.1 t a.args.kind) (head c.before.before.before.before.before.before.before.before.before).put-at.ensures c.report-n.ensures (c.report-n.auto.table ∙ length-take-le _ _ s.numbers) (room c.before.before.before.before.before.before.before.before.before) c.end_line.ensures.0 c.end_line.ensures.1
+    line_did (λ state. notices.taking_result state a.args.number a.args.kind a.args.clock) s (λ t. result_right a.args.number a.args.clock a.ranges.clock.fits t a.args.kind) (head c.before.before.before.before.before.before.before.before.before).put-at.ensures c.report-n.ensures (c.report-n.auto.table ∙ length-take-le _ _ s.numbers) (room c.before.before.before.before.before.before.before.before.before) c.end_line.ensures.0 c.end_line.ensures.1
 
 pub result_line_spec : {M : Type 1} → statement M
 result_line_spec =

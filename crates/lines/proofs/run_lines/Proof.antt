@@ -36,7 +36,7 @@ room : (c : tie.In-loop-at invariant-loop-at decreases-loop-at) → c.loop-at.n 
 room c = so_far c.loop-at.invariant.0 (start c.before).requires.0 c.loop-at-test.true
 
 abbrev head : tie.After-do_line-done invariant-loop-at decreases-loop-at → tie.At-loop-at invariant-loop-at decreases-loop-at
-head c = c.before.before.before.before.before.before.before.before.before
+head c = c.before.before.before.before.before.before.before.before
 
 did :
     (c : tie.After-do_line-done invariant-loop-at decreases-loop-at)

@@ -64,7 +64,7 @@ returns : tie.Need-returns
 unfolding dispatched
 returns c = λ list s.
     let a = start (head c.before.before.before.before.before.before.before.before.before) in
-    line_did (λ state. notices.sending_notice state lent_buffer a.args.number a.args.state.delay a.args.clock) s (λ t. sending_right a.args.number a.args.clock a.good.1.0.1 t a.args.state.delay) (head c.before.before.before.before.before.before.before.before.before).put-at.ensures c.send-n.ensures (c.send-n.auto.table ∙ length-take-le _ _ s.numbers) (room c.before.before.before.before.before.before.before.before.before) c.end_line.ensures.0 c.end_line.ensures.1
+    line_did (λ state. notices.sending_notice state lent_buffer a.args.number a.args.state.delay a.args.clock) s (λ t. sending_right a.args.number a.args.clock a.ranges.clock.fits t a.args.state.delay) (head c.before.before.before.before.before.before.before.before.before).put-at.ensures c.send-n.ensures (c.send-n.auto.table ∙ length-take-le _ _ s.numbers) (room c.before.before.before.before.before.before.before.before.before) c.end_line.ensures.0 c.end_line.ensures.1
 
 pub sending_line_spec : {M : Type 1} → statement M
 sending_line_spec =

@@ -10,7 +10,7 @@ use Rattle.structs_read.proofs.of_register.Tie as tie
 abbrev read : tie.In-Numbered → tie.In-Numbered
 read c = c
 abbrev start : tie.In-Numbered → tie.Start
-start c = (read c).before.before.before
+start c = (read c).before.before
 
 enum_known-read : tie.Need-enum_known-read
 enum_known-read c = search rules
