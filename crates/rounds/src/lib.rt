@@ -1,3 +1,2 @@
 // The theorems about the radio's rounds. It has no code.
 #![tactic(auto)]
-

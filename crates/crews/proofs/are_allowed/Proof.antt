@@ -59,11 +59,10 @@ loop-i-smaller : tie.Need-loop-i-smaller invariant-loop-i decreases-loop-i
 loop-i-smaller c = omega arith
 
 loop-i-preserved : tie.Need-loop-i-preserved invariant-loop-i decreases-loop-i
-loop-i-preserved c =
-    (
-      omega arith,
-      allowed_step _ _ c.loop-i.invariant.1 (omega arith) c.requires (λ same. c.if-code-eq-LEAD_CODE.false (c.code_at-code.ensures ∙ same)) (sym (among c.before) ∙ c.if-is_among.false),
-    )
+loop-i-preserved c = (
+  omega arith,
+  allowed_step _ _ c.loop-i.invariant.1 (omega arith) c.requires (λ same. c.if-code-eq-LEAD_CODE.false (c.code_at-code.ensures ∙ same)) (sym (among c.before) ∙ c.if-is_among.false),
+)
 
 returns : tie.Need-returns invariant-loop-i decreases-loop-i
 returns c = allowed_end _ _ c.loop-i.invariant.1 c.loop-i-test.false

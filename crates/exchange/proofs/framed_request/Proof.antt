@@ -39,12 +39,14 @@ M s = s.args.message.now
 
 abbrev from1 : tie.Else-frame-lt-FRAME_ROOM → tie.Start
 from1 c = c.before.before.before.before.before.before
+
 room : (c : tie.Else-frame-lt-FRAME_ROOM) → frame_room ≤ length (F (from1 c))
 room c = c.if-frame-lt-FRAME_ROOM.false
 
 -- a Register right up to its invoke number
 abbrev reader : tie.In-Numbered → tie.After-read_register
 reader c = c.before
+
 abbrev asker : tie.In-Numbered → tie.Start
 asker c = from1 (reader c).before
 
@@ -60,8 +62,10 @@ reads c = was_numbered (M (asker c)) _ (reader c).read_register.ensures _ _ (bod
 -- what a passed check says
 abbrev up2 : tie.Else-not-list_sound → tie.In-Numbered
 up2 c = c.before.before
+
 abbrev up3 : tie.Else-refused-ne0 → tie.Else-not-list_sound
 up3 c = c.before.before
+
 sound_list : (c : tie.Else-not-list_sound) → list_sound (L (asker (up2 c))) ≡ true
 sound_list c = sym c.list_sound.ensures ∙ not-false _ c.if-not-list_sound.false-raw
 
@@ -121,6 +125,7 @@ enum_known-body-in-Asks-1 c = search rules
 -- the string inside
 abbrev passed : tie.In-Asks → tie.Else-refused-ne0
 passed c = c.before
+
 abbrev numbered : tie.In-Asks → tie.In-Numbered
 numbered c = up2 (up3 (passed c))
 

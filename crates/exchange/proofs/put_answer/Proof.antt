@@ -24,6 +24,7 @@ framed s a = answered_in s.args.first s.args.number s.args.frame.now (beside [] 
 -- the string of the answer, by its case
 abbrev start : tie.After-slice_known-1 → tie.Start
 start c = c.before.before
+
 within : (s : tie.Start) (a : RequestAnswer) → s.args.answer ≡ a
     → ((numbers_of (said_request a)).count ≤ length s.args.reply.now) × ((numbers_of (said_request a)).count ≤ most_result_octets)
 within s a e =

@@ -18,6 +18,7 @@ use Rattle.framers.proofs.put_register.Tie as tie
 
 abbrev past : tie.After-put_invoke → tie.After-put_header-at
 past c = c.before.before.before.before
+
 abbrev start : tie.After-put_invoke → tie.Start
 start c = (past c).before.before.before.before
 

@@ -44,11 +44,13 @@ enum_known-n c = search rules
 -- both checks passed
 abbrev passed : tie.After-write_request → tie.Else-transaction-gt-MOST_TRANSACTION
 passed c = c.before.before
+
 abbrev start : tie.After-write_request → tie.Start
 start c = (passed c).before.before.before.before
 
 abbrev asked : tie.In_default → tie.After-write_request
 asked c = c.before.before
+
 -- the request's writer refuses nothing but its fields
 broken : (c : tie.In_default) → request_sound (fields (start (asked c))) ≡ false
 broken c = go (request_sound (fields (start (asked c)))) refl
@@ -74,6 +76,7 @@ overflow_add-first c = search rules
 -- the string, where the request's writer wrote one
 abbrev writer : tie.In-Count → tie.After-write_request
 writer c = c.before.before
+
 abbrev count : tie.In-Count → ℕ
 count c = c.in-Count.n
 

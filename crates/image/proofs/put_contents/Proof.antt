@@ -12,6 +12,7 @@ use Rattle.image.proofs.put_contents.Tie as tie
 
 abbrev start : tie.After-recount → tie.Start
 start c = c.before.before.before.before.before.before
+
 counts : (k : tie.In-Counted)
     → (table_sound (start k.before).args.rows.now ≡ true)
     × (recount (start k.before).args.rows.now ≡ figure_words k.in-Counted.counted)

@@ -16,6 +16,7 @@ use Rattle.image.proofs.put_image.Tie as tie
 
 abbrev start : tie.After-store_words-rows → tie.Start
 start c = c.before.before.before.before.before
+
 -- there is room for all of them
 room : (s : tie.Start) → word_octets * (length s.args.table.now + length s.args.list.now) + trailer_octets ≤ length s.args.out.now
 room s = omega (arith, s.requires, length_image s.args.table.now s.args.list.now)
@@ -27,6 +28,7 @@ one c = c.store_words-rows.ensures
 -- the list's behind them
 abbrev first : tie.After-store_words → tie.After-store_words-rows
 first c = c.before.before.before.before
+
 abbrev mid : tie.After-store_words → List ℕ
 mid c =
     let n = (first c).store_words-rows.result in

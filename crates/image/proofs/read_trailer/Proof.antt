@@ -17,6 +17,7 @@ use Rattle.image.proofs.read_trailer.Tie as tie
 
 abbrev start : tie.After-load_words → tie.Start
 start c = c.before.before.before.before
+
 abbrev image : tie.After-load_words → List ℕ
 image c = (start c).args.image.now
 

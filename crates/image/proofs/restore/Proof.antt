@@ -30,6 +30,7 @@ whole s = let k = known s in rw (k.numbers, k.subscribers) (right_length s.args.
 
 abbrev start : tie.After-table_room-rows → tie.Start
 start c = c.before.before.before.before.before.before
+
 -- so many rows fit the arrays
 rows_fit : (c : tie.After-table_room-rows) → words (start c) ≤ length c.table_room-rows.result
 rows_fit c = let k = known (start c) in omega (arith, c.table_room-rows.ensures, k.numbers, k.right.numbers)
@@ -40,6 +41,7 @@ others_fit c = let k = known (start c.before) in omega (arith, c.list_room-other
 -- both are loaded
 abbrev second : tie.After-others-2-1 → tie.After-list_room-others
 second c = c.before.before.before.before.before.before
+
 abbrev first : tie.After-others-2-1 → tie.After-table_room-rows
 first c = (second c).before
 

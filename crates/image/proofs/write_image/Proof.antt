@@ -17,6 +17,7 @@ use Rattle.image.proofs.write_image.Tie as tie
 
 abbrev start : tie.After-list_sound → tie.Start
 start c = c.before.before.before.before.before
+
 abbrev state : tie.After-list_sound → State
 state c = beside (start c).args.table.now (start c).args.figures.now
 

@@ -20,6 +20,7 @@ filling c = not-false _ c.if-not-state.false
 
 abbrev start : tie.Else-not-may_follow → tie.Start
 start c = c.before.before.before.before.before.before
+
 may :
     (c : tie.Else-not-may_follow)
     → may_follow row_words most_numbers (start c).args.number.0 (take (row_words * (start c).args.state.numbers) (start c).args.table.now) ≡ true

@@ -18,6 +18,7 @@ filling c = not-false _ c.if-not-state.false
 
 abbrev start : tie.Else-not-may_follow → tie.Start
 start c = c.before.before.before.before.before.before
+
 may :
     (c : tie.Else-not-may_follow)
     → may_follow subscriber_words most_subscribers (start c).args.msisdn.0 (take (subscriber_words * (start c).args.state.subscribers) (start c).args.list.now) ≡ true

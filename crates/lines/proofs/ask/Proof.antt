@@ -17,6 +17,7 @@ use Rattle.lines.proofs.ask.Tie as tie
 
 abbrev start : tie.In-Count → tie.Start
 start c = c.before.before.before.before.before.before.before.before.before.before.before
+
 packs :
     (c : tie.In-Count)
     → Counted (octets_for (length (start c).args.string.now)) (takes (start c).args.string.now) (packed (start c).args.string.now) (start c).args.packed.now

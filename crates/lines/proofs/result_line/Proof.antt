@@ -16,8 +16,10 @@ use Rattle.lines.proofs.result_line.Tie as tie
 -- the letter and the space are put
 abbrev head : tie.After-report-n → tie.After-put-at
 head c = c.before.before.before.before.before.before
+
 abbrev start : tie.After-put-at → tie.Start
 start c = c.before.before.before.before.before.before.before.before
+
 room : (c : tie.After-report-n) → (head c).put-at.result + c.report-n.result < length (put_mid (head c).put-at.result (length (head c).put-at.new.out - (head c).put-at.result) (head c).put-at.new.out c.report-n.new.out)
 room c = line_room_lem (head c).put-at.ensures c.report-n.ensures c.report-n.auto.out (omega arith)
 

@@ -16,8 +16,10 @@ use Rattle.lines.proofs.sending_line.Tie as tie
 -- the letter and the space are put
 abbrev head : tie.After-send-n → tie.After-put-at
 head c = c.before.before.before.before.before.before
+
 abbrev start : tie.After-put-at → tie.Start
 start c = c.before.before.before.before.before.before.before.before
+
 room : (c : tie.After-send-n) → (head c).put-at.result + c.send-n.result < length (put_mid (head c).put-at.result (length (head c).put-at.new.out - (head c).put-at.result) (head c).put-at.new.out c.send-n.new.out)
 room c = line_room_lem (head c).put-at.ensures c.send-n.ensures c.send-n.auto.out (omega arith)
 

@@ -35,6 +35,7 @@ F c = with_additional c.args.fields (A c)
 
 abbrev start : tie.After-flags_of-flags → tie.Start
 start c = c.before.before.before.before.before.before.before
+
 abbrev flags : tie.Start → ℕ
 flags c = flags_of c.args.list.now c.args.requester.0
 

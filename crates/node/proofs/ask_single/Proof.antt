@@ -14,6 +14,7 @@ T c = beside c.args.table.now c.args.figures.now
 
 abbrev start : tie.After-row_of-found → tie.Start
 start c = c.before.before.before.before.before
+
 -- where the row was found
 abbrev asks : tie.In-At → tie.Start
 asks c = start c.before

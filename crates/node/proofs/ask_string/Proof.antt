@@ -41,6 +41,7 @@ S c = c.args.string.now
 
 abbrev from1 : tie.After-is_number → tie.Start
 from1 c = c.before.before.before.before.before.before
+
 -- the requester is a number
 number : (c : tie.Else-not-is_number) → is_number (Q (from1 c.before)).0 ≡ true
 number c = sym c.is_number.ensures ∙ not-false _ c.if-not-is_number.false-raw
@@ -80,6 +81,7 @@ enum_told-1 c = search rules
 -- the reader's answer, and where the requester was tested
 abbrev tested : tie.After-read_request-read → tie.Else-not-is_number
 tested r = r.before.before.before.before
+
 abbrev asker : tie.After-read_request-read → tie.Start
 asker r = from1 (tested r).before
 
@@ -91,6 +93,7 @@ returns-in_default c =
 
 abbrev reader : tie.In-Read → tie.After-read_request-read
 reader c = c.before
+
 abbrev fields : tie.In-Read → Fields
 fields c = c.in-Read.fields
 

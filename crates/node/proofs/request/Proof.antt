@@ -34,10 +34,13 @@ S c = c.args.string.now
 -- from one passed check to the one before it
 abbrev from1 : tie.Else-reply-lt-BUFFER_ROOM → tie.Start
 from1 c = c.before.before.before.before.before.before
+
 abbrev up2 : tie.Else-not-list_sound → tie.Else-reply-lt-BUFFER_ROOM
 up2 c = c.before.before
+
 abbrev up3 : tie.Else-refused-ne0 → tie.Else-not-list_sound
 up3 c = c.before.before
+
 -- what a passed check says
 room : (c : tie.Else-reply-lt-BUFFER_ROOM) → buffer_room ≤ length (B (from1 c))
 room c = c.if-reply-lt-BUFFER_ROOM.false

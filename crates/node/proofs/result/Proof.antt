@@ -16,12 +16,14 @@ T c = beside c.args.table.now c.args.figures.now
 
 abbrev from1 : tie.Else-refused-ne0 → tie.Start
 from1 c = c.before.before.before.before
+
 sound : (c : tie.Else-refused-ne0) → state_sound (T (from1 c)) ≡ true
 sound c = state_passes _ _ c.refusal-refused.ensures c.if-refused-ne0.false
 
 -- where the row was found
 abbrev up : tie.In-At → tie.Else-refused-ne0
 up c = c.before.before.before.before
+
 place : (c : tie.In-At) → row_for (T (from1 (up c))) (from1 (up c)).args.number.0 ≡ At c.in-At.row
 place c = sym c.row_of-found.ensures ∙ c.in-At.is
 

@@ -25,8 +25,10 @@ B c = c.args.buffer.now
 
 abbrev from1 : tie.Else-buffer-lt-BUFFER_ROOM → tie.Start
 from1 c = c.before.before.before.before
+
 abbrev up2 : tie.Else-refused-ne0 → tie.Else-buffer-lt-BUFFER_ROOM
 up2 c = c.before.before
+
 -- what a passed check says
 room : (c : tie.Else-buffer-lt-BUFFER_ROOM) → buffer_room ≤ length (B (from1 c))
 room c = c.if-buffer-lt-BUFFER_ROOM.false
@@ -40,6 +42,7 @@ number c = sym c.is_number.ensures ∙ not-false _ c.if-not-is_number.false-raw
 -- where the row was found
 abbrev up : tie.In-At → tie.Else-refused-ne0
 up c = c.before.before.before.before
+
 place : (c : tie.In-At) → row_for (T (from1 (up2 (up c)))) (from1 (up2 (up c))).args.number.0 ≡ At c.in-At.row
 place c = sym c.row_of-found.ensures ∙ c.in-At.is
 

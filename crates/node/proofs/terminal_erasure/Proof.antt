@@ -25,8 +25,10 @@ B c = c.args.reply.now
 
 abbrev from1 : tie.Else-reply-lt-BUFFER_ROOM → tie.Start
 from1 c = c.before.before.before.before
+
 abbrev up2 : tie.Else-refused-ne0 → tie.Else-reply-lt-BUFFER_ROOM
 up2 c = c.before.before
+
 abbrev tested : tie.After-is_number-2 → tie.Start
 tested c = from1 (up2 c.before.before)
 

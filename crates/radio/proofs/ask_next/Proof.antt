@@ -35,6 +35,7 @@ enum_known-octets c = search rules
 -- where a question is open
 abbrev opened : tie.After-write_request → tie.Else-number-eq0
 opened c = c.before.before.before.before
+
 abbrev start : tie.After-write_request → tie.Start
 start c = (opened c).before.before.before.before
 

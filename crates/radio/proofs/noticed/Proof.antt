@@ -20,6 +20,7 @@ quiet-requires c κs = search rules
 
 abbrev start : tie.After-sound → tie.Start
 start c = c.before.before.before
+
 returns-then-not-sound : tie.Need-returns-then-not-sound
 unfolding noticing
 returns-then-not-sound c =

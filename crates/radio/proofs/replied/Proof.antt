@@ -21,6 +21,7 @@ quiet-requires c κs = search rules
 
 abbrev start : tie.After-sound → tie.Start
 start c = c.before.before.before
+
 returns-then-not-sound : tie.Need-returns-then-not-sound
 unfolding replying
 returns-then-not-sound c =
@@ -46,6 +47,7 @@ open_number-number-requires c κs = (sound_is (start c.before.before.before).arg
 -- whether the reply is the open question's, as the code tests it
 abbrev asked : tie.After-struct_known-1 → tie.Else-question-lt-WRITER_ROOM
 asked c = c.before.before.before
+
 tested : (c : tie.After-struct_known-1) (b : Bool) → let s = start (asked c).before.before in
     (not (eqb c.open_number-number.result 0) && eqb s.args.invoke s.args.radio.invoke) ≡ b → is_open s.args.radio s.args.invoke ≡ b
 tested c b e =

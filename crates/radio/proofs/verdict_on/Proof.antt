@@ -21,6 +21,7 @@ own c = c.args.own
 
 abbrev first : tie.After-begins_with-2 → tie.After-begins_with
 first c = c.before.before.before.before
+
 tested : (c : tie.After-begins_with) (b : Bool) → (c.begins_with.result && eqb (length (text c)) 2) ≡ b → is62 (text c) ≡ b
 tested c b e = ap (λ (x : Bool). x && eqb (length (text c)) 2) (sym c.begins_with.ensures) ∙ e
 

@@ -18,6 +18,7 @@ written c = digits_writes _ _ _ _ c.requires.0 (omega arith) c.write_digits-writ
 
 abbrev start : tie.In-Count → tie.Start
 start c = c.before.before.before.before.before.before
+
 digits :
     (c : tie.In-Count)
     → Stands (digits_of (start c).args.addressee.0) (start c).args.out.now c.in-Count.at c.write_digits-written.new.out

@@ -10,6 +10,7 @@ use Rattle.routes.proofs.put_digits.Tie as tie
 
 abbrev start : tie.After-put-arg-2-1 → tie.Start
 start c = c.before.before.before.before.before
+
 -- both fit
 fits : (c : tie.After-put-arg-2-1) → length (start c).args.home.now + length (start c).args.asked.now ≤ length (start c).args.out.now
 fits c = let s = start c in both_fit s.args.home.now s.args.asked.now (length s.args.out.now) s.args.coded c.if-coded.false s.requires

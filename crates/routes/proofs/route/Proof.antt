@@ -27,6 +27,7 @@ D c = c.args.digits.now
 
 abbrev start : tie.After-begins_with → tie.Start
 start c = c.before.before.before.before
+
 -- the digits read as their number
 read : (c : tie.After-read_number) → c.read_number.result ≡ Number (stored_form (D (start c.before.before))) (length (D (start c.before.before)))
 read c = let s = start c.before.before in c.read_number.ensures ∙ digits_read (D s) s.requires.1.0 s.requires.1.1 s.requires.1.2
@@ -37,6 +38,7 @@ ours c = sym c.begins_with.ensures ∙ not-false _ c.if-not-begins_with.false-ra
 
 abbrev asked : tie.In-Number → tie.After-read_number
 asked c = c.before
+
 abbrev from : tie.In-Number → tie.Start
 from c = start (asked c).before.before
 
@@ -46,6 +48,7 @@ number c = let r = read (asked c) in let g = c.in-Number.is in cc
 -- where the row was found
 abbrev sought : tie.In-At → tie.In-Number
 sought c = c.before.before
+
 place : (c : tie.In-At) → row_of (T (from (sought c))) (stored_form (D (from (sought c)))) ≡ At c.in-At.row
 place c = ap (row_of (T (from (sought c)))) (sym (number (sought c))) ∙ sym c.row_of.ensures ∙ c.in-At.is
 

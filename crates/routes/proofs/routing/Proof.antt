@@ -20,6 +20,7 @@ use Rattle.routes.proofs.routing.Tie as tie
 
 abbrev start : tie.After-table_sound → tie.Start
 start c = c.before.before.before.before
+
 abbrev T : tie.Start → List ℕ
 T s = s.args.table.now
 

@@ -11,6 +11,7 @@ use Rattle.states.proofs.refusal.Tie as tie
 
 abbrev start : tie.After-recount → tie.Start
 start c = c.before.before.before
+
 counts : (k : tie.In-Counted)
     → (table_sound (start k.before).args.table.now ≡ true)
     × (recount (start k.before).args.table.now ≡ figure_words k.in-Counted.counted)

@@ -13,6 +13,7 @@ S c = beside c.args.table.now c.args.figures.now
 
 abbrev start : tie.After-counts_of-lost → tie.Start
 start c = c.before.before.before.before
+
 -- what the row's record counted
 lost : (c : tie.After-counts_of-lost) → figure_words c.counts_of-lost.result ≡ counts_of (record_in (S (start c)) (start c).args.row)
 lost c = c.counts_of-lost.ensures ∙ ap counts_of c.load-before.ensures

@@ -37,10 +37,13 @@ text c = c.args.text.now
 
 abbrev past_service : tie.In-Read-read_service → tie.In-Read
 past_service c = c.before.before.before
+
 abbrev past_number : tie.In-Read-read_number_field → tie.In-Read-read_service
 past_number c = c.before.before.before
+
 abbrev past_erasing : tie.In-Read-read_erasing → tie.In-Read-read_number_field
 past_erasing c = c.before.before.before
+
 abbrev cursor1 : tie.In-Read → ℕ
 cursor1 c = c.in-Read.cursor
 
@@ -185,6 +188,7 @@ crew_allowed-requires c κs = tt
 
 abbrev past_count : tie.After-crew_allowed → tie.In-Read-read_erasing
 past_count c = c.before.before.before.before
+
 abbrev fields : tie.After-crew_allowed → Fields
 fields c =
     let e = past_count c in

@@ -28,12 +28,16 @@ text c = c.args.text.now
 
 abbrev past_number : tie.In-Read → tie.Else-not-begins_with
 past_number c = c.before.before.before
+
 abbrev past_88 : tie.Else-not-begins_with_three → tie.In-Read
 past_88 c = c.before.before.before
+
 abbrev past_supervisor : tie.In-Read-read_supervisor → tie.Else-not-begins_with_three
 past_supervisor c = c.before.before.before
+
 abbrev past_crew : tie.In-Read-read_additional → tie.In-Read-read_supervisor
 past_crew c = c.before.before.before
+
 abbrev cursor1 : tie.In-Read → ℕ
 cursor1 c = 6 + c.in-Read.n
 

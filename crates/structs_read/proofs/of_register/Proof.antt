@@ -9,6 +9,7 @@ use Rattle.structs_read.proofs.of_register.Tie as tie
 -- what was read, from the match on what stands behind the invoke number
 abbrev read : tie.In-Numbered → tie.In-Numbered
 read c = c
+
 abbrev start : tie.In-Numbered → tie.Start
 start c = (read c).before.before
 

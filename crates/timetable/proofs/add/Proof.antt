@@ -16,6 +16,7 @@ use Rattle.timetable.proofs.add.Tie as tie
 
 abbrev from : tie.Else-refused-ne0 → tie.Start
 from c = c.before.before.before.before
+
 -- what the checks passed have shown
 passed : (c : tie.Else-refused-ne0) → let a = (from c).args in (a.used ≤ rows_in a.words.now) × (state_sound (beside (in_use a.words.now a.used) a.figures.now) ≡ true)
 passed c = let a = (from c).args in buffer_passes a.words.now a.used a.figures.now _ c.refusal-refused.ensures c.if-refused-ne0.false
@@ -25,6 +26,7 @@ form c = sym c.is_number.ensures ∙ not-false _ c.if-not-is_number.false-raw
 
 abbrev up : tie.Else-is_there → tie.Else-refused-ne0
 up c = c.before.before.before.before
+
 absent : (c : tie.Else-is_there) → let a = (from (up c)).args in is_there (row_of (in_use a.words.now a.used) a.number.0) ≡ false
 absent c = sym c.is_there.ensures ∙ c.if-is_there.false
 

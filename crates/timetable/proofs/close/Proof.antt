@@ -20,6 +20,7 @@ T c = beside c.args.table.now c.args.figures.now
 
 abbrev from : tie.Else-refused-ne0 → tie.Start
 from c = c.before.before.before.before
+
 sound : (c : tie.Else-refused-ne0) → state_sound (T (from c)) ≡ true
 sound c = state_passes (T (from c)) _ c.refusal-refused.ensures c.if-refused-ne0.false
 
@@ -29,6 +30,7 @@ form c = sym c.is_number.ensures ∙ not-false _ c.if-not-is_number.false-raw
 -- where the row was found
 abbrev up : tie.In-At → tie.Else-not-is_number
 up c = c.before.before
+
 place : (c : tie.In-At) → let s = from (up c).before.before in row_of s.args.table.now s.args.number.0 ≡ At c.in-At.row
 place c = sym c.row_of.ensures ∙ c.in-At.is
 

@@ -15,6 +15,7 @@ use Rattle.timetable.proofs.compact.Tie as tie
 
 abbrev from : tie.Else-refused-ne0 → tie.Start
 from c = c.before.before.before.before
+
 -- what the checks passed have shown
 passed : (c : tie.Else-refused-ne0) → let a = (from c).args in (a.used ≤ rows_in a.words.now) × (state_sound (beside (in_use a.words.now a.used) a.figures.now) ≡ true)
 passed c = let a = (from c).args in buffer_passes a.words.now a.used a.figures.now _ c.refusal-refused.ensures c.if-refused-ne0.false

@@ -23,6 +23,7 @@ B c = c.args.reply.now
 
 abbrev start : tie.After-load-record → tie.Start
 start c = c.before.before.before.before
+
 load-record-requires : tie.Need-load-record-requires
 load-record-requires c κs = (c.requires.1, state_row (T c.before.before.before) c.args.row c.requires.0 c.requires.1)
 

@@ -13,6 +13,7 @@ T c = beside c.args.table.now c.args.figures.now
 
 abbrev start : tie.After-result-step → tie.Start
 start c = c.before.before.before.before
+
 -- what the row's record comes to
 step : (c : tie.After-result-step) (r : Resulted) → c.result-step.result ≡ r → resulted (start c).args.kind (start c).args.clock (record_in (T (start c)) (start c).args.row) ≡ r
 step c r e = ap (resulted (start c).args.kind (start c).args.clock) (sym c.load-held.ensures) ∙ sym c.result-step.ensures ∙ e

@@ -22,6 +22,7 @@ R c = record_in (T c) c.args.row
 
 abbrev start : tie.After-load-held → tie.Start
 start c = c.before.before.before.before
+
 sound : (c : tie.Start) → record_sound (R c) ≡ true
 sound c = record_sound_lem (T c).table c.args.row (state_row (T c) c.args.row c.requires.0.0 c.requires.0.1)
 

@@ -50,6 +50,7 @@ returns-in_default c = counts_only _ _ (written c.before.before).0 c.in_default.
 
 abbrev start : tie.In-Count → tie.Start
 start c = c.before.before.before.before.before
+
 count : (c : tie.In-Count) → c.in-Count.n ≡ length (digits_of (told (start c)))
 count c = cc ((written c.before.before).0, c.in-Count.is)
 

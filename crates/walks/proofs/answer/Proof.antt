@@ -14,6 +14,7 @@ use Rattle.walks.proofs.answer.Tie as tie
 
 abbrev start : tie.After-write_reply-count → tie.Start
 start c = c.before.before.before
+
 slice_bounds-write_reply-end : tie.Need-slice_bounds-write_reply-end
 slice_bounds-write_reply-end c = search rules
 

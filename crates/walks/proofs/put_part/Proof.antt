@@ -13,8 +13,10 @@ use Rattle.walks.proofs.put_part.Tie as tie
 
 abbrev start : tie.After-put_numbered-at → tie.Start
 start c = c.before.before.before.before.before
+
 abbrev past : tie.After-digits-1 → tie.After-put_numbered-at
 past c = c.before.before.before.before
+
 -- the digits have room for every code
 whole : (c : tie.After-digits-1) → length (start (past c)).args.codes.digits ≡ 20
 whole c = (start (past c)).requires.1

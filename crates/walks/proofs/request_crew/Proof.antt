@@ -6,8 +6,10 @@ use Rattle.walks.proofs.request_crew.Tie as tie
 
 abbrev past : tie.After-crew_number-n → tie.After-walk-tally
 past c = c.before.before.before.before.before
+
 abbrev start : tie.After-walk-tally → tie.Start
 start c = c.before.before.before.before.before.before.before
+
 walk-tally-requires : tie.Need-walk-tally-requires
 walk-tally-requires c κs = search rules
 

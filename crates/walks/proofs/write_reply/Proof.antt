@@ -18,8 +18,10 @@ use Rattle.walks.proofs.write_reply.Tie as tie
 
 abbrev start : tie.After-put_numeral-at → tie.Start
 start c = c.before.before.before.before.before
+
 abbrev past : tie.After-put_part → tie.After-put_numeral-at
 past c = c.before.before.before.before
+
 -- ---- the text with the successes
 
 abbrev count : tie.After-put_part → ℕ

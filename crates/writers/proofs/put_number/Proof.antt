@@ -23,6 +23,7 @@ enum_known-at c = search rules
 
 abbrev start : tie.After-write_digits → tie.Start
 start c = c.before.before.before
+
 -- the digits are written
 written :
     (c : tie.After-write_digits)

@@ -27,6 +27,7 @@ fields s = request_from s.args.operation s.args.number s.args.erasing s.args.add
 
 abbrev start : tie.After-write_text-n → tie.Start
 start c = c.before.before.before.before
+
 -- the text stands, and its front is lent to the packer
 abbrev text : tie.After-write_text-n → List ℕ
 text c = c.write_text-n.new.text
@@ -51,6 +52,7 @@ enum_known-count c = search rules
 
 abbrev past_pack : tie.After-pack → tie.After-write_text-n
 past_pack c = c.before.before.before.before
+
 -- the packer has nothing to refuse
 packs : (c : tie.After-pack) → c.pack.result ≡ Count (octets_for (length (front (past_pack c))))
 packs c =

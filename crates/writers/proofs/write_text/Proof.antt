@@ -23,10 +23,13 @@ few s = leb-true (length s.args.additional.now) most_additional s.requires.0.few
 
 abbrev past_number : tie.After-put_number → tie.After-put_operation-at
 past_number c = c.before.before.before.before
+
 abbrev past_erasing : tie.After-put_erasing → tie.After-put_number
 past_erasing c = c.before.before.before.before
+
 abbrev start1 : tie.After-put_operation-at → tie.Start
 start1 c = c.before.before.before.before
+
 abbrev start2 : tie.After-put_number → tie.Start
 start2 c = start1 (past_number c)
 
