@@ -1,4 +1,4 @@
-# run: the program on document 01's example. test: the gate. wrong-programs: all of them, each from nothing. bench: the figures of docs/PERFORMANCE.md.
+# run: the program on document 01's example. test: the gate. wrong-programs: all of them, and how each is refused. bench: the figures of docs/PERFORMANCE.md.
 # install: archives, headers and ffn.pc under PREFIX, for C builds.
 .PHONY: run test wrong-programs bench install
 # Both archives are built in one target folder.
@@ -22,7 +22,8 @@ test:
 
 wrong-programs:
 	@$(need_rt)
-	@tests/wrong-programs
+	@mkdir -p target
+	@rt must-fail 2>&1 | tee target/wrong-programs.log | tests/wrong-programs
 
 bench:
 	@. tests/processor.sh; is_x86_64 || { echo "not measured: the library is x86-64 code, and a time on $$machine would say nothing" >&2; exit 1; }
