@@ -1,5 +1,5 @@
 -- The place of an octet, one octet after the other. Assumes nothing.
-use Rattle.std.proofs.Common.{◌≡◌, ℕ, suc, ◌+◌, ◌-◌, ◌<◌, ◌≤◌, Bool, true, false, eqb, List, [], ◌∷◌, length, get_or, take, drop, refl, ap, sym, ◌∙◌, arith, add-one, drop-cons}
+use Rattle.std.proofs.Common.{◌≡◌, ℕ, suc, ◌+◌, ◌-◌, ◌<◌, ◌≤◌, List, ◌∷◌, length, get_or, arith, add-one, drop-cons}
 use Rattle.std.proofs.Common.{eq-eqb}
 use borrow.Author.Tests.{ne_eqb}
 use Rattle.octets.specs.Octets.{index_of, index_after, slice}
