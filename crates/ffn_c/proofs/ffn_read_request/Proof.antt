@@ -30,7 +30,7 @@ shape_of-text c = search rules
 
 returns : tie.Need-returns
 returns c =
-    rw (c.of_Fields.ensures, ap (λ (x : WriteOutcome). x.buffer) c.unpack.ensures)
+    rw (c.of_fields.ensures, ap (λ (x : WriteOutcome). x.buffer) c.unpack.ensures)
     (reads_fields _ _ c.read_request-read.result c.read_request-read.ensures _ c.in-Read.is)
 
 pub ffn_read_request_spec : {M : Type 1} → statement M
