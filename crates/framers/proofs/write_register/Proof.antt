@@ -27,7 +27,7 @@ abbrev frame : tie.Start → List ℕ
 frame s = s.args.frame.now
 
 returns-then-frame-lt-FRAME_ROOM : tie.Need-returns-then-frame-lt-FRAME_ROOM
-returns-then-frame-lt-FRAME_ROOM c = register_short _ _ (fields c.before.before.before) (frame c.before.before.before) c.if-frame-lt-FRAME_ROOM.true
+returns-then-frame-lt-FRAME_ROOM c = register_short _ _ _ _ c.if-frame-lt-FRAME_ROOM.true
 
 returns-then-transaction-gt-MOST_TRANSACTION : tie.Need-returns-then-transaction-gt-MOST_TRANSACTION
 returns-then-transaction-gt-MOST_TRANSACTION c = register_identifier _ _ (fields c.before.before.before.before) (frame c.before.before.before.before) c.if-frame-lt-FRAME_ROOM.false c.if-transaction-gt-MOST_TRANSACTION.true
