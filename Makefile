@@ -1,7 +1,7 @@
 # run: the program on document 01's example. test: the gate. wrong-programs: all of them, and how each is refused. bench: the figures of docs/PERFORMANCE.md.
 # install: archives, headers and ffn.pc under PREFIX, for C builds.
 .PHONY: run test wrong-programs bench install
-# Both archives are built in one target folder.
+# Both archives stand on the same libraries.
 .NOTPARALLEL:
 
 PREFIX ?= /usr/local
@@ -13,8 +13,7 @@ need_rt = command -v rt >/dev/null || { echo "missing: rt, the Rattle kit's comm
 run:
 	@$(need_rt)
 	@test -x target/bin/ffn || echo "proving and building the program first: some minutes" >&2
-	@mkdir -p target
-	@rt check ffn >target/run.log 2>&1 || { tail -n 20 target/run.log; exit 1; }
+	@tests/build ffn
 	@tests/x86-64 target/bin/ffn <crates/ffn/stdin
 
 test:
@@ -29,8 +28,7 @@ bench:
 	@. tests/processor.sh; is_x86_64 || { echo "not measured: the library is x86-64 code, and a time on $$machine would say nothing" >&2; exit 1; }
 	@$(need_rt)
 	@command -v cargo >/dev/null || { echo "missing: cargo, Debian's Rust"; exit 1; }
-	@rt staticlib ffn_c >/dev/null
-	@rt staticlib radio_c >/dev/null
+	@tests/build ffn_c radio_c
 	@cd rust/bench && cargo run --release --offline --quiet
 
 install: $(FFN_LIB_DIR)/libffn_c.a $(FFN_LIB_DIR)/libradio_c.a
@@ -40,8 +38,7 @@ install: $(FFN_LIB_DIR)/libffn_c.a $(FFN_LIB_DIR)/libradio_c.a
 	@sed 's|@PREFIX@|$(prefix)|' include/ffn.pc.in >$(place)/lib/pkgconfig/ffn.pc
 	@chmod 644 $(place)/lib/pkgconfig/ffn.pc
 
-target/staticlib/lib%.a: crates.txt $(shell find crates -name '*.rt' -o -name '*.antt')
+target/staticlib/lib%.a: crates.txt $(shell find crates -name out -prune -o \( -name '*.rt' -o -name '*.antt' \) -print)
 	@$(need_rt)
 	@echo "proving and building lib$*.a first: some minutes" >&2
-	@mkdir -p target
-	@rt staticlib $* >target/staticlib.log 2>&1 || { tail -n 20 target/staticlib.log; exit 1; }
+	@tests/build $*

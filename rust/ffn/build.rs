@@ -1,6 +1,5 @@
-//! Finds `libffn_c.a` and `libradio_c.a`, which `rt staticlib ffn_c` and `rt
-//! staticlib radio_c` write: in the folder that FFN_LIB_DIR names, or in the
-//! repository's own.
+//! Finds `libffn_c.a` and `libradio_c.a`, which `tests/build ffn_c radio_c`
+//! makes: in the folder that FFN_LIB_DIR names, or in the repository's own.
 
 use std::path::PathBuf;
 
@@ -18,7 +17,7 @@ fn main() {
         let library = folder.join(format!("lib{name}.a"));
         assert!(
             library.is_file(),
-            "no {}: run `rt staticlib {name}`, or set FFN_LIB_DIR",
+            "no {}: run `tests/build {name}`, or set FFN_LIB_DIR",
             library.display()
         );
         println!("cargo:rerun-if-changed={}", library.display());
