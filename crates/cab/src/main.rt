@@ -3,7 +3,7 @@
 // terminal clear her number of the other root, and the notice names nobody. Each string that passes is printed as text, a line each. What is printed, in the file stdout, was worked out by hand from documents 01 and 02.
 #![tactic(auto)]
 
-ghost use Rattle.io.specs.Counts.{IsPrefixLen};
+ghost use Rattle.streams.specs.Counts.{IsPrefixLen};
 
 use answers::Written;
 use node::BUFFER_ROOM;
@@ -54,54 +54,52 @@ const DIGITS: usize = 15;
 
 // ---- lines
 
-fn put(characters: &[u8]) {
-    streams::write_output(b"cab", characters);
+fn put(rt: &(impl Print + Eprint), characters: &[u8]) {
+    streams::write_output(rt, b"cab", characters);
 }
 
 // A packed string as text, to the line's end.
-fn put_string(string: &[u8]) {
+fn put_string(rt: &(impl Print + Eprint), string: &[u8]) {
     let mut text = [0u8; CHARACTERS];
     let Written::Count(n) = packing::unpack(string, &mut text) else {
-        put(b"unreadable\n");
+        put(rt, b"unreadable\n");
         return;
     };
     let n = streams::within(n, &text);
-    put(&text[..n]);
-    put(b"\n");
+    put(rt, &text[..n]);
+    put(rt, b"\n");
 }
 
 // A number's digits, without the 1 of its stored form.
-fn put_number(number: u64) {
+fn put_number(rt: &(impl Print + Eprint), number: u64) {
     let mut digits = [0u8; DIGITS];
     let Written::Count(n) = numbers::write_digits(number, &mut digits) else {
-        put(b"no number");
+        put(rt, b"no number");
         return;
     };
     let n = streams::within(n, &digits);
-    put(&digits[..n]);
+    put(rt, &digits[..n]);
 }
 
-fn put_count(n: u8) {
-    let mut digits = [0u8; 20];
-    let count = io::decimal(n as u64, &mut digits);
-    put(&digits[..count]);
+fn put_count(rt: &(impl Print + Eprint), n: u8) {
+    streams::write_number(rt, b"cab", n as u64);
 }
 
 // A subscriber by document 01's letter.
-fn put_subscriber(msisdn: u64) {
+fn put_subscriber(rt: &(impl Print + Eprint), msisdn: u64) {
     match msisdn {
-        DRIVER => put(b"A"),
-        SUPERVISOR => put(b"B"),
-        _ => put_number(msisdn),
+        DRIVER => put(rt, b"A"),
+        SUPERVISOR => put(rt, b"B"),
+        _ => put_number(rt, msisdn),
     }
 }
 
 // A string that passes between the node and a subscriber.
-fn put_passing(way: &[u8], msisdn: u64, string: &[u8]) {
-    put(way);
-    put_subscriber(msisdn);
-    put(b" ");
-    put_string(string);
+fn put_passing(rt: &(impl Print + Eprint), way: &[u8], msisdn: u64, string: &[u8]) {
+    put(rt, way);
+    put_subscriber(rt, msisdn);
+    put(rt, b" ");
+    put_string(rt, string);
 }
 
 // ---- the node
@@ -140,6 +138,7 @@ fn reply_octets(answer: RequestAnswer) -> usize {
 
 // A packed request, and the node's reply; how many octets that has.
 fn ask_node(
+    rt: &(impl Print + Eprint),
     table: &mut [u64],
     figures: &mut [u64],
     reply: &mut [u8],
@@ -159,29 +158,41 @@ fn ask_node(
         string,
     );
     let octets = streams::within(reply_octets(answer), reply);
-    put_passing(b"node -> ", requester, &reply[..octets]);
+    put_passing(rt, b"node -> ", requester, &reply[..octets]);
     octets
 }
 
 // A request by its text.
-fn request(table: &mut [u64], figures: &mut [u64], requester: u64, text: &[u8]) {
+fn request(
+    rt: &(impl Print + Eprint),
+    table: &mut [u64],
+    figures: &mut [u64],
+    requester: u64,
+    text: &[u8],
+) {
     let mut string = [0u8; WRITER_ROOM];
     let mut reply = [0u8; BUFFER_ROOM];
     let Written::Count(n) = packing::pack(text, &mut string) else {
-        put(b"nothing packed\n");
+        put(rt, b"nothing packed\n");
         return;
     };
     let n = streams::within(n, &string);
-    put_passing(b"node <- ", requester, &string[..n]);
-    ask_node(table, figures, &mut reply, requester, &string[..n]);
+    put_passing(rt, b"node <- ", requester, &string[..n]);
+    ask_node(rt, table, figures, &mut reply, requester, &string[..n]);
 }
 
 // Staff at the node's terminal clear a number, naming its holder.
-fn clear(table: &mut [u64], figures: &mut [u64], number: u64, holder: u64) {
-    put(b"terminal clears ");
-    put_number(number);
-    put(b" of ");
-    put_subscriber(holder);
+fn clear(
+    rt: &(impl Print + Eprint),
+    table: &mut [u64],
+    figures: &mut [u64],
+    number: u64,
+    holder: u64,
+) {
+    put(rt, b"terminal clears ");
+    put_number(rt, number);
+    put(rt, b" of ");
+    put_subscriber(rt, holder);
     let mut reply = [0u8; BUFFER_ROOM];
     let answer = node::terminal_erasure(
         table,
@@ -191,35 +202,41 @@ fn clear(table: &mut [u64], figures: &mut [u64], number: u64, holder: u64) {
         Msisdn(holder),
     );
     let octets = streams::within(reply_octets(answer), &reply);
-    put(b"\nnode -> terminal ");
-    put_string(&reply[..octets]);
+    put(rt, b"\nnode -> terminal ");
+    put_string(rt, &reply[..octets]);
 }
 
 // The notice to the one who was forced off; how many octets it has.
-fn send_notice(table: &mut [u64], figures: &mut [u64], number: u64, notice: &mut [u8]) -> usize
+fn send_notice(
+    rt: &(impl Print + Eprint),
+    table: &mut [u64],
+    figures: &mut [u64],
+    number: u64,
+    notice: &mut [u8],
+) -> usize
     ensures { IsPrefixLen result notice.new }
 {
     let number = FunctionalNumber(number);
     let answer = node::sending(table, figures, notice, number, DELAY, SENT_AT);
     let SendingAnswer::Sent(addressee, octets) = answer else {
-        put(b"node: nothing sent\n");
+        put(rt, b"node: nothing sent\n");
         return 0;
     };
     let octets = streams::within(octets, notice);
-    put_passing(b"node -> ", addressee.0, &notice[..octets]);
+    put_passing(rt, b"node -> ", addressee.0, &notice[..octets]);
     octets
 }
 
 // The radio's empty response tells the node that the notice was delivered.
-fn respond(table: &mut [u64], figures: &mut [u64], number: u64) {
-    put(b"radio returns the empty response\n");
+fn respond(rt: &(impl Print + Eprint), table: &mut [u64], figures: &mut [u64], number: u64) {
+    put(rt, b"radio returns the empty response\n");
     let number = FunctionalNumber(number);
     let answer = node::result(table, figures, number, DELIVERED, SENT_AT);
     let ResultAnswer::Delivered = answer else {
-        put(b"node: notice not delivered\n");
+        put(rt, b"node: notice not delivered\n");
         return;
     };
-    put(b"node: notice delivered\n");
+    put(rt, b"node: notice delivered\n");
 }
 
 // ---- the radio
@@ -240,42 +257,42 @@ fn new_radio() -> Radio {
     }
 }
 
-fn put_refusal(doing: Doing) {
+fn put_refusal(rt: &(impl Print + Eprint), doing: Doing) {
     if doing.refusal == 0 {
         return;
     }
-    put(b"radio refuses ");
-    put_count(doing.refusal);
-    put(b"\n");
+    put(rt, b"radio refuses ");
+    put_count(rt, doing.refusal);
+    put(rt, b"\n");
 }
 
-fn store(radio: Radio, number: u64) -> Radio {
-    put(b"radio stores ");
-    put_number(number);
-    put(b"\n");
+fn store(rt: &(impl Print + Eprint), radio: Radio, number: u64) -> Radio {
+    put(rt, b"radio stores ");
+    put_number(rt, number);
+    put(rt, b"\n");
     let next = radio::stored(radio, number);
-    put_refusal(next.doing);
+    put_refusal(rt, next.doing);
     next.radio
 }
 
 // Nothing lies behind the stored numbers: a 0 there prints nothing.
-fn put_entry(entry: Entry) {
+fn put_entry(rt: &(impl Print + Eprint), entry: Entry) {
     if entry.number == 0 {
         return;
     }
-    put(b"radio stores now ");
-    put_number(entry.number);
+    put(rt, b"radio stores now ");
+    put_number(rt, entry.number);
     if entry.unsure == 1 {
-        put(b", unsure");
+        put(rt, b", unsure");
     }
-    put(b"\n");
+    put(rt, b"\n");
 }
 
-fn put_stored(radio: Radio) {
+fn put_stored(rt: &(impl Print + Eprint), radio: Radio) {
     let entries = radio.entries;
     let mut i = 0;
     while i < MOST_STORED {
-        put_entry(entries[i]);
+        put_entry(rt, entries[i]);
         i += 1;
     }
 }
@@ -284,21 +301,28 @@ fn put_stored(radio: Radio) {
 
 // A registers a number, and her radio stores it.
 fn register(
+    rt: &(impl Print + Eprint),
     table: &mut [u64],
     figures: &mut [u64],
     radio: Radio,
     number: u64,
     text: &[u8],
 ) -> Radio {
-    request(table, figures, DRIVER, text);
-    store(radio, number)
+    request(rt, table, figures, DRIVER, text);
+    store(rt, radio, number)
 }
 
 // She begins her service with three numbers of two roots.
-fn begin_service(table: &mut [u64], figures: &mut [u64], radio: Radio) -> Radio {
-    let radio = register(table, figures, radio, LEADING, b"**214*0492123401***#");
-    let radio = register(table, figures, radio, SECOND, b"**214*0492123402***#");
+fn begin_service(
+    rt: &(impl Print + Eprint),
+    table: &mut [u64],
+    figures: &mut [u64],
+    radio: Radio,
+) -> Radio {
+    let radio = register(rt, table, figures, radio, LEADING, b"**214*0492123401***#");
+    let radio = register(rt, table, figures, radio, SECOND, b"**214*0492123402***#");
     register(
+        rt,
         table,
         figures,
         radio,
@@ -308,13 +332,14 @@ fn begin_service(table: &mut [u64], figures: &mut [u64], radio: Radio) -> Radio 
 }
 
 // Her radio stores two more of the first root: one that nobody holds, which will be dropped, and one that the node does not know, which will be marked.
-fn store_others(radio: Radio) -> Radio {
-    let radio = store(radio, THIRD);
-    store(radio, FOURTH)
+fn store_others(rt: &(impl Print + Eprint), radio: Radio) -> Radio {
+    let radio = store(rt, radio, THIRD);
+    store(rt, radio, FOURTH)
 }
 
 // The notice passes from the node to the radio; the first question stands in its buffer.
 fn notify(
+    rt: &(impl Print + Eprint),
     table: &mut [u64],
     figures: &mut [u64],
     radio: Radio,
@@ -322,29 +347,42 @@ fn notify(
     question: &mut [u8],
 ) -> Next {
     let mut notice = [0u8; BUFFER_ROOM];
-    let octets = send_notice(table, figures, number, &mut notice);
+    let octets = send_notice(rt, table, figures, number, &mut notice);
     let next = radio::noticed(radio, &notice[..octets], question);
     let doing = next.doing;
-    put_refusal(doing);
+    put_refusal(rt, doing);
     if doing.respond == 1 {
-        respond(table, figures, number);
+        respond(rt, table, figures, number);
     }
     next
 }
 
 // A question passes to the node, and its reply back under the question's invoke number; the next question takes its place in the buffer.
-fn ask(table: &mut [u64], figures: &mut [u64], next: Next, question: &mut [u8]) -> Next {
+fn ask(
+    rt: &(impl Print + Eprint),
+    table: &mut [u64],
+    figures: &mut [u64],
+    next: Next,
+    question: &mut [u8],
+) -> Next {
     let radio = next.radio;
     let doing = next.doing;
     let asked = streams::within(doing.octets, question);
-    put(b"radio asks ");
-    put_count(doing.invoke);
-    put(b" ");
-    put_string(&question[..asked]);
+    put(rt, b"radio asks ");
+    put_count(rt, doing.invoke);
+    put(rt, b" ");
+    put_string(rt, &question[..asked]);
     let mut reply = [0u8; BUFFER_ROOM];
-    let octets = ask_node(table, figures, &mut reply, radio.own, &question[..asked]);
+    let octets = ask_node(
+        rt,
+        table,
+        figures,
+        &mut reply,
+        radio.own,
+        &question[..asked],
+    );
     let next = radio::replied(radio, doing.invoke, &reply[..octets], question);
-    put_refusal(next.doing);
+    put_refusal(rt, next.doing);
     next
 }
 
@@ -354,14 +392,20 @@ fn is_asking(next: Next) -> bool {
 }
 
 // The round: a question is asked until there is none, of each stored number at most once.
-fn ask_round(table: &mut [u64], figures: &mut [u64], first: Next, question: &mut [u8]) -> Radio {
+fn ask_round(
+    rt: &(impl Print + Eprint),
+    table: &mut [u64],
+    figures: &mut [u64],
+    first: Next,
+    question: &mut [u8],
+) -> Radio {
     let mut next = first;
     let mut questions = 0;
     while questions < MOST_STORED {
         if !is_asking(next) {
             return next.radio;
         }
-        next = ask(table, figures, next, question);
+        next = ask(rt, table, figures, next, question);
         questions += 1;
     }
     next.radio
@@ -369,33 +413,36 @@ fn ask_round(table: &mut [u64], figures: &mut [u64], first: Next, question: &mut
 
 // She is told that she was forced off a number: the notice, the round, and what her radio stores then.
 fn tell(
+    rt: &(impl Print + Eprint),
     table: &mut [u64],
     figures: &mut [u64],
     radio: Radio,
     number: u64,
     question: &mut [u8],
 ) -> Radio {
-    let first = notify(table, figures, radio, number, question);
-    let radio = ask_round(table, figures, first, question);
-    put_stored(radio);
+    let first = notify(rt, table, figures, radio, number, question);
+    let radio = ask_round(rt, table, figures, first, question);
+    put_stored(rt, radio);
     radio
 }
 
-fn main() {
+fn main(rt: HostRuntime) {
     let mut table = known_numbers();
     let mut figures = figures_of(&table);
     let mut question = [0u8; WRITER_ROOM];
-    let radio = begin_service(&mut table, &mut figures, new_radio());
-    let radio = store_others(radio);
+    let radio = begin_service(&rt, &mut table, &mut figures, new_radio());
+    let radio = store_others(&rt, radio);
     request(
+        &rt,
         &mut table,
         &mut figures,
         SUPERVISOR,
         b"##214*0492123401*88*4915100001*#",
     );
-    let radio = tell(&mut table, &mut figures, radio, LEADING, &mut question);
-    clear(&mut table, &mut figures, OTHER_LEADING, DRIVER);
+    let radio = tell(&rt, &mut table, &mut figures, radio, LEADING, &mut question);
+    clear(&rt, &mut table, &mut figures, OTHER_LEADING, DRIVER);
     tell(
+        &rt,
         &mut table,
         &mut figures,
         radio,

@@ -134,13 +134,13 @@ fn with_figures(state: State, figures: Figures) -> State {
     next
 }
 
-fn put_figures(figures: Figures) {
+fn put_figures(rt: &(impl Print + Eprint), figures: Figures) {
     if !figures.shown {
         return;
     }
     let words = figures.words;
-    texts::put(b", figures");
-    texts::put_words(&words, 0, figures.count);
+    texts::put(rt, b", figures");
+    texts::put_words(rt, &words, 0, figures.count);
 }
 
 // ---- calls
@@ -167,26 +167,40 @@ fn read_octets(call: usize, line: &[u8], tail: usize, octets: &mut [u8]) -> Octe
     }
 }
 
-fn question() {
-    texts::put(b"?\n");
+fn question(rt: &(impl Print + Eprint)) {
+    texts::put(rt, b"?\n");
 }
 
 // Ends the line of a call, with what became of table and figures where it shows that.
-fn put_end(call: usize, before: &[u64], after: &[u64], figures: Figures) {
+fn put_end(
+    rt: &(impl Print + Eprint),
+    call: usize,
+    before: &[u64],
+    after: &[u64],
+    figures: Figures,
+) {
     if shows_table(call) {
-        texts::put_changes(before, after, ROW_WORDS);
-        put_figures(figures);
+        texts::put_changes(rt, before, after, ROW_WORDS);
+        put_figures(rt, figures);
     }
-    texts::put(b"\n");
+    texts::put(rt, b"\n");
 }
 
 // A call that is lent the figures; what it leaves of them.
-fn call_with(line: Line, octets: &[u8], state: State, table: &mut [u64], list: &[u64]) -> Figures {
+fn call_with(
+    rt: &(impl Print + Eprint),
+    line: Line,
+    octets: &[u8],
+    state: State,
+    table: &mut [u64],
+    list: &[u64],
+) -> Figures {
     let fields = line.fields;
     let figures = state.figures;
     let mut words = figures.words;
     let count = texts::used(figures.count, &words);
     show_call(
+        rt,
         line.form,
         fields,
         octets,
@@ -204,19 +218,34 @@ fn call_with(line: Line, octets: &[u8], state: State, table: &mut [u64], list: &
 }
 
 // A call on the words that are used.
-fn call_on(line: Line, octets: &[u8], state: State, table: &mut [u64], list: &[u64]) -> Figures {
+fn call_on(
+    rt: &(impl Print + Eprint),
+    line: Line,
+    octets: &[u8],
+    state: State,
+    table: &mut [u64],
+    list: &[u64],
+) -> Figures {
     let mut before = table_words();
     texts::copy(table, &mut before);
-    let figures = call_with(line, octets, state, table, list);
-    put_end(line.form, &before, table, figures);
+    let figures = call_with(rt, line, octets, state, table, list);
+    put_end(rt, line.form, &before, table, figures);
     figures
 }
 
 // A call with the octets of its tail.
-fn lend(line: Line, octets: &[u8], state: State, table: &mut [u64], list: &[u64]) -> Figures {
+fn lend(
+    rt: &(impl Print + Eprint),
+    line: Line,
+    octets: &[u8],
+    state: State,
+    table: &mut [u64],
+    list: &[u64],
+) -> Figures {
     let numbers = texts::used(state.table, table);
     let subscribers = texts::used(state.list, list);
     call_on(
+        rt,
         line,
         octets,
         state,
@@ -226,16 +255,23 @@ fn lend(line: Line, octets: &[u8], state: State, table: &mut [u64], list: &[u64]
 }
 
 // A line that is a call.
-fn call_line(line: Line, text: &[u8], state: State, table: &mut [u64], list: &[u64]) -> State {
+fn call_line(
+    rt: &(impl Print + Eprint),
+    line: Line,
+    text: &[u8],
+    state: State,
+    table: &mut [u64],
+    list: &[u64],
+) -> State {
     let fields = line.fields;
     let mut octets = tail_octets();
     let read = read_octets(line.form, text, fields.tail, &mut octets);
     if !read.good {
-        question();
+        question(rt);
         return state;
     }
     let count = streams::within(read.count, &octets);
-    with_figures(state, lend(line, &octets[..count], state, table, list))
+    with_figures(state, lend(rt, line, &octets[..count], state, table, list))
 }
 
 // ---- memory
@@ -324,9 +360,9 @@ fn set_line(line: Line, state: State, table: &mut [u64], list: &mut [u64]) -> St
 }
 
 // What is set, if there was room for it.
-fn keep(state: State, next: State) -> State {
+fn keep(rt: &(impl Print + Eprint), state: State, next: State) -> State {
     if (TABLE <= next.table) | (LIST <= next.list) {
-        question();
+        question(rt);
         return state;
     }
     next
@@ -431,22 +467,28 @@ fn text_end(form: usize, length: usize) -> usize {
     length
 }
 
-fn text_line(form: usize, text: &[u8]) {
-    texts::put_part(text, text_start(form), text_end(form, text.len()));
+fn text_line(rt: &(impl Print + Eprint), form: usize, text: &[u8]) {
+    texts::put_part(rt, text, text_start(form), text_end(form, text.len()));
     let ending = std::num::wrapping_sub_usize(form, COMMENT);
-    texts::put_form(b"\n;: ;?\n;", ending, &[0, 0, 0, 0, 0]);
+    texts::put_form(rt, b"\n;: ;?\n;", ending, &[0, 0, 0, 0, 0]);
 }
 
 // What a line leaves.
-fn do_line(text: &[u8], state: State, table: &mut [u64], list: &mut [u64]) -> State {
+fn do_line(
+    rt: &(impl Print + Eprint),
+    text: &[u8],
+    state: State,
+    table: &mut [u64],
+    list: &mut [u64],
+) -> State {
     let line = form_of(text);
     if line.form < REQUEST {
-        return keep(state, set_line(line, state, table, list));
+        return keep(rt, state, set_line(line, state, table, list));
     }
     if line.form < COMMENT {
-        return call_line(line, text, state, table, list);
+        return call_line(rt, line, text, state, table, list);
     }
-    text_line(line.form, text);
+    text_line(rt, line.form, text);
     state
 }
 
@@ -463,23 +505,23 @@ fn first_state() -> State {
 }
 
 // Every line of the input, one after the other.
-fn run(input: &[u8], table: &mut [u64], list: &mut [u64]) {
+fn run(rt: &(impl Print + Eprint), input: &[u8], table: &mut [u64], list: &mut [u64]) {
     let mut state = first_state();
     let mut start = 0;
     while start < input.len() {
         let end = octets::find(input, start, input.len(), b'\n');
-        state = do_line(&input[start..end], state, table, list);
+        state = do_line(rt, &input[start..end], state, table, list);
         start = end + 1;
     }
 }
 
-fn main() {
-    let mut input = io::large_buffer();
-    let octets = streams::read_input(b"calls", &mut input);
+fn main(rt: HostRuntime) {
+    let mut input = streams::large_buffer();
+    let octets = streams::read_input(&rt, b"calls", &mut input);
     if octets == input.len() {
-        streams::say(b"calls", b": more input than there is room for\n");
+        streams::say(&rt, b"calls", b": more input than there is room for\n");
     }
     let mut table = table_words();
     let mut list = list_words();
-    run(&input[..octets], &mut table, &mut list);
+    run(&rt, &input[..octets], &mut table, &mut list);
 }

@@ -27,12 +27,12 @@ fn output_octets() -> [u8; MOST_OUTPUT]
     [0; MOST_OUTPUT]
 }
 
-fn main() {
-    let mut input = io::large_buffer();
-    let octets = streams::read_input(b"ffn", &mut input);
+fn main(rt: HostRuntime) {
+    let mut input = streams::large_buffer();
+    let octets = streams::read_input(&rt, b"ffn", &mut input);
     let mut table = table_words();
     let mut list = list_words();
     let mut out = output_octets();
     let printed = lines::run(&input[..octets], &mut table, &mut list, &mut out);
-    streams::write_output(b"ffn", &out[..printed]);
+    streams::write_output(&rt, b"ffn", &out[..printed]);
 }

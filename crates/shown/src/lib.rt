@@ -160,9 +160,10 @@ pub fn of_number(is_number: bool) -> Said {
     plain(NO_NUMBER, 0)
 }
 
-fn put(said: Said) {
+fn put(rt: &(impl Print + Eprint), said: Said) {
     let values = said.values;
     texts::put_form(
+        rt,
         b"refused %;error %;outcome %%, % octets;outcome 03, holder %, % octets;sent to %, % octets;delivered;dropped;again;due %;none due;%;a number;no number;;return error %, % octets;reject %, % octets;first %, invoke %, scheme %, string from %, % octets;first %, invoke %, result from %, % octets;first %, invoke %, error %;first %, invoke %, problem %;recounted % % %;",
         said.form,
         &values,
@@ -205,38 +206,39 @@ fn crew_of(fields: Fields) -> Said {
     }
 }
 
-fn put_field(said: Said) {
+fn put_field(rt: &(impl Print + Eprint), said: Said) {
     let values = said.values;
     texts::put_form(
+        rt,
         b"register, number %;erase, number %;interrogate, number %;, MSISDN none, additional from %, % characters ';, MSISDN %, additional from %, % characters ';';', of a crew, codes %;",
         said.form,
         &values,
     );
 }
 
-fn put_fields(fields: Fields, text: &[u8]) {
-    put_field(operation_of(fields));
-    put_field(others_of(fields));
+fn put_fields(rt: &(impl Print + Eprint), fields: Fields, text: &[u8]) {
+    put_field(rt, operation_of(fields));
+    put_field(rt, others_of(fields));
     let end = std::num::wrapping_add_usize(fields.start, fields.count);
-    texts::put_part(text, fields.start, end);
-    put_field(crew_of(fields));
+    texts::put_part(rt, text, fields.start, end);
+    put_field(rt, crew_of(fields));
 }
 
 // Prints what a request's string reads as.
-fn put_reading(octets: &[u8]) {
+fn put_reading(rt: &(impl Print + Eprint), octets: &[u8]) {
     let read = strings::read_request(octets);
     let reading = read.reading;
     let text = read.text;
     let Reading::Read(fields) = reading else {
-        texts::put(b"error 36");
+        texts::put(rt, b"error 36");
         return;
     };
-    put_fields(fields, &text);
+    put_fields(rt, fields, &text);
 }
 
 // A string that is printed as it is read: nothing is left to say.
-fn read(octets: &[u8]) -> Said {
-    put_reading(octets);
+fn read(rt: &(impl Print + Eprint), octets: &[u8]) -> Said {
+    put_reading(rt, octets);
     plain(NOTHING, 0)
 }
 
@@ -249,15 +251,16 @@ fn filled(filling: u8) -> [u8; BUFFER]
 }
 
 // Prints what a call answered and wrote.
-fn put_answer(call: usize, said: Said, buffer: &[u8], filling: u8) {
-    put(said);
+fn put_answer(rt: &(impl Print + Eprint), call: usize, said: Said, buffer: &[u8], filling: u8) {
+    put(rt, said);
     if fills_buffer(call) {
-        texts::put_octets(buffer, said.count, filling);
+        texts::put_octets(rt, buffer, said.count, filling);
     }
 }
 
 // Makes a call, and prints what it answers and writes.
 fn show_on(
+    rt: &(impl Print + Eprint),
     call: usize,
     fields: texts::Fields,
     octets: &[u8],
@@ -267,12 +270,13 @@ fn show_on(
     buffer: &mut [u8],
     filling: u8,
 ) {
-    let said = make_call(call, fields, octets, table, figures, list, buffer);
-    put_answer(call, said, buffer, filling);
+    let said = make_call(rt, call, fields, octets, table, figures, list, buffer);
+    put_answer(rt, call, said, buffer, filling);
 }
 
 // The same on a filled buffer.
 pub fn show_call(
+    rt: &(impl Print + Eprint),
     call: usize,
     fields: texts::Fields,
     octets: &[u8],
@@ -285,6 +289,7 @@ pub fn show_call(
     let mut buffer = filled(filling);
     let room = streams::within(room, &buffer);
     show_on(
+        rt,
         call,
         fields,
         octets,

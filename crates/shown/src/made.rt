@@ -124,6 +124,7 @@ fn look(words: &[u64; MOST_WORDS], table: &[u64]) -> Said {
 
 // A call of strings or numbers.
 fn call_strings(
+    rt: &(impl Print + Eprint),
     call: usize,
     words: &[u64; MOST_WORDS],
     count: usize,
@@ -134,7 +135,7 @@ fn call_strings(
         PACK => crate::of_writing(packing::pack(octets, buffer)),
         UNPACK => crate::of_writing(packing::unpack(octets, buffer)),
         WRITE => write(words, count, octets, buffer),
-        READ => crate::read(octets),
+        READ => crate::read(rt, octets),
         _ => crate::of_number(numbers::is_number(words[0])),
     }
 }
@@ -155,6 +156,7 @@ fn call_frames(
 }
 
 pub fn make_call(
+    rt: &(impl Print + Eprint),
     call: usize,
     fields: Fields,
     octets: &[u8],
@@ -172,6 +174,6 @@ pub fn make_call(
         RECOUNT => crate::of_recount(tables::recount(table)),
         FRAMED => framed::ask(&words, octets, table, figures, list, buffer),
         REGISTER..=RELEASED => call_frames(call, &words, fields.count, octets, buffer),
-        _ => call_strings(call, &words, fields.count, octets, buffer),
+        _ => call_strings(rt, call, &words, fields.count, octets, buffer),
     }
 }

@@ -30,36 +30,32 @@ pub(crate) fn least(a: usize, b: usize) -> usize
 }
 
 // Each piece is written at once: an output that is lent through all functions would make each of their proofs dearer.
-pub fn put(characters: &[u8]) {
-    streams::write_output(b"calls", characters);
+pub fn put(rt: &(impl Print + Eprint), characters: &[u8]) {
+    streams::write_output(rt, b"calls", characters);
 }
 
 // Prints the characters from an index to another.
-pub fn put_part(characters: &[u8], from: usize, end: usize) {
+pub fn put_part(rt: &(impl Print + Eprint), characters: &[u8], from: usize, end: usize) {
     let end = least(end, characters.len());
     let from = least(from, end);
-    put(&characters[from..end]);
+    put(rt, &characters[from..end]);
 }
 
-fn put_number(n: u64) {
-    let mut digits = [0u8; 20];
-    let count = io::decimal(n, &mut digits);
-    put(&digits[..count]);
+fn put_number(rt: &(impl Print + Eprint), n: u64) {
+    streams::write_number(rt, b"calls", n);
 }
 
-fn put_octet(octet: u8) {
-    let mut digits = [0u8; 16];
-    let count = io::hex(wide(octet), 2, &mut digits);
-    put(&digits[..count]);
+fn put_octet(rt: &(impl Print + Eprint), octet: u8) {
+    streams::write_hex(rt, b"calls", octet);
 }
 
 // Prints the first octets.
-fn put_first(octets: &[u8], count: usize) {
+fn put_first(rt: &(impl Print + Eprint), octets: &[u8], count: usize) {
     let end = least(count, octets.len());
     let mut i = 0;
     while i < end {
-        put(b" ");
-        put_octet(octets[i]);
+        put(rt, b" ");
+        put_octet(rt, octets[i]);
         i += 1;
     }
 }
@@ -78,31 +74,36 @@ fn holding(octets: &[u8], from: usize, filling: u8) -> usize {
 }
 
 // Prints how many octets hold what they were filled with, and whether all do.
-fn put_rest(left: usize, all: usize, filling: u8) {
-    put(b" ] ");
-    put_number(left as u64);
-    put(b" of ");
-    put_octet(filling);
+fn put_rest(rt: &(impl Print + Eprint), left: usize, all: usize, filling: u8) {
+    put(rt, b" ] ");
+    put_number(rt, left as u64);
+    put(rt, b" of ");
+    put_octet(rt, filling);
     if left < all {
-        put(b", others changed");
+        put(rt, b", others changed");
     }
 }
 
 // Prints the octets that a call wrote, how many beyond hold what the buffer was filled with, and whether another is among them.
-pub fn put_octets(octets: &[u8], count: usize, filling: u8) {
+pub fn put_octets(rt: &(impl Print + Eprint), octets: &[u8], count: usize, filling: u8) {
     let end = least(count, octets.len());
-    put(b" [");
-    put_first(octets, end);
-    put_rest(holding(octets, end, filling), octets.len() - end, filling);
+    put(rt, b" [");
+    put_first(rt, octets, end);
+    put_rest(
+        rt,
+        holding(octets, end, filling),
+        octets.len() - end,
+        filling,
+    );
 }
 
 // Prints the words from an index to another, each behind a space.
-pub fn put_words(words: &[u64], from: usize, end: usize) {
+pub fn put_words(rt: &(impl Print + Eprint), words: &[u64], from: usize, end: usize) {
     let end = least(end, words.len());
     let mut i = from;
     while i < end {
-        put(b" ");
-        put_number(words[i]);
+        put(rt, b" ");
+        put_number(rt, words[i]);
         i += 1;
     }
 }
@@ -133,15 +134,15 @@ fn value_at(values: &[u64; VALUES], place: usize) -> u64 {
 }
 
 // Prints one of several forms, with a value for each of its marks.
-pub fn put_form(forms: &[u8], place: usize, values: &[u64; VALUES]) {
+pub fn put_form(rt: &(impl Print + Eprint), forms: &[u8], place: usize, values: &[u64; VALUES]) {
     let mut next = 0;
     let mut i = form_start(forms, place);
     let end = octets::find(forms, i, forms.len(), END);
     while i < end {
         let mark = octets::find(forms, i, end, VALUE);
-        put(&forms[i..mark]);
+        put(rt, &forms[i..mark]);
         if mark < end {
-            put_number(value_at(values, next));
+            put_number(rt, value_at(values, next));
         }
         next = std::num::wrapping_add_usize(next, 1);
         i = mark + 1;

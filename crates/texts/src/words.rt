@@ -1,6 +1,6 @@
 // Rows of words: set, and what became of them.
 ghost use Rattle.std.specs.Prelude.{◌<◌, ◌≤◌};
-ghost use Rattle.io.specs.Counts.{IsPrefixLen};
+ghost use Rattle.streams.specs.Counts.{IsPrefixLen};
 
 use crate::fields::MOST_WORDS;
 use crate::{least, put, put_number, put_words};
@@ -101,19 +101,26 @@ fn row_end(start: usize, length: usize, width: usize) -> usize
 }
 
 // Prints a row that is not as before; whether it is as before.
-fn put_row(before: &[u64], after: &[u64], start: usize, end: usize, row: u64) -> bool {
+fn put_row(
+    rt: &(impl Print + Eprint),
+    before: &[u64],
+    after: &[u64],
+    start: usize,
+    end: usize,
+    row: u64,
+) -> bool {
     if stay(before, after, start, end) {
         return true;
     }
-    put(b", row ");
-    put_number(row);
-    put(b":");
-    put_words(after, start, end);
+    put(rt, b", row ");
+    put_number(rt, row);
+    put(rt, b":");
+    put_words(rt, after, start, end);
     false
 }
 
 // Prints the rows of a width that are not as before, each with its place, or that all are as before.
-pub fn put_changes(before: &[u64], after: &[u64], width: usize)
+pub fn put_changes(rt: &(impl Print + Eprint), before: &[u64], after: &[u64], width: usize)
     requires { 0 < width }
 {
     let mut stays = true;
@@ -121,11 +128,11 @@ pub fn put_changes(before: &[u64], after: &[u64], width: usize)
     let mut row = 0;
     while start < after.len() {
         let end = row_end(start, after.len(), width);
-        stays = stays & put_row(before, after, start, end, row);
+        stays = stays & put_row(rt, before, after, start, end, row);
         row = std::num::wrapping_add_u64(row, 1);
         start = end;
     }
     if stays {
-        put(b", table stays");
+        put(rt, b", table stays");
     }
 }
