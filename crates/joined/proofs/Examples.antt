@@ -92,7 +92,7 @@ pub computed : Computed
 unfolding count_of crew_of value_of digits octets_for chars_in padded packed characters readable filled kept unpacked is_digit pushed stored_form is_number digits_up_to digits_of leading leading_number is_additional text_of notice_text notice_fields supervisor_field_at notice_string_at notice_string_of begins operation_at service_at number_field_at forced_at erasing_at additional_at fields_of request_of delay_of delay_allowed rows.notice_up_to rows.row_up_to rows.notice_of rows.record_at place_of table_up_to row_of record_of figures.recount states.figures_right list_sound flags_of requests.step crews.requesting notices.sending_notice radio_sound every has none_twice open_of begun settled noticing replying storing question_of verdict_on verdict_of asks_in numbers_that
 computed =
     let well : WellAsked table (due_at radio string) table (replicate 80 9) question =
-    record { sound = refl; reply_room_lem = omega arith; question_room = omega arith; unchanged = λ n h. refl } in
+    record { sound = refl; reply_room = omega arith; question_room = omega arith; unchanged = λ n h. refl } in
     record {
       sends = refl;
       ends = refl;

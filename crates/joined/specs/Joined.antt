@@ -96,7 +96,7 @@ new_in list delay (s ∷ ss) j = new_at s j ++ new_in list delay ss (stepping li
 -- to whom it gives them. Their notices may go on
 pub record WellAsked (start : State) (due : List ℕ) (t : State) (buffer question : List ℕ) : Type 0 where
   pub sound : state_sound t ≡ true
-  pub reply_room_lem : buffer_room ≤ length buffer
+  pub reply_room : buffer_room ≤ length buffer
   pub question_room : writer_room ≤ length question
   pub unchanged : (number : ℕ) → is_in number due ≡ true → given_to t number ≡ given_to start number
 
