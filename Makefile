@@ -12,9 +12,9 @@ need_rt = command -v rt >/dev/null || { echo "missing: rt, the Rattle kit's comm
 
 run:
 	@$(need_rt)
-	@test -x target/bin/ffn || echo "proving and building the program first: some minutes" >&2
+	@test -x crates/ffn/out/ffn || echo "proving and building the program first: some minutes" >&2
 	@tests/build ffn
-	@tests/x86-64 target/bin/ffn <crates/ffn/stdin
+	@tests/x86-64 crates/ffn/out/ffn <crates/ffn/stdin
 
 test:
 	@.ci/run
