@@ -6,10 +6,12 @@ use native.Mathlib.Numerals.{add-one}
 use native.Mathlib.Omega.{arith}
 use mathlib.Core.List.{List, [], ◌∷◌, ◌++◌, append_assoc, append-nil}
 use lib.ListN.{length, take, drop, get_or, length-append, length-drop, set, length-set, drop_of_length-le}
-use lib.Seq.{sets, sets-eq, set_at, append_snoc, take_at, drop_at, drop-drop, take_all, drop-length, drop-cons, get_or-drop}
+use lib.Seq.{set_at, append_snoc, take_at, drop_at, drop-drop, take_all, drop-cons, get_or-drop}
 use lib.Pow.{pow_pos, pow_mono}
+use Rattle.std.specs.Int.{w64, to_le_bytes, from_le_bytes}
+use Rattle.std.specs.Prelude.{replicate}
 use Rattle.bases.specs.Bases.{value_of, digits}
-use Rattle.bases.proofs.Digits.{Below, Below-one, Below-append, pow_mul, number_drop, number_lt_more, length_digits, digits_add, digits_snoc}
+use Rattle.bases.proofs.Digits.{Below, Below-one, Below-append, pow_mul, number_head, number_drop, number_lt_more, length_digits, digits_add, digits_snoc}
 
 -- ---- numbers and digits, apart and together
 
@@ -42,40 +44,73 @@ module _ (a b : ℕ) (ds : List ℕ) (f : Below (2 ^ a) ds) (i j : ℕ) (place :
       sym (digits_low (2 ^ b) (pow_pos b) l (value_of (2 ^ a) (take k (drop i ds))) (value_of (2 ^ a) (drop k (drop i ds))))
       ∙ ap (λ (n : ℕ). digits (2 ^ b) l n) (rw (← same) (sym (number_split (2 ^ a) (drop i ds) k)) ∙ sym left_over)
 
--- ---- the number of the first k digits, read one by one
+-- ---- a word of eight octets, the lowest first: the library's octets of a number are its digits
 
--- on a k that is written out it computes to what straight-line code reads
-abbrev pub reads : ℕ → List ℕ → ℕ → ℕ → ℕ
-reads b ds i zero = 0
-reads b ds i (suc k) = get_or ds i 0 + b * reads b ds (suc i) k
-
-reads_from : (b : ℕ) (ds : List ℕ) (i k : ℕ) → i + k ≤ length ds → reads b ds i k ≡ value_of b (take k (drop i ds))
+pub word_value : (w : List ℕ) → length w ≡ 8 → from_le_bytes w64 w ≡ value_of 256 w
 unfolding value_of
-reads_from b ds i zero h = refl
-reads_from b ds i (suc k) h = rw (drop-cons ds i 0 (omega arith)) (ap (λ (n : ℕ). get_or ds i 0 + b * n) (reads_from b ds (suc i) k (omega arith)))
+word_value w n =
+    let none : length w ≤ 8 = omega arith in
+    let top : value_of 256 (drop 8 w) ≡ 0 = rw (drop_of_length-le w none) in
+    let at = number_head 256 w in
+    omega (arith, at 0, at 1, at 2, at 3, at 4, at 5, at 6, at 7)
 
-pub reads_is : (b k : ℕ) (ds : List ℕ) → k ≤ length ds → reads b ds 0 k ≡ value_of b (take k ds)
-reads_is b k ds h = reads_from b ds 0 k (omega arith)
+pub word_digits : (n : ℕ) → to_le_bytes w64 n ≡ digits 256 8 n
+unfolding digits
+word_digits n = simp div-div-eq-div-mul
+
+-- octets that are 0 at the top do not count
+no_value : (b n k : ℕ) → value_of b (drop n (replicate k 0)) ≡ 0
+unfolding value_of
+no_value b zero zero = refl
+no_value b (suc n) zero = refl
+no_value b zero (suc k) = rw (no_value b zero k) (simp mul-zero)
+no_value b (suc n) (suc k) = no_value b n k
+
+pub zeros_above : (b n k : ℕ) (ds : List ℕ) → value_of b (ds ++ drop n (replicate k 0)) ≡ value_of b ds
+unfolding value_of
+zeros_above b n k [] = no_value b n k
+zeros_above b n k (d ∷ ds) = ap (λ (x : ℕ). d + b * x) (zeros_above b n k ds)
 
 -- ---- a few digits, from the highest down, and what stands above them
 
-pub few_none : (b above : ℕ) (ds : List ℕ) → above ≡ value_of b (drop (length ds) ds ++ (above ∷ []))
-unfolding value_of
-few_none b above ds = rw drop-length (simp (mul-zero, add-zero))
+-- `done` of the digits ds are read, `rest` are not
+pub record Reading (b above : ℕ) (ds rest : List ℕ) (held : ℕ) : Type 0 where
+  pub done : List ℕ
+  pub all : ds ≡ rest ++ done
+  pub value : held ≡ value_of b (done ++ (above ∷ []))
 
-pub few_next :
-    (b above : ℕ) (ds : List ℕ) (i j : ℕ) → j ≡ i + 1 → i < length ds
-    → value_of b (drop i ds ++ (above ∷ [])) ≡ get_or ds i 0 + b * value_of b (drop j ds ++ (above ∷ []))
+pub none_read : (b above : ℕ) (ds : List ℕ) → Reading b above ds ds above
 unfolding value_of
-few_next b above ds i j e h = rw (e, add-one, drop-cons ds i 0 h)
+none_read b above ds = record { done = []; all = sym (append-nil ds); value = simp (mul-zero, add-zero) }
+
+pub all_read : {b above : ℕ} {ds rest : List ℕ} {held : ℕ} → Reading b above ds rest held → length rest ≡ 0 → held ≡ value_of b (ds ++ (above ∷ []))
+all_read {rest = []} r e = rw (r.all) r.value
+all_read {rest = x ∷ xs} r e = absurd (omega arith)
 
 -- up to eight octets are a number of 64 bits, to any base up to 256
-pub few_fits : (b above : ℕ) → b ≤ 256 → above < 256 → (ds : List ℕ) → length ds < 8 → Below 256 ds → (i : ℕ) → value_of b (drop i ds ++ (above ∷ [])) < 2 ^ 64
-few_fits b above h a ds l f i =
-    let xs = drop i ds ++ (above ∷ []) in
-    let len : length xs ≤ 8 = simp (length-append, length-drop) (omega arith) in
-    lt_of_lt_of_le (number_lt_more b 256 h xs (Below-append 256 (drop i ds) (above ∷ []) (λ k. rw get_or-drop (f (i + k))) (Below-one 256 above a)))
+few_fits : (b above : ℕ) → b ≤ 256 → above < 256 → (ds : List ℕ) → length ds < 8 → Below 256 ds → value_of b (ds ++ (above ∷ [])) < 2 ^ 64
+few_fits b above h a ds l f =
+    let xs = ds ++ (above ∷ []) in
+    let len : length xs ≤ 8 = simp length-append (omega arith) in
+    lt_of_lt_of_le (number_lt_more b 256 h xs (Below-append 256 ds (above ∷ []) f (Below-one 256 above a)))
     (rw (← pow_mul 2 8 (length xs)) (pow_mono {i = 8 * length xs} {j = 64} (omega arith)))
+
+module _ {b above : ℕ} {ds rest : List ℕ} {held : ℕ} (r : Reading b above ds rest held) (next : List ℕ) (d : ℕ) (e : rest ≡ next ++ (d ∷ [])) where
+  before : ds ≡ next ++ (d ∷ r.done)
+  before = r.all ∙ rw (e, append_assoc)
+
+  pub one_read : Reading b above ds next (d + b * held)
+  unfolding value_of
+  one_read = record { done = d ∷ r.done; all = before; value = rw (r.value) }
+
+  -- and the number is still one of 64 bits
+  pub read_fits : b ≤ 256 → above < 256 → length ds < 8 → Below 256 ds → d + b * held < 2 ^ 64
+  unfolding value_of
+  read_fits h a l f =
+      let back : drop (length next) ds ≡ d ∷ r.done = rw before (drop_at next (d ∷ r.done) (length next) refl) in
+      let few : length (d ∷ r.done) < 8 = omega (arith, l, ap length before, length-append next (d ∷ r.done)) in
+      let under : Below 256 (d ∷ r.done) = λ k. rw (← back, get_or-drop) (f (length next + k)) in
+      rw (r.value) (few_fits b above h a (d ∷ r.done) few under)
 
 -- one digit more that is a number is the digits of that number
 pub number_above : (b : ℕ) (xs ys : List ℕ) → value_of b (xs ++ (value_of b ys ∷ [])) ≡ value_of b (xs ++ ys)
@@ -84,9 +119,6 @@ number_above b [] ys = simp (mul-zero, add-zero)
 number_above b (x ∷ xs) ys = ap (λ (n : ℕ). x + b * n) (number_above b xs ys)
 
 -- ---- digits stored one by one
-
-pub sets_digits : (b k n : ℕ) (old : List ℕ) → k ≤ length old → sets old 0 (digits b k n) ≡ digits b k n ++ drop k old
-sets_digits b k n old h = sets-eq (digits b k n) old 0 (simp (zero-add, length_digits) h) ∙ simp (zero-add, length_digits)
 
 -- the digit at j is written behind those before it
 pub one_more :

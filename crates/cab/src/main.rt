@@ -3,17 +3,17 @@
 // terminal clear her number of the other root, and the notice names nobody. Each string that passes is printed as text, a line each. What is printed, in the file stdout, was worked out by hand from documents 01 and 02.
 #![tactic(auto)]
 
-ghost use Rattle.streams.specs.Counts.{IsPrefixLen};
-
-use answers::Written;
+use answers::{Failure, Refusal};
 use node::BUFFER_ROOM;
-use numbers::{FunctionalNumber, Msisdn};
+use numbers::{FunctionalNumber, MOST_DIGITS, Msisdn};
 use radio::{Doing, Next};
+use records::Fate;
 use rows::ROW_WORDS;
+use std::fmt::Display;
 use stores::{Entry, MOST_STORED, Radio};
 use strings::CODING_SCHEME;
-use tables::{Recounted, SUBSCRIBER_WORDS};
-use visits::{RequestAnswer, ResultAnswer, SendingAnswer};
+use tables::SUBSCRIBER_WORDS;
+use visits::Reply;
 use writers::WRITER_ROOM;
 
 // Document 01's A and B, in stored form: the digits behind a 1.
@@ -47,196 +47,176 @@ const DELAY: u32 = 60;
 // A result's kind: the notice was delivered.
 const DELIVERED: u32 = 0;
 
-// Room for the characters of 160 octets, and for a number's digits.
+// Room for the characters of 160 octets.
 const CHARACTERS: usize = 182;
-
-const DIGITS: usize = 15;
 
 // ---- lines
 
-fn put(rt: &(impl Print + Eprint), characters: &[u8]) {
-    streams::write_output(rt, b"cab", characters);
+fn put(rt: &(impl Print + Eprint), text: &(impl Display + Drop)) {
+    streams::print_output(rt, "cab", text);
+}
+
+// The octets that were written, if any were.
+fn written(octets: &[u8], count: Result<usize, Refusal>) -> Option<&[u8]> {
+    octets.get(..count.ok()?)
 }
 
 // A packed string as text, to the line's end.
 fn put_string(rt: &(impl Print + Eprint), string: &[u8]) {
-    let mut text = [0u8; CHARACTERS];
-    let Written::Count(n) = packing::unpack(string, &mut text) else {
-        put(rt, b"unreadable\n");
-        return;
-    };
-    let n = streams::within(n, &text);
-    put(rt, &text[..n]);
-    put(rt, b"\n");
+    let mut text = [0; CHARACTERS];
+    let count = packing::unpack(string, &mut text);
+    match written(&text, count) {
+        Some(text) => {
+            streams::write_output(rt, "cab", text);
+            put(rt, &"\n");
+        }
+        None => put(rt, &"unreadable\n"),
+    }
 }
 
 // A number's digits, without the 1 of its stored form.
 fn put_number(rt: &(impl Print + Eprint), number: u64) {
-    let mut digits = [0u8; DIGITS];
-    let Written::Count(n) = numbers::write_digits(number, &mut digits) else {
-        put(rt, b"no number");
-        return;
-    };
-    let n = streams::within(n, &digits);
-    put(rt, &digits[..n]);
-}
-
-fn put_count(rt: &(impl Print + Eprint), n: u8) {
-    streams::write_number(rt, b"cab", n as u64);
+    let mut digits = [0; MOST_DIGITS];
+    let count = numbers::write_digits(number, &mut digits);
+    match written(&digits, count) {
+        Some(digits) => streams::write_output(rt, "cab", digits),
+        None => put(rt, &"no number"),
+    }
 }
 
 // A subscriber by document 01's letter.
 fn put_subscriber(rt: &(impl Print + Eprint), msisdn: u64) {
     match msisdn {
-        DRIVER => put(rt, b"A"),
-        SUPERVISOR => put(rt, b"B"),
+        DRIVER => put(rt, &"A"),
+        SUPERVISOR => put(rt, &"B"),
         _ => put_number(rt, msisdn),
     }
 }
 
 // A string that passes between the node and a subscriber.
-fn put_passing(rt: &(impl Print + Eprint), way: &[u8], msisdn: u64, string: &[u8]) {
-    put(rt, way);
+fn put_passing(rt: &(impl Print + Eprint), way: &str, msisdn: u64, string: &[u8]) {
+    put(rt, &format_args!("node {way} "));
     put_subscriber(rt, msisdn);
-    put(rt, b" ");
+    put(rt, &" ");
     put_string(rt, string);
 }
 
 // ---- the node
 
-// The numbers that the node knows, ascending, each free: a row begins with its number.
-fn known_numbers() -> [u64; TABLE_WORDS] {
-    let mut table = [0; TABLE_WORDS];
-    table[0] = LEADING;
-    table[ROW_WORDS] = SECOND;
-    table[2 * ROW_WORDS] = THIRD;
-    table[3 * ROW_WORDS] = OTHER_LEADING;
-    table
-}
-
-// Both have Follow Me, and B is a supervisor too.
-fn subscribers() -> [u64; LIST_WORDS] {
-    [DRIVER, 1, SUPERVISOR, 3]
-}
-
-fn figures_of(table: &[u64]) -> [u64; FIGURES] {
-    match tables::recount(table) {
-        Recounted::Unsound => [0, 0, 0],
-        Recounted::Counted(n) => [n.held, n.waiting, n.flying],
-    }
+// The node's table and its figures.
+#[derive(Clone, Copy, Debug)]
+struct Node {
+    table: [u64; TABLE_WORDS],
+    figures: [u64; FIGURES],
 }
 
 // How long a reply is; a refusal and an error have no string.
-fn reply_octets(answer: RequestAnswer) -> usize {
+fn reply_octets(answer: Result<Reply, Failure>) -> usize {
     match answer {
-        RequestAnswer::Refused(_) => 0,
-        RequestAnswer::Error(_) => 0,
-        RequestAnswer::Outcome(_, octets) => octets,
-        RequestAnswer::Held(_, octets) => octets,
+        Ok(Reply::Outcome(_, octets)) | Ok(Reply::Held(_, octets)) => octets,
+        Err(_) => 0,
     }
 }
 
-// A packed request, and the node's reply; how many octets that has.
-fn ask_node(
-    rt: &(impl Print + Eprint),
-    table: &mut [u64],
-    figures: &mut [u64],
-    reply: &mut [u8],
-    requester: u64,
-    string: &[u8],
-) -> usize
-    ensures { IsPrefixLen result reply.new }
-{
-    let list = subscribers();
-    let answer = node::request(
-        table,
-        figures,
-        &list,
-        reply,
-        Msisdn(requester),
-        CODING_SCHEME,
-        string,
-    );
-    let octets = streams::within(reply_octets(answer), reply);
-    put_passing(rt, b"node -> ", requester, &reply[..octets]);
-    octets
-}
+impl Node {
+    // The numbers that the node knows, ascending, each free: a row begins with its number.
+    fn new() -> Node {
+        let mut table = [0; TABLE_WORDS];
+        table[0] = LEADING;
+        table[ROW_WORDS] = SECOND;
+        table[2 * ROW_WORDS] = THIRD;
+        table[3 * ROW_WORDS] = OTHER_LEADING;
+        let figures = match tables::recount(&table) {
+            Ok(n) => [n.held, n.waiting, n.flying],
+            Err(_) => [0, 0, 0],
+        };
+        Node { table, figures }
+    }
 
-// A request by its text.
-fn request(
-    rt: &(impl Print + Eprint),
-    table: &mut [u64],
-    figures: &mut [u64],
-    requester: u64,
-    text: &[u8],
-) {
-    let mut string = [0u8; WRITER_ROOM];
-    let mut reply = [0u8; BUFFER_ROOM];
-    let Written::Count(n) = packing::pack(text, &mut string) else {
-        put(rt, b"nothing packed\n");
-        return;
-    };
-    let n = streams::within(n, &string);
-    put_passing(rt, b"node <- ", requester, &string[..n]);
-    ask_node(rt, table, figures, &mut reply, requester, &string[..n]);
-}
+    // A packed request, and the node's reply. Both subscribers have Follow Me, and B is a supervisor too.
+    fn ask<'a>(
+        &mut self,
+        rt: &(impl Print + Eprint),
+        reply: &'a mut [u8],
+        requester: u64,
+        string: &[u8],
+    ) -> &'a [u8] {
+        let list: [u64; LIST_WORDS] = [DRIVER, 1, SUPERVISOR, 3];
+        let answer = node::request(
+            &mut self.table,
+            &mut self.figures,
+            &list,
+            reply,
+            Msisdn(requester),
+            CODING_SCHEME,
+            string,
+        );
+        let reply = reply.get(..reply_octets(answer)).unwrap_or_default();
+        put_passing(rt, "->", requester, reply);
+        reply
+    }
 
-// Staff at the node's terminal clear a number, naming its holder.
-fn clear(
-    rt: &(impl Print + Eprint),
-    table: &mut [u64],
-    figures: &mut [u64],
-    number: u64,
-    holder: u64,
-) {
-    put(rt, b"terminal clears ");
-    put_number(rt, number);
-    put(rt, b" of ");
-    put_subscriber(rt, holder);
-    let mut reply = [0u8; BUFFER_ROOM];
-    let answer = node::terminal_erasure(
-        table,
-        figures,
-        &mut reply,
-        FunctionalNumber(number),
-        Msisdn(holder),
-    );
-    let octets = streams::within(reply_octets(answer), &reply);
-    put(rt, b"\nnode -> terminal ");
-    put_string(rt, &reply[..octets]);
-}
+    // A request by its text.
+    fn request(&mut self, rt: &(impl Print + Eprint), requester: u64, text: &[u8]) {
+        let mut string = [0; WRITER_ROOM];
+        let mut reply = [0; BUFFER_ROOM];
+        let count = packing::pack(text, &mut string);
+        let Some(string) = written(&string, count) else {
+            put(rt, &"nothing packed\n");
+            return;
+        };
+        put_passing(rt, "<-", requester, string);
+        self.ask(rt, &mut reply, requester, string);
+    }
 
-// The notice to the one who was forced off; how many octets it has.
-fn send_notice(
-    rt: &(impl Print + Eprint),
-    table: &mut [u64],
-    figures: &mut [u64],
-    number: u64,
-    notice: &mut [u8],
-) -> usize
-    ensures { IsPrefixLen result notice.new }
-{
-    let number = FunctionalNumber(number);
-    let answer = node::sending(table, figures, notice, number, DELAY, SENT_AT);
-    let SendingAnswer::Sent(addressee, octets) = answer else {
-        put(rt, b"node: nothing sent\n");
-        return 0;
-    };
-    let octets = streams::within(octets, notice);
-    put_passing(rt, b"node -> ", addressee.0, &notice[..octets]);
-    octets
-}
+    // Staff at the node's terminal clear a number, naming its holder.
+    fn clear(&mut self, rt: &(impl Print + Eprint), number: u64, holder: u64) {
+        put(rt, &"terminal clears ");
+        put_number(rt, number);
+        put(rt, &" of ");
+        put_subscriber(rt, holder);
+        let mut reply = [0; BUFFER_ROOM];
+        let answer = node::terminal_erasure(
+            &mut self.table,
+            &mut self.figures,
+            &mut reply,
+            FunctionalNumber(number),
+            Msisdn(holder),
+        );
+        put(rt, &"\nnode -> terminal ");
+        put_string(rt, reply.get(..reply_octets(answer)).unwrap_or_default());
+    }
 
-// The radio's empty response tells the node that the notice was delivered.
-fn respond(rt: &(impl Print + Eprint), table: &mut [u64], figures: &mut [u64], number: u64) {
-    put(rt, b"radio returns the empty response\n");
-    let number = FunctionalNumber(number);
-    let answer = node::result(table, figures, number, DELIVERED, SENT_AT);
-    let ResultAnswer::Delivered = answer else {
-        put(rt, b"node: notice not delivered\n");
-        return;
-    };
-    put(rt, b"node: notice delivered\n");
+    // The notice to the one who was forced off.
+    fn send<'a>(
+        &mut self,
+        rt: &(impl Print + Eprint),
+        number: u64,
+        notice: &'a mut [u8],
+    ) -> &'a [u8] {
+        let number = FunctionalNumber(number);
+        let table = &mut self.table;
+        let figures = &mut self.figures;
+        let Ok(sent) = node::sending(table, figures, notice, number, DELAY, SENT_AT) else {
+            put(rt, &"node: nothing sent\n");
+            return &[];
+        };
+        let notice = notice.get(..sent.octets).unwrap_or_default();
+        put_passing(rt, "->", sent.addressee.0, notice);
+        notice
+    }
+
+    // The radio's empty response tells the node that the notice was delivered.
+    fn take_response(&mut self, rt: &(impl Print + Eprint), number: u64) {
+        put(rt, &"radio returns the empty response\n");
+        let number = FunctionalNumber(number);
+        let table = &mut self.table;
+        let figures = &mut self.figures;
+        match node::result(table, figures, number, DELIVERED, SENT_AT) {
+            Ok(Fate::Delivered) => put(rt, &"node: notice delivered\n"),
+            _ => put(rt, &"node: notice not delivered\n"),
+        }
+    }
 }
 
 // ---- the radio
@@ -258,42 +238,32 @@ fn new_radio() -> Radio {
 }
 
 fn put_refusal(rt: &(impl Print + Eprint), doing: Doing) {
-    if doing.refusal == 0 {
-        return;
+    if doing.refusal != 0 {
+        put(rt, &format_args!("radio refuses {}\n", doing.refusal));
     }
-    put(rt, b"radio refuses ");
-    put_count(rt, doing.refusal);
-    put(rt, b"\n");
 }
 
 fn store(rt: &(impl Print + Eprint), radio: Radio, number: u64) -> Radio {
-    put(rt, b"radio stores ");
+    put(rt, &"radio stores ");
     put_number(rt, number);
-    put(rt, b"\n");
+    put(rt, &"\n");
     let next = radio::stored(radio, number);
     put_refusal(rt, next.doing);
     next.radio
 }
 
-// Nothing lies behind the stored numbers: a 0 there prints nothing.
 fn put_entry(rt: &(impl Print + Eprint), entry: Entry) {
-    if entry.number == 0 {
-        return;
-    }
-    put(rt, b"radio stores now ");
+    put(rt, &"radio stores now ");
     put_number(rt, entry.number);
     if entry.unsure == 1 {
-        put(rt, b", unsure");
+        put(rt, &", unsure");
     }
-    put(rt, b"\n");
+    put(rt, &"\n");
 }
 
 fn put_stored(rt: &(impl Print + Eprint), radio: Radio) {
-    let entries = radio.entries;
-    let mut i = 0;
-    while i < MOST_STORED {
-        put_entry(rt, entries[i]);
-        i += 1;
+    for entry in radio.entries.iter().take(radio.count) {
+        put_entry(rt, *entry);
     }
 }
 
@@ -302,33 +272,20 @@ fn put_stored(rt: &(impl Print + Eprint), radio: Radio) {
 // A registers a number, and her radio stores it.
 fn register(
     rt: &(impl Print + Eprint),
-    table: &mut [u64],
-    figures: &mut [u64],
+    node: &mut Node,
     radio: Radio,
     number: u64,
     text: &[u8],
 ) -> Radio {
-    request(rt, table, figures, DRIVER, text);
+    node.request(rt, DRIVER, text);
     store(rt, radio, number)
 }
 
 // She begins her service with three numbers of two roots.
-fn begin_service(
-    rt: &(impl Print + Eprint),
-    table: &mut [u64],
-    figures: &mut [u64],
-    radio: Radio,
-) -> Radio {
-    let radio = register(rt, table, figures, radio, LEADING, b"**214*0492123401***#");
-    let radio = register(rt, table, figures, radio, SECOND, b"**214*0492123402***#");
-    register(
-        rt,
-        table,
-        figures,
-        radio,
-        OTHER_LEADING,
-        b"**214*0715550001***#",
-    )
+fn begin_service(rt: &(impl Print + Eprint), node: &mut Node, radio: Radio) -> Radio {
+    let radio = register(rt, node, radio, LEADING, b"**214*0492123401***#");
+    let radio = register(rt, node, radio, SECOND, b"**214*0492123402***#");
+    register(rt, node, radio, OTHER_LEADING, b"**214*0715550001***#")
 }
 
 // Her radio stores two more of the first root: one that nobody holds, which will be dropped, and one that the node does not know, which will be marked.
@@ -340,73 +297,47 @@ fn store_others(rt: &(impl Print + Eprint), radio: Radio) -> Radio {
 // The notice passes from the node to the radio; the first question stands in its buffer.
 fn notify(
     rt: &(impl Print + Eprint),
-    table: &mut [u64],
-    figures: &mut [u64],
+    node: &mut Node,
     radio: Radio,
     number: u64,
     question: &mut [u8],
 ) -> Next {
-    let mut notice = [0u8; BUFFER_ROOM];
-    let octets = send_notice(rt, table, figures, number, &mut notice);
-    let next = radio::noticed(radio, &notice[..octets], question);
-    let doing = next.doing;
-    put_refusal(rt, doing);
-    if doing.respond == 1 {
-        respond(rt, table, figures, number);
+    let mut notice = [0; BUFFER_ROOM];
+    let notice = node.send(rt, number, &mut notice);
+    let next = radio::noticed(radio, notice, question);
+    put_refusal(rt, next.doing);
+    if next.doing.respond == 1 {
+        node.take_response(rt, number);
     }
     next
 }
 
 // A question passes to the node, and its reply back under the question's invoke number; the next question takes its place in the buffer.
-fn ask(
-    rt: &(impl Print + Eprint),
-    table: &mut [u64],
-    figures: &mut [u64],
-    next: Next,
-    question: &mut [u8],
-) -> Next {
-    let radio = next.radio;
-    let doing = next.doing;
-    let asked = streams::within(doing.octets, question);
-    put(rt, b"radio asks ");
-    put_count(rt, doing.invoke);
-    put(rt, b" ");
-    put_string(rt, &question[..asked]);
-    let mut reply = [0u8; BUFFER_ROOM];
-    let octets = ask_node(
-        rt,
-        table,
-        figures,
-        &mut reply,
-        radio.own,
-        &question[..asked],
-    );
-    let next = radio::replied(radio, doing.invoke, &reply[..octets], question);
+fn ask(rt: &(impl Print + Eprint), node: &mut Node, next: Next, question: &mut [u8]) -> Next {
+    let Next { radio, doing } = next;
+    let asked = question.get(..doing.octets).unwrap_or_default();
+    put(rt, &format_args!("radio asks {} ", doing.invoke));
+    put_string(rt, asked);
+    let mut reply = [0; BUFFER_ROOM];
+    let reply = node.ask(rt, &mut reply, radio.own, asked);
+    let next = radio::replied(radio, doing.invoke, reply, question);
     put_refusal(rt, next.doing);
     next
-}
-
-fn is_asking(next: Next) -> bool {
-    let doing = next.doing;
-    doing.octets != 0
 }
 
 // The round: a question is asked until there is none, of each stored number at most once.
 fn ask_round(
     rt: &(impl Print + Eprint),
-    table: &mut [u64],
-    figures: &mut [u64],
+    node: &mut Node,
     first: Next,
     question: &mut [u8],
 ) -> Radio {
     let mut next = first;
-    let mut questions = 0;
-    while questions < MOST_STORED {
-        if !is_asking(next) {
-            return next.radio;
+    for _ in 0..MOST_STORED {
+        if next.doing.octets == 0 {
+            break;
         }
-        next = ask(rt, table, figures, next, question);
-        questions += 1;
+        next = ask(rt, node, next, question);
     }
     next.radio
 }
@@ -414,39 +345,24 @@ fn ask_round(
 // She is told that she was forced off a number: the notice, the round, and what her radio stores then.
 fn tell(
     rt: &(impl Print + Eprint),
-    table: &mut [u64],
-    figures: &mut [u64],
+    node: &mut Node,
     radio: Radio,
     number: u64,
     question: &mut [u8],
 ) -> Radio {
-    let first = notify(rt, table, figures, radio, number, question);
-    let radio = ask_round(rt, table, figures, first, question);
+    let first = notify(rt, node, radio, number, question);
+    let radio = ask_round(rt, node, first, question);
     put_stored(rt, radio);
     radio
 }
 
 fn main(rt: HostRuntime) {
-    let mut table = known_numbers();
-    let mut figures = figures_of(&table);
-    let mut question = [0u8; WRITER_ROOM];
-    let radio = begin_service(&rt, &mut table, &mut figures, new_radio());
+    let mut node = Node::new();
+    let mut question = [0; WRITER_ROOM];
+    let radio = begin_service(&rt, &mut node, new_radio());
     let radio = store_others(&rt, radio);
-    request(
-        &rt,
-        &mut table,
-        &mut figures,
-        SUPERVISOR,
-        b"##214*0492123401*88*4915100001*#",
-    );
-    let radio = tell(&rt, &mut table, &mut figures, radio, LEADING, &mut question);
-    clear(&rt, &mut table, &mut figures, OTHER_LEADING, DRIVER);
-    tell(
-        &rt,
-        &mut table,
-        &mut figures,
-        radio,
-        OTHER_LEADING,
-        &mut question,
-    );
+    node.request(&rt, SUPERVISOR, b"##214*0492123401*88*4915100001*#");
+    let radio = tell(&rt, &mut node, radio, LEADING, &mut question);
+    node.clear(&rt, OTHER_LEADING, DRIVER);
+    tell(&rt, &mut node, radio, OTHER_LEADING, &mut question);
 }

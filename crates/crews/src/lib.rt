@@ -13,18 +13,11 @@ pub const LEAD_CODE: u64 = 1;
 const MOST_CODES: usize = 9;
 
 // What an additional field says: a single request, a crew by its count of codes, or `BULK` that breaks its rules.
-#[derive(Clone, Copy)]
+#[derive(Clone, Copy, Debug, PartialEq, Eq)]
 pub enum Crew {
     Single,
     Codes(usize),
     Broken,
-}
-
-// How many codes a part has, or that they cannot be read.
-#[derive(Clone, Copy)]
-enum CodesRead {
-    Read(usize),
-    Unreadable,
 }
 
 // The value of the i-th of two-digit codes that stand one behind the other.
@@ -33,7 +26,7 @@ pub fn code_at(digits: &[u8], i: usize) -> u64
     requires i_in_bounds { 2 * i + 1 < length digits.now }
     ensures { result ≡ code_at digits.now i }
 {
-    10 * (digits[2 * i] - b'0') as u64 + (digits[2 * i + 1] - b'0') as u64
+    10 * u64::from(digits[2 * i] - b'0') + u64::from(digits[2 * i + 1] - b'0')
 }
 
 // Whether a code stands among these.
@@ -41,13 +34,10 @@ fn is_among(code: u64, digits: &[u8]) -> bool
     requires { are_digits digits.now ≡ true }
     ensures { result ≡ is_in code (codes_in digits.now) }
 {
-    let n = digits.len() / 2;
-    let mut i = 0;
-    while i < n {
+    for i in 0..digits.len() / 2 {
         if code_at(digits, i) == code {
             return true;
         }
-        i += 1;
     }
     false
 }
@@ -57,15 +47,12 @@ fn are_allowed(digits: &[u8]) -> bool
     requires { are_digits digits.now ≡ true }
     ensures { result ≡ codes_allowed (codes_in digits.now) }
 {
-    let n = digits.len() / 2;
-    let mut i = 0;
-    while i < n {
+    for i in 0..digits.len() / 2 {
         let code = code_at(digits, i);
         if code == LEAD_CODE {
             return false;
         }
-        i += 1;
-        if is_among(code, &digits[2 * i..]) {
+        if is_among(code, &digits[2 * i + 2..]) {
             return false;
         }
     }
@@ -73,58 +60,54 @@ fn are_allowed(digits: &[u8]) -> bool
 }
 
 // The codes of a part: digits, two for each.
-fn read_codes(part: &[u8]) -> CodesRead
+fn read_codes(part: &[u8]) -> Option<usize>
     ensures { CodesAre result (sound_codes_at part.now) }
 {
     if numbers::leading_digits(part) != part.len() {
-        return CodesRead::Unreadable;
+        return None;
     }
     if part.len() % 2 != 0 {
-        return CodesRead::Unreadable;
+        return None;
     }
     let n = part.len() / 2;
     if MOST_CODES < n {
-        return CodesRead::Unreadable;
+        return None;
     }
     if !are_allowed(part) {
-        return CodesRead::Unreadable;
+        return None;
     }
-    CodesRead::Read(n)
+    Some(n)
 }
 
 // Nothing, or a space and at least one code.
-fn read_spaced(part: &[u8]) -> CodesRead
+fn read_spaced(part: &[u8]) -> Option<usize>
     ensures { CodesAre result (spaced_codes_at part.now) }
 {
-    if part.len() == 0 {
-        return CodesRead::Read(0);
+    if part.is_empty() {
+        return Some(0);
     }
     if part[0] != b' ' {
-        return CodesRead::Unreadable;
+        return None;
     }
-    let CodesRead::Read(n) = read_codes(&part[1..]) else {
-        return CodesRead::Unreadable;
-    };
+    let n = read_codes(&part[1..])?;
     if n == 0 {
-        return CodesRead::Unreadable;
+        return None;
     }
-    CodesRead::Read(n)
+    Some(n)
 }
 
 // One digit n, and n codes behind it.
-fn read_counted(part: &[u8]) -> CodesRead
+fn read_counted(part: &[u8]) -> Option<usize>
     ensures { CodesAre result (counted_codes_at part.now) }
 {
-    if part.len() == 0 {
-        return CodesRead::Unreadable;
+    if part.is_empty() {
+        return None;
     }
-    let CodesRead::Read(n) = read_spaced(&part[1..]) else {
-        return CodesRead::Unreadable;
-    };
+    let n = read_spaced(&part[1..])?;
     if part[0] != b'0' + n as u8 {
-        return CodesRead::Unreadable;
+        return None;
     }
-    CodesRead::Read(n)
+    Some(n)
 }
 
 // Whether an additional field is of a crew, and of how many codes besides the lead's.
@@ -134,8 +117,8 @@ pub fn read_crew(field: &[u8]) -> Crew
     if !answers::begins_with(field, b"BULK") {
         return Crew::Single;
     }
-    let CodesRead::Read(n) = read_counted(&field[4..]) else {
-        return Crew::Broken;
-    };
-    Crew::Codes(n)
+    match read_counted(&field[4..]) {
+        None => Crew::Broken,
+        Some(n) => Crew::Codes(n),
+    }
 }

@@ -4,6 +4,7 @@
 ghost use Rattle.std.specs.Prelude.{◌≡◌, true, [], ◌≤◌, length};
 ghost use Rattle.frames.specs.Messages.{frame_room};
 ghost use Rattle.tables.specs.Tables.{list_sound};
+ghost use Rattle.states.specs.Lent.{state_in, SameLoans};
 ghost use Rattle.states.specs.States.{beside, state_sound};
 ghost use Rattle.rules.specs.Answers.{made};
 ghost use Rattle.rules.specs.Crews.{requesting};
@@ -11,52 +12,55 @@ ghost use Rattle.rules.specs.Frames.{answered_in, in_frame, own_reply, framed_re
 ghost use Rattle.visits.specs.Said.{said_request};
 ghost use Rattle.exchange.specs.Said.{said_framed, string_fits};
 
-use frames::{Body, FRAME_ROOM, RegisterRead, VERSION};
+use answers::{Failure, Outcome, Refusal, RequestError};
+use framers::Fault;
+use frames::{FRAME_ROOM, Problem, Register, VERSION};
 use node::BUFFER_ROOM;
 use numbers::Msisdn;
-use visits::RequestAnswer;
+use states::Lent;
+use visits::Reply;
 
-// The answer to a framed request: a refusal by its number, or what was written: an outcome by its number, 03 with the holder, an error by its code, a Reject by its problem, each with the frame's octet count.
-#[derive(Clone, Copy)]
-pub enum FramedAnswer {
-    Refused(u8),
-    Outcome(u8, usize),
+// What was written: an outcome, 03 with the holder, an error or a Reject, each with the frame's octet count.
+#[derive(Clone, Copy, Debug, PartialEq, Eq)]
+pub enum Framed {
+    Outcome(Outcome, usize),
     Held(Msisdn, usize),
-    Error(u8, usize),
-    Reject(u8, usize),
+    Error(RequestError, usize),
+    Reject(Problem, usize),
 }
 
 // Writes the answer of the request inside as a Release Complete.
 fn put_answer(
-    answer: RequestAnswer,
+    answer: Result<Reply, Failure>,
     reply: &[u8],
     first: u8,
     number: u8,
     frame: &mut [u8],
-) -> FramedAnswer
+) -> Result<Framed, Refusal>
     requires { (string_fits (said_request answer) (length reply.now) ≡ true) × (frame_room ≤ length frame.old) }
     ensures { made (said_framed result) (beside [] []) frame.new ≡ answered_in first number frame.old (beside [] []) reply.now (said_request answer) }
 {
     match answer {
-        RequestAnswer::Refused(n) => FramedAnswer::Refused(n),
-        RequestAnswer::Error(n) => {
-            FramedAnswer::Error(n, framers::write_error(first, number, n, frame))
+        Err(Failure::Refused(refusal)) => Err(refusal),
+        Err(Failure::Error(error)) => {
+            let fault = Fault::Error(u8::from(error));
+            let count = framers::write_fault(first, number, fault, frame);
+            Ok(Framed::Error(error, count))
         }
-        RequestAnswer::Outcome(n, octets) => {
+        Ok(Reply::Outcome(outcome, octets)) => {
             let count = framers::write_result(first, number, &reply[..octets], frame);
-            FramedAnswer::Outcome(n, count)
+            Ok(Framed::Outcome(outcome, count))
         }
-        RequestAnswer::Held(msisdn, octets) => {
+        Ok(Reply::Held(msisdn, octets)) => {
             let count = framers::write_result(first, number, &reply[..octets], frame);
-            FramedAnswer::Held(msisdn, count)
+            Ok(Framed::Held(msisdn, count))
         }
     }
 }
 
 // Carries out the request inside, and writes its answer.
 fn ask_inside(
-    table: &mut [u64],
-    figures: &mut [u64],
+    lent: &mut Lent<'_>,
     list: &[u64],
     frame: &mut [u8],
     requester: Msisdn,
@@ -64,12 +68,13 @@ fn ask_inside(
     number: u8,
     scheme: u8,
     string: &[u8],
-) -> FramedAnswer
-    requires { (state_sound (beside table.old figures.old) ≡ true) × (list_sound list.now ≡ true) × (frame_room ≤ length frame.old) }
-    ensures { made (said_framed result) (beside table.new figures.new) frame.new ≡ in_frame first number frame.old (requesting (beside table.old figures.old) list.now own_reply requester scheme string.now) }
+) -> Result<Framed, Refusal>
+    requires { (state_sound (state_in lent.old) ≡ true) × (list_sound list.now ≡ true) × (frame_room ≤ length frame.old) }
+    ensures answer { made (said_framed result) (state_in lent.new) frame.new ≡ in_frame first number frame.old (requesting (state_in lent.old) list.now own_reply requester scheme string.now) }
+    ensures loans { SameLoans lent.old lent.new }
 {
     let mut reply = [0u8; BUFFER_ROOM];
-    let answer = node::ask_string(table, figures, list, &mut reply, requester, scheme, string);
+    let answer = node::ask_string(lent, list, &mut reply, requester, scheme, string);
     put_answer(answer, &reply, first, number, frame)
 }
 
@@ -81,33 +86,33 @@ pub fn framed_request(
     frame: &mut [u8],
     requester: Msisdn,
     message: &[u8],
-) -> FramedAnswer
+) -> Result<Framed, Refusal>
     ensures { made (said_framed result) (beside table.new figures.new) frame.new ≡ framed_request (beside table.old figures.old) list.now frame.old requester message.now }
 {
     if frame.len() < FRAME_ROOM {
-        return FramedAnswer::Refused(1);
+        return Err(Refusal::NoRoom);
     }
-    let RegisterRead::Numbered(first, number, body) = frames::read_register(message) else {
-        return FramedAnswer::Refused(11);
-    };
+    let Register {
+        first,
+        number,
+        body,
+    } = frames::read_register(message)?;
     if !tables::list_sound(list) {
-        return FramedAnswer::Refused(8);
+        return Err(Refusal::UnsoundList);
     }
-    let refused = states::refusal(table, figures);
-    if refused != 0 {
-        return FramedAnswer::Refused(refused);
-    }
+    states::check(table, figures)?;
     match body {
-        Body::Wrong(problem) => {
-            let count = framers::write_reject(first, number, problem, frame);
-            FramedAnswer::Reject(problem, count)
+        Err(problem) => {
+            let fault = Fault::Reject(u8::from(problem));
+            let count = framers::write_fault(first, number, fault, frame);
+            Ok(Framed::Reject(problem, count))
         }
-        Body::Asks(scheme, count) => {
+        Ok(asked) => {
             let end = message.len() - VERSION.len();
-            let string = &message[end - count..end];
-            ask_inside(
-                table, figures, list, frame, requester, first, number, scheme, string,
-            )
+            let string = &message[end - asked.count..end];
+            let scheme = asked.scheme;
+            let lent = &mut Lent { table, figures };
+            ask_inside(lent, list, frame, requester, first, number, scheme, string)
         }
     }
 }

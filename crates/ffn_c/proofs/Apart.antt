@@ -1,10 +1,10 @@
 -- The structs lose nothing: from the four numbers the answer in document 01's words can be read back, and a routing's from its own. Assumes nothing.
-use mathlib.Core.Path.{◌≡◌, refl}
+use mathlib.Core.Path.{◌≡◌, refl, sym, ap, ◌∙◌}
 use mathlib.Core.Bool.{Bool, true, false, not, cond, ◌||◌}
 use mathlib.Core.Option.{Option, none, some}
 use mathlib.Core.List.{List, [], ◌∷◌}
 use Prim.Native.Nat.{ℕ, zero, suc, ◌<◌}
-use lib.ListN.{get_or}
+use lib.ListN.{take}
 use lib.Dec.{eqb}
 use borrow.Author.Tests.{not-true}
 use Rattle.answers.proofs.Tests.{no_path, or_neither}
@@ -17,8 +17,8 @@ use Rattle.frames.specs.Components.{Body, wrong, asks}
 use Rattle.frames.specs.Messages.{Register, register_of}
 use Rattle.records.specs.Steps.{is_due, delay_allowed}
 use Rattle.rows.specs.Rows.{number_at, record_at}
-use Rattle.tables.specs.declared.Found.{Found}
-use Rattle.tables.specs.declared.Found.TheVariants.{At, Nothing}
+use Rattle.tables.specs.Keys.{Found}
+use Rattle.std.specs.Prelude.{Result, Ok, Err, Some, None}
 use Rattle.tables.specs.Tables.{table_sound, rows_in}
 use Rattle.states.specs.States.{State, figures_right, row_for, record_for, record_in}
 use Rattle.rules.specs.Answers.{Answer, refusal, error, outcome, holder_is, return_error, reject, sent_to, delivered, dropped, again, found, none_due, ask_network, routed_to, Outcome, is_negative_number, refusing}
@@ -29,9 +29,11 @@ use Rattle.rules.specs.Frames.{framed_checks, answered_in, in_frame, own_reply, 
 use Rattle.rules.specs.Notices as notices
 use Rattle.rules.specs.Terminal.{terminal_erasure}
 use Rattle.rules.proofs.Each.{request_each, terminal_each}
-use Rattle.routes.specs.declared.Subaddress.TheVariants.{Absent, Octets}
+use Rattle.answers.specs.declared.Failure.{Failure}
+use Rattle.answers.specs.declared.Failure.TheVariants.{Refused, Error}
 use Rattle.routes.specs.declared.RoutingAnswer.{RoutingAnswer}
-use Rattle.routes.specs.declared.RoutingAnswer.TheVariants.{Refused, Error, Outcome as Answered, AskNetwork, Routed}
+use Rattle.routes.specs.declared.RoutingAnswer.TheVariants.{Outcome as Answered, AskNetwork, Routed}
+use Rattle.routes.proofs.Choice.{routing_one}
 use Rattle.routes.specs.Said.{said_routing}
 use Rattle.structs.specs.declared.Answer as numbers
 use Rattle.structs_calls.specs.Answers.{of_answer}
@@ -178,8 +180,8 @@ terminal_back state reply number holder =
 
 sent_tells : (number : FunctionalNumber) (place : Found) (state : State) (buffer : List ℕ) → Tells (notices.sent_at number place state buffer)
 unfolding tells IsTold Tells
-sent_tells number Nothing state buffer = refl
-sent_tells number (At i) state buffer = refl
+sent_tells number None state buffer = refl
+sent_tells number (Some i) state buffer = refl
 
 pub sending_back :
     (state : State) (buffer : List ℕ) (number : FunctionalNumber) (delay clock : ℕ)
@@ -196,8 +198,8 @@ sending_back state buffer number delay clock =
 
 resulted_tells : (kind clock : ℕ) (place : Found) (state : State) → Tells (notices.result_at kind clock place state)
 unfolding tells IsTold Tells
-resulted_tells kind clock Nothing state = refl
-resulted_tells kind clock (At i) state =
+resulted_tells kind clock None state = refl
+resulted_tells kind clock (Some i) state =
     decide_each IsTold ((eqb kind 0, delivered) ∷ (notices.clears kind (record_in state i).notice, dropped) ∷ []) again (refl, (refl, tt)) refl
 
 pub result_back :
@@ -229,21 +231,23 @@ finding_back table delay clock =
 
 -- ---- a routing, whose struct is another
 
--- the answer, read back
-pub route_back : Route → RoutingAnswer
+-- the answer in the paper's words, read back
+pub route_back : Route → Answer
 route_back r =
-    cond (eqb r.class class.refusal_class) (Refused r.number)
-    (cond (eqb r.class class.error_class) (Error r.number)
-    (cond (eqb r.class class.outcome_class) (Answered r.number)
-    (cond (eqb r.class class.ask_network_class) (AskNetwork (get_or r.code 0 0) (get_or r.code 1 0) (get_or r.code 2 0))
-    (Routed (record { 0 = r.msisdn })
-    (cond (eqb r.subaddress_octets 0) Absent (Octets (get_or r.subaddress 0 0) (get_or r.subaddress 1 0) (get_or r.subaddress 2 0)))))))
+    cond (eqb r.class class.refusal_class) (refusal r.number)
+    (cond (eqb r.class class.error_class) (error r.number)
+    (cond (eqb r.class class.outcome_class) (outcome r.number 0)
+    (cond (eqb r.class class.ask_network_class) (ask_network r.code) (routed_to r.msisdn (take r.subaddress_octets r.subaddress)))))
 
-pub routing_back : (a : RoutingAnswer) → route_back (of_route (said_routing a)) ≡ a
+pub routing_back : (a : Result RoutingAnswer Failure) → route_back (of_route (said_routing a)) ≡ said_routing a
 unfolding route_back
-routing_back (Refused n) = refl
-routing_back (Error n) = refl
-routing_back (Answered n) = refl
-routing_back (AskNetwork x y z) = refl
-routing_back (Routed msisdn Absent) = refl
-routing_back (Routed msisdn (Octets x y z)) = refl
+routing_back (Err (Refused r)) = refl
+routing_back (Err (Error e)) = refl
+routing_back (Ok (Answered o)) = refl
+routing_back (Ok (AskNetwork code)) = refl
+routing_back (Ok (Routed msisdn None)) = refl
+routing_back (Ok (Routed msisdn (Some s))) = refl
+
+-- so the struct tells the answers of a routing apart
+pub routing_apart : (v w : Result RoutingAnswer Failure) → of_route (said_routing v) ≡ of_route (said_routing w) → v ≡ w
+routing_apart v w e = routing_one v w (said_routing w) (sym (routing_back v) ∙ ap route_back e ∙ routing_back w) refl

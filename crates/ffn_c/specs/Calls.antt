@@ -14,8 +14,9 @@ use Rattle.image.specs.Images.{SaidRead, RestoreOutcome, leaving}
 use Rattle.timetable.specs.Timetable as timetable
 use Rattle.rules.specs.Answers as rules
 use Rattle.structs.specs.declared.Answer.{Answer}
-use Rattle.structs_read.specs.declared.Operating.{Operating}
-use Rattle.structs_read.specs.declared.Operating.TheVariants.{Known, Unknown}
+use Rattle.std.specs.Prelude as core
+use Rattle.std.specs.Prelude.{Some, None}
+use Rattle.strings.specs.declared.Operation.{Operation}
 use Rattle.structs_read.specs.declared.RequestRead.{RequestRead}
 use Rattle.structs.specs.declared.ImageCounts.{ImageCounts}
 use Rattle.structs.specs.Numbers.{of_said}
@@ -45,15 +46,15 @@ of_writer o = returning (of_said o.answer) [] [] o.buffer
 -- ---- the writers of a request
 
 -- "the request writer is given fields that break the string's rules": so does an operation that is none
-abbrev pub writing_fields : Operating → FunctionalNumber → Erasing → List ℕ → List ℕ → writing.WriteOutcome
-writing_fields Unknown number erasing additional out = writing.writing (ltb (length out) writer_room) true [] out
-writing_fields (Known operation) number erasing additional out =
+abbrev pub writing_fields : core.Option Operation → FunctionalNumber → Erasing → List ℕ → List ℕ → writing.WriteOutcome
+writing_fields None number erasing additional out = writing.writing (ltb (length out) writer_room) true [] out
+writing_fields (Some operation) number erasing additional out =
     writing_request (record { operation = operation; number = number; erasing = erasing; additional = additional }) out
 
 -- so it does of a Register
-abbrev pub framing_fields : ℕ → ℕ → Operating → FunctionalNumber → Erasing → List ℕ → List ℕ → writing.WriteOutcome
-framing_fields transaction invoke Unknown number erasing additional frame = writing.writing (ltb (length frame) frame_room) true [] frame
-framing_fields transaction invoke (Known operation) number erasing additional frame =
+abbrev pub framing_fields : ℕ → ℕ → core.Option Operation → FunctionalNumber → Erasing → List ℕ → List ℕ → writing.WriteOutcome
+framing_fields transaction invoke None number erasing additional frame = writing.writing (ltb (length frame) frame_room) true [] frame
+framing_fields transaction invoke (Some operation) number erasing additional frame =
     writing_register transaction invoke (request_from operation number erasing additional) frame
 
 -- ---- the request's reader

@@ -20,11 +20,12 @@ ghost use Rattle.structs.specs.Figures.{of_figures};
 ghost use Rattle.structs_read.specs.Frames.{of_register, of_release};
 ghost use Rattle.ffn_c.specs.Calls.{returning, of_call, of_writer, writing_fields, framing_fields, reading_into, of_reading, of_timetable};
 
+use answers::RequestError;
 use numbers::{FunctionalNumber, Msisdn};
-use strings::{Operation, Reading};
+use strings::Operation;
 use structs::{Answer, ERROR, FiguresRead, ImageCounts};
 use structs_calls::Route;
-use structs_read::{FrameRead, Operating, RequestRead};
+use structs_read::{FrameRead, RequestRead};
 
 // Packs the characters into out.
 #[unsafe(no_mangle)]
@@ -54,7 +55,7 @@ pub extern "C" fn ffn_write_request(
     ensures { returning result [] [] out.new ≡ of_writer (writing_fields (operation_of operation) (record { 0 = number }) (erasing_of msisdn) additional.now out.old) }
 {
     let erasing = structs_read::erasing_of(msisdn);
-    let Operating::Known(operation) = structs_read::operation_of(operation) else {
+    let Some(operation) = structs_read::operation_of(operation) else {
         // breaks the string's rules, as nobody's number does: the writer refuses that 9, after 1
         return structs::of_written(writers::write_request(
             Operation::Register,
@@ -78,12 +79,10 @@ pub extern "C" fn ffn_write_request(
 pub extern "C" fn ffn_read_request(octets: &[u8], text: &mut [u8]) -> RequestRead
     ensures { returning result [] [] text.new ≡ reading_into octets.now text.old }
 {
-    let read = strings::read_request(octets);
-    let reading = read.reading;
-    let Reading::Read(fields) = reading else {
+    let Some(fields) = strings::read_request(octets).reading else {
         return RequestRead {
             class: ERROR,
-            number: 36,
+            number: u32::from(u8::from(RequestError::UnexpectedData)),
             operation: 0,
             crew: 0,
             functional_number: 0,
@@ -93,7 +92,8 @@ pub extern "C" fn ffn_read_request(octets: &[u8], text: &mut [u8]) -> RequestRea
             codes: 0,
         };
     };
-    packing::unpack(octets, text);
+    // A text that is too short stays as it was.
+    let _ = packing::unpack(octets, text);
     structs_read::of_fields(fields)
 }
 
@@ -219,7 +219,7 @@ pub extern "C" fn ffn_write_register(
     let nobody = FunctionalNumber(0);
     let named = FunctionalNumber(number);
     let erasing = structs_read::erasing_of(msisdn);
-    let Operating::Known(operation) = structs_read::operation_of(operation) else {
+    let Some(operation) = structs_read::operation_of(operation) else {
         // breaks the string's rules, as in ffn_write_request: refused 9, after 1
         return structs::of_written(framers::write_register(
             transaction,
@@ -268,7 +268,7 @@ pub extern "C" fn ffn_write_image(
 ) -> Answer
     ensures { returning result [] [] image.new ≡ of_writer (writing_image (beside table.now figures.now) list.now image.old) }
 {
-    structs::of_image_written(image::write_image(table, figures, list, image))
+    structs::of_written(image::write_image(table, figures, list, image))
 }
 
 // Reads an image back into lent words.

@@ -1,6 +1,6 @@
 -- Fields of digits, read one digit after the other. Assumes nothing.
-use mathlib.Core.Path.{◌≡◌, refl, sym, ◌∙◌}
-use mathlib.Core.Bool.{Bool, true, false, cond}
+use mathlib.Core.Path.{◌≡◌, refl, sym, ap, ◌∙◌}
+use mathlib.Core.Bool.{Bool, true, false, cond, ◌&&◌}
 use mathlib.Core.Option.{none, some}
 use mathlib.Core.List.{List, [], ◌∷◌}
 use Prim.Native.Nat.{ℕ, ◌≤◌, ◌<◌}
@@ -12,7 +12,14 @@ use Rattle.answers.proofs.Tests.{no_path, and_no}
 use Rattle.numbers.specs.Numbers.{is_digit, are_digits, pushed, stored_form, leading_digits, leading_number}
 use Rattle.numbers.proofs.Digits.{pushed_grows}
 use Rattle.answers.proofs.Leading.{each_leading}
-use Rattle.numbers.specs.declared.NumberRead.TheVariants.{Number, Unreadable}
+use Rattle.std.specs.List.{list_all}
+use Rattle.std.specs.Char.{is_ascii_digit}
+use Rattle.answers.specs.Leading.{each}
+use Rattle.answers.proofs.Checks.{not_some}
+use Rattle.forms.specs.Reads.{value_in}
+use Rattle.std.specs.Prelude as core
+use Rattle.std.specs.Prelude.{Some, None}
+use Rattle.std.proofs.lemmas.Option.{same_Some}
 use Rattle.forms.specs.Lines.{is_digits, is_number_long, number_of, asked_of, value_below}
 
 -- ---- that a field is digits
@@ -56,7 +63,7 @@ leading_all : (s : List ℕ) → are_digits s ≡ true → leading_digits s ≡ 
 leading_all s h = eqb-true (leading_digits s) (length s) (sym (each_leading is_digit s) ∙ h)
 
 -- a field of digits is a number if it is long enough and not too long
-number_by_length : (s : List ℕ) → is_digits s ≡ true → leading_number s ≡ cond (is_number_long s) (Number (stored_form s) (length s)) Unreadable
+number_by_length : (s : List ℕ) → is_digits s ≡ true → leading_number s ≡ cond {A = core.Option (ℕ × ℕ)} (is_number_long s) (Some (stored_form s, length s)) None
 unfolding leading_number
 number_by_length s h = rw (leading_all s (digits_all s h), take-length s)
 
@@ -64,20 +71,38 @@ pub number_unread : (s : List ℕ) → is_digits s ≡ false → (number_of s �
 unfolding number_of asked_of
 number_unread s h = (rw h, rw h)
 
-pub number_read_lem : (s : List ℕ) (w n : ℕ) → is_digits s ≡ true → leading_number s ≡ Number w n → (number_of s ≡ some w) × (asked_of s ≡ some w)
+pub number_read_lem : (s : List ℕ) (w n : ℕ) → is_digits s ≡ true → leading_number s ≡ Some (w, n) → (number_of s ≡ some w) × (asked_of s ≡ some w)
 unfolding number_of asked_of
 number_read_lem s w n h e = go (is_number_long s) refl
   where
     go : (b : Bool) → is_number_long s ≡ b → (number_of s ≡ some w) × (asked_of s ≡ some w)
     go true l =
-        let f : stored_form s ≡ w = cc (rw l at (sym (number_by_length s h) ∙ e)) in
+        let f : stored_form s ≡ w = ap (λ (p : ℕ × ℕ). p.0) (same_Some (stored_form s, length s) (w, n) (rw l at (sym (number_by_length s h) ∙ e))) in
         (rw (h, l, f), rw (h, l, f))
     go false l = absurd (let z : ◌≡◌ {A = ℕ} 0 1 = cc (rw l at (sym (number_by_length s h) ∙ e)) in omega arith)
 
-pub number_malformed : (s : List ℕ) → is_digits s ≡ true → leading_number s ≡ Unreadable → (number_of s ≡ none) × (asked_of s ≡ some 0)
+pub number_malformed : (s : List ℕ) → is_digits s ≡ true → leading_number s ≡ None → (number_of s ≡ none) × (asked_of s ≡ some 0)
 unfolding number_of asked_of
 number_malformed s h e = go (is_number_long s) refl
   where
     go : (b : Bool) → is_number_long s ≡ b → (number_of s ≡ none) × (asked_of s ≡ some 0)
     go true l = absurd (let z : ◌≡◌ {A = ℕ} 0 1 = cc (rw l at (sym (number_by_length s h) ∙ e)) in omega arith)
     go false l = (rw (h, l), rw (h, l))
+
+-- a field of digits that is no number is asked for as 0
+pub asked_or_none : (s : List ℕ) (r : core.Option ℕ) → is_digits s ≡ true → value_in r ≡ number_of s → some (core.unwrap_or r 0) ≡ asked_of s
+unfolding number_of asked_of
+asked_or_none s r h e = go (is_number_long s) refl r e
+  where
+    go :
+        (b : Bool) → is_number_long s ≡ b → (r : core.Option ℕ) → value_in r ≡ number_of s → some (core.unwrap_or r 0) ≡ asked_of s
+    go true l (Some v) e = rw (h, l) (rw (h, l) at e)
+    go true l None e = not_some (rw (h, l) at e)
+    go false l (Some v) e = not_some (sym (rw (h, l) at e))
+    go false l None e = rw (h, l)
+
+-- the library's test of each octet
+pub digits_listed : (s : List ℕ) → are_digits s ≡ list_all is_ascii_digit s
+unfolding each is_digit
+digits_listed [] = refl
+digits_listed (c ∷ s) = ap (λ (b : Bool). is_digit c && b) (digits_listed s)

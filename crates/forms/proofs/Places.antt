@@ -1,15 +1,19 @@
 -- Lines and fields by the place where they end: the first line feed, the first space. Assumes nothing.
-use mathlib.Core.Path.{◌≡◌, refl, ap, ◌∙◌}
+use mathlib.Core.Path.{◌≡◌, refl, sym, ap, ◌∙◌}
 use mathlib.Core.Bool.{Bool, true, false, cond}
-use mathlib.Core.Option.{none, some}
+use mathlib.Core.Option.{none, some, some-injective}
+use mathlib.Core.Logic.{⊎_elim}
 use mathlib.Core.List.{List, [], ◌∷◌}
 use Prim.Native.Nat.{ℕ, suc, ◌+◌, ◌-◌, ◌≤◌, ◌<◌}
 use native.Mathlib.Numerals.{add-one}
 use native.Mathlib.Omega.{arith}
-use lib.ListN.{length, take, drop, get_or}
+use lib.ListN.{length, take, drop, get_or, length-drop}
 use lib.Seq.{take_all}
 use lib.Dec.{eqb}
 use borrow.Author.Tests.{eq-eqb, ne_eqb}
+use Rattle.answers.proofs.Tests.{less_or_not}
+use Rattle.answers.proofs.Checks.{not_some}
+use Rattle.forms.specs.Reads.{Parted}
 use Rattle.octets.specs.Octets.{index_of, index_after, slice}
 use Rattle.forms.specs.Lines.{line_feed, on_first, lines_of, space, first_field, behind_field, lettered, form_of}
 
@@ -59,6 +63,17 @@ split s end (e, h) n = record { field = field_front s ∙ rw e; behind = behind_
 
 pub unsplit : (s : List ℕ) (end : ℕ) → (end ≡ index_of space s) × (end ≤ length s) → end ≡ length s → behind_field s ≡ none
 unsplit s end (e, h) n = behind_none s (omega arith)
+
+-- what stands behind the first field is the end of the part
+pub parted : {rest field behind : List ℕ} → Parted rest field behind → (length behind ≤ length rest) × (drop (length rest - length behind) rest ≡ behind)
+parted {rest} {field} {behind} p = ⊎_elim within (λ h. not_some (sym (behind_none rest h) ∙ p.second)) (less_or_not (index_of space rest) (length rest))
+  where
+    within : index_of space rest < length rest → (length behind ≤ length rest) × (drop (length rest - length behind) rest ≡ behind)
+    within h =
+        let same : drop (index_of space rest + 1) rest ≡ behind = some-injective _ _ (sym (behind_some rest h) ∙ p.second) in
+        let count : length behind ≡ length rest - (index_of space rest + 1) = ap length (sym same) ∙ length-drop (index_of space rest + 1) rest in
+        let place : length rest - length behind ≡ index_of space rest + 1 = omega arith in
+        (omega arith, rw place same)
 
 -- an octet more in front of the first line
 line_longer :

@@ -10,16 +10,16 @@ use borrow.Author.Tests.{ltb-true}
 use Rattle.answers.specs.Checks.{only_if}
 use Rattle.answers.proofs.Tests.{and_right}
 use Rattle.numbers.specs.Numbers.{pushed}
-use Rattle.forms.specs.declared.FieldRead.{FieldRead}
-use Rattle.forms.specs.declared.FieldRead.TheVariants.{Value, Unreadable}
+use Rattle.std.specs.Prelude as core
+use Rattle.std.specs.Prelude.{Some, None}
 use Rattle.forms.specs.declared.Line.{Line}
 use Rattle.forms.specs.Lines.{is_digits, value_below, Form}
 use Rattle.forms.specs.Reads.{value_in, Reads}
 
-pub is_value : (r : FieldRead) (v : ℕ) {x : Option ℕ} → value_in r ≡ x → r ≡ Value v → x ≡ some v
+pub is_value : (r : core.Option ℕ) (v : ℕ) {x : Option ℕ} → value_in r ≡ x → r ≡ Some v → x ≡ some v
 is_value r v e told = sym e ∙ ap value_in told
 
-pub is_none_lem : (r : FieldRead) {x : Option ℕ} → value_in r ≡ x → r ≡ Unreadable → x ≡ none
+pub is_none_lem : (r : core.Option ℕ) {x : Option ℕ} → value_in r ≡ x → r ≡ None → x ≡ none
 is_none_lem r e told = sym e ∙ ap value_in told
 
 pub value_fits : (limit : ℕ) (s : List ℕ) (v : ℕ) → value_below limit s ≡ some v → v < limit
@@ -30,5 +30,5 @@ value_fits limit s v = go (is_digits s && ltb (pushed 0 s) limit) refl
     go true t e = let p : pushed 0 s ≡ v = cc in omega (arith, ltb-true (pushed 0 s) limit (and_right (is_digits s) _ t))
     go false t e = absurd (let z : ◌≡◌ {A = ℕ} 0 1 = cc in omega arith)
 
-pub reads_as : {rest : List ℕ} {answer : Line} {f g : Option Form} → Reads rest answer f → f ≡ g → Reads rest answer g
+pub reads_as : {rest : List ℕ} {answer : core.Option Line} {f g : Option Form} → Reads rest answer f → f ≡ g → Reads rest answer g
 reads_as r e = record { form = r.form ∙ e; within = r.within }

@@ -3,7 +3,8 @@ use mathlib.Core.Path.{◌≡◌}
 use mathlib.Core.List.{List}
 use Prim.Native.Nat.{ℕ}
 use Rattle.answers.specs.Writing.{made_write, Stands}
-use Rattle.answers.specs.declared.Written.{Written}
+use Rattle.std.specs.Prelude.{Result}
+use Rattle.answers.specs.declared.Refusal.{Refusal}
 use Rattle.answers.proofs.Writing.{made_one, stands_one}
 use Rattle.strings.specs.Text.{Request}
 use Rattle.frames.specs.Components.{Component}
@@ -11,7 +12,7 @@ use Rattle.frames.specs.Messages.{inverted, release}
 use Rattle.framers.specs.Written.{writing_register}
 
 pub write_register_one :
-    (transaction number : ℕ) (f : Request) (old : List ℕ) (v w : Written) (a b : List ℕ) → made_write v a ≡ writing_register transaction number f old
+    (transaction number : ℕ) (f : Request) (old : List ℕ) (v w : Result ℕ Refusal) (a b : List ℕ) → made_write v a ≡ writing_register transaction number f old
     → made_write w b ≡ writing_register transaction number f old → (v ≡ w) × (a ≡ b)
 write_register_one transaction number f old v w a b p q = made_one v w a b p q
 

@@ -1,9 +1,17 @@
--- Document 02, M-101: a Register written, "its string made by the request writer". Assumes nothing.
+-- Document 02, M-101: a Register written, "its string made by the request writer", and which component an error or a Reject is. Assumes nothing.
 use Rattle.std.specs.Prelude.{ℕ, ◌+◌, ◌*◌, not, ◌||◌, List, length, ltb}
 use Rattle.answers.specs.Writing.{WriteOutcome, writing}
 use Rattle.packing.specs.Packing.{packed}
 use Rattle.strings.specs.Text.{Request, request_sound, text_of, coding_scheme}
+use Rattle.frames.specs.Components.{Component, error, reject}
 use Rattle.frames.specs.Messages.{frame_room, protocol, register}
+use Rattle.framers.specs.declared.Fault.{Fault}
+use Rattle.framers.specs.declared.Fault.TheVariants as fault
+
+-- the component that an answer without a result is written as
+abbrev pub told_fault : ℕ → Fault → Component
+told_fault number (fault.Error code) = error number code
+told_fault number (fault.Reject problem) = reject number problem
 
 -- the transaction identifier, flag and value, has four bits
 abbrev pub most_transaction : ℕ

@@ -2,32 +2,35 @@
 use mathlib.Core.Path.{◌≡◌, refl, sym, ap, ◌∙◌}
 use mathlib.Core.Logic.{⊎_elim}
 use mathlib.Core.Bool.{true, false}
-use mathlib.Core.Option.{none}
+use mathlib.Core.Option.{none, some}
 use mathlib.Core.List.{List, ◌++◌}
 use Prim.Native.Nat.{ℕ, ◌-◌, ◌≤◌, ◌<◌}
 use native.Mathlib.Omega.{arith}
 use lib.ListN.{length, length-drop}
+use Rattle.std.specs.Prelude.{Some, None, Result, Ok, Err}
+use Rattle.std.specs.Prelude as core
 use Rattle.answers.specs.Begins.{begins}
 use Rattle.answers.proofs.Parts.{rest_of}
 use Rattle.answers.proofs.Tests.{less_or_not}
 use Rattle.strings.specs.Text.{coding_scheme}
 use Rattle.frames.specs.Parts.{part, octet_part, contents_of, octet_at}
-use Rattle.frames.specs.Components.{invoke_tag, result_tag, integer_tag, sequence_tag, octets_tag, operation, argument, invoke, component, unrecognized_operation, mistyped_parameter, argument_of, or_wrong, body_of}
+use Rattle.frames.specs.Components.{invoke_tag, result_tag, integer_tag, sequence_tag, octets_tag, operation, argument, invoke, component, argument_of, body_of}
 use Rattle.frames.specs.Components.Component.{result}
-use Rattle.frames.specs.Components.Body.{wrong, asks}
-use Rattle.frames.specs.declared.Body.{Body}
-use Rattle.frames.specs.declared.Body.TheVariants.{Wrong, Asks}
-use Rattle.frames.specs.Read.{last_of, told_body}
+use Rattle.frames.specs.Components.Body.{asks}
+use Rattle.frames.specs.declared.Asked.{Asked}
+use Rattle.frames.specs.declared.Problem.{Problem}
+use Rattle.frames.specs.declared.Problem.TheVariants.{UnrecognizedOperation, MistypedParameter}
+use Rattle.frames.specs.Read.{last_of, told_argument, told_body}
 use Rattle.frames.proofs.Parts.{part_drop}
-use Rattle.frames.proofs.Exact.{body_only}
-use Rattle.frames.proofs.Places.{from, length_from, last_from, last_deep, from_last, Contents, OctetIs}
+use Rattle.frames.proofs.Exact.{argument_only, body_only}
+use Rattle.frames.proofs.Places.{from, length_from, last_from, from_last, Contents, OctetIs}
 
 -- ---- the string's place
 
 -- the string lies in s
-abbrev pub Within : Body → List ℕ → Type 0
-Within (Wrong problem) s = Unit {0}
-Within (Asks scheme count) s = count ≤ length s
+abbrev pub Within : Result Asked Problem → List ℕ → Type 0
+Within (Err problem) s = Unit {0}
+Within (Ok a) s = a.count ≤ length s
 
 -- a count that stands for fewer octets than there are is their count
 pub last_proper : (n : ℕ) (s : List ℕ) → length (last_of n s) < length s → n ≤ length s
@@ -47,43 +50,59 @@ result_longer n x =
     let inner = operation ++ argument coding_scheme x in
     omega (arith, argument_longer coding_scheme x, (part_drop sequence_tag inner).0, (part_drop result_tag (octet_part integer_tag n ++ part sequence_tag inner)).0)
 
-pub body_within : (b : Body) (s : List ℕ) → told_body b s ≡ body_of s → Within b s
-body_within (Wrong problem) s h = tt
-body_within (Asks k n) s h =
-    let x = last_of n s in
-    last_proper n s (omega (arith, argument_longer k x, ap length (body_only s (sym h))))
+pub body_within : (b : Result Asked Problem) (s : List ℕ) → told_body b s ≡ body_of s → Within b s
+body_within (Err problem) s h = tt
+body_within (Ok a) s h =
+    let x = last_of a.count s in
+    last_proper a.count s (omega (arith, argument_longer a.scheme x, ap length (body_only s (sym h))))
 
-pub within_from : (b : Body) (k : ℕ) (s : List ℕ) → Within b (from k s) → (Within b s) × (told_body b (from k s) ≡ told_body b s)
-within_from (Wrong problem) k s h = (tt, refl)
-within_from (Asks scheme n) k s h = (omega (arith, length_from k s), ap (asks scheme) (last_from n k s h))
+pub within_from : (b : Result Asked Problem) (k : ℕ) (s : List ℕ) → Within b (from k s) → (Within b s) × (told_body b (from k s) ≡ told_body b s)
+within_from (Err problem) k s h = (tt, refl)
+within_from (Ok a) k s h = (omega (arith, length_from k s), ap (asks a.scheme) (last_from a.count k s h))
 
--- ---- the tests in their order
+-- ---- the tests in their order: what is asked with
 
 module _ (s : List ℕ) where
-  pub body_other : begins operation s ≡ false → wrong unrecognized_operation ≡ body_of s
+  pub argument_unsequenced : contents_of sequence_tag s ≡ none → none ≡ argument_of s
+  argument_unsequenced e = rw e
+
+  module _ (a : ℕ) (sequence : Contents sequence_tag s a) where
+    pub argument_schemeless : octet_at octets_tag (from a s) ≡ none → none ≡ argument_of s
+    argument_schemeless e = rw (sequence.found, e)
+
+    module _ (k : ℕ) (scheme : OctetIs octets_tag (from a s) k) where
+      pub argument_stringless : contents_of octets_tag (from 3 (from a s)) ≡ none → none ≡ argument_of s
+      argument_stringless e = rw (sequence.found, scheme.found, e)
+
+      pub argument_read :
+          (b : ℕ) → Contents octets_tag (from 3 (from a s)) b
+          → told_argument (Some (record { scheme = k; count = length (from 3 (from a s)) - b })) s ≡ argument_of s
+      argument_read b string =
+          let last = from 3 (from a s) in
+          let n = length last - b in
+          let e : last_of n s ≡ from b last =
+          sym (last_from n 3 (from a s) (omega arith) ∙ last_from n a s (omega (arith, length_from 3 (from a s)))) ∙ from_last b last string.within in
+          ap (λ (x : List ℕ). some (asks k x)) e ∙ rw (sequence.found, scheme.found, string.found)
+
+-- the string that is asked with lies in what is read
+argument_within : (a : Asked) (s : List ℕ) → told_argument (Some a) s ≡ argument_of s → a.count ≤ length s
+argument_within a s h =
+    let x = last_of a.count s in
+    let inner = octet_part octets_tag a.scheme ++ part octets_tag x in
+    last_proper a.count s (omega (arith, (part_drop octets_tag x).0, (part_drop sequence_tag inner).0, ap length (argument_only s (sym h))))
+
+-- ---- and the operation before it
+
+module _ (s : List ℕ) where
+  pub body_other : begins operation s ≡ false → told_body (Err UnrecognizedOperation) s ≡ body_of s
   unfolding body_of
   body_other e = rw e
 
   module _ (begun : begins operation s ≡ true) where
-    body_argued : body_of s ≡ or_wrong mistyped_parameter (argument_of (from 3 s))
+    pub body_told :
+        (r : core.Option Asked) → told_argument r (from 3 s) ≡ argument_of (from 3 s) → told_body (core.ok_or r MistypedParameter) s ≡ body_of s
     unfolding body_of
-    body_argued = rw (begun, rest_of 3 s)
-
-    pub body_unsequenced : contents_of sequence_tag (from 3 s) ≡ none → wrong mistyped_parameter ≡ body_of s
-    body_unsequenced e = sym (body_argued ∙ rw e)
-
-    module _ (a : ℕ) (sequence : Contents sequence_tag (from 3 s) a) where
-      pub body_schemeless : octet_at octets_tag (from a (from 3 s)) ≡ none → wrong mistyped_parameter ≡ body_of s
-      body_schemeless e = sym (body_argued ∙ rw (sequence.found, e))
-
-      module _ (k : ℕ) (scheme : OctetIs octets_tag (from a (from 3 s)) k) where
-        pub body_stringless : contents_of octets_tag (from 3 (from a (from 3 s))) ≡ none → wrong mistyped_parameter ≡ body_of s
-        body_stringless e = sym (body_argued ∙ rw (sequence.found, scheme.found, e))
-
-        pub body_asks :
-            (b : ℕ) → Contents octets_tag (from 3 (from a (from 3 s))) b
-            → told_body (Asks k (length (from 3 (from a (from 3 s))) - b)) s ≡ body_of s
-        body_asks b string =
-            let last = from 3 (from a (from 3 s)) in
-            let e = sym (last_deep (length last - b) 3 a 3 s (omega arith)) ∙ from_last b last string.within in
-            ap (asks k) e ∙ sym (body_argued ∙ rw (sequence.found, scheme.found, string.found))
+    body_told None told = rw (begun, ← (rest_of 3 s), ← told)
+    body_told (Some a) told =
+        let e = last_from a.count 3 s (argument_within a (from 3 s) told) in
+        rw (begun, ← (rest_of 3 s), ← told) (ap (asks a.scheme) (sym e))

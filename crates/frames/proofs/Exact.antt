@@ -26,7 +26,7 @@ use Rattle.frames.proofs.Parts.{contents_only, contents_back, contents_other, oc
 
 -- ---- what stands behind an invoke number
 
-argument_only : (s : List ℕ) {k : ℕ} {x : List ℕ} → argument_of s ≡ some (asks k x) → s ≡ argument k x
+pub argument_only : (s : List ℕ) {k : ℕ} {x : List ℕ} → argument_of s ≡ some (asks k x) → s ≡ argument k x
 argument_only s h =
     bind_some (contents_of sequence_tag s) _ h λ contents a ha.
     bind_some (octet_at octets_tag contents) _ ha λ scheme b hb.

@@ -1,45 +1,59 @@
 -- The string inside a message: the count that a reader tells is its own, and it stands where that count puts it. Assumes nothing.
-use mathlib.Core.Path.{◌≡◌, sym, ap, ◌∙◌}
-use mathlib.Core.Option.{some}
+use mathlib.Core.Path.{◌≡◌, refl, sym, ap, ◌∙◌}
+use mathlib.Core.Option.{Option, none, some}
 use mathlib.Core.List.{List, [], ◌∷◌, ◌++◌, append_assoc, append-nil}
 use Prim.Native.Nat.{ℕ, ◌+◌, ◌-◌, ◌≤◌, ◌<◌}
 use native.Mathlib.Omega.{arith}
 use lib.ListN.{length, take, drop, length-append, take-append-drop}
 use lib.Seq.{length-take-le, take-append_seam, drop_at}
+use Rattle.std.specs.Prelude.{Result, Ok, Err}
+use Rattle.answers.specs.declared.Refusal.{Refusal}
 use Rattle.strings.specs.Text.{coding_scheme}
 use Rattle.frames.specs.Parts.{length_octets, part, octet_part}
 use Rattle.frames.specs.Components.{invoke_tag, result_tag, integer_tag, sequence_tag, octets_tag, operation, argument, invoke, component}
 use Rattle.frames.specs.Components.Body.{asks}
 use Rattle.frames.specs.Components.Component.{result}
-use Rattle.frames.specs.Messages.{facility, register_type, release_type, version, headed, register, register_of, release, release_of}
-use Rattle.frames.specs.declared.Body.{Body}
-use Rattle.frames.specs.declared.Body.TheVariants.{Asks}
-use Rattle.frames.specs.declared.RegisterRead.{RegisterRead}
-use Rattle.frames.specs.declared.RegisterRead.TheVariants.{Numbered}
-use Rattle.frames.specs.declared.ReleaseRead.{ReleaseRead}
-use Rattle.frames.specs.declared.ReleaseRead.TheVariants.{Result}
-use Rattle.frames.specs.Read.{last_of, told_register, told_release}
+use Rattle.frames.specs.Messages.{facility, register_type, release_type, version, unread_message, headed, register, register_of, release, release_of}
+use Rattle.frames.specs.declared.Asked.{Asked}
+use Rattle.frames.specs.declared.Register.{Register}
+use Rattle.frames.specs.declared.Answer.TheVariants as answer
+use Rattle.frames.specs.declared.Release.{Release}
+use Rattle.frames.specs.Read.{last_of, told_body, or_unread, told_register, told_component, told_release}
 use Rattle.frames.proofs.Parts.{part_drop}
 use Rattle.frames.proofs.Exact.{register_only, release_only}
 use Rattle.frames.proofs.Places.{last_behind, length_last}
 use Rattle.frames.proofs.Bodies.{last_proper, argument_longer, invoke_longer, result_longer}
 
+-- ---- read, or refused
+
+module _ {X : Type 0} where
+  pub unread_ok : (o : Option X) {x : X} → Ok x ≡ or_unread o → some x ≡ o
+  unread_ok none {x} e = absurd cc
+  unread_ok (some y) {x} e = let k : x ≡ y = cc in ap some k
+
+  pub unread_err : (o : Option X) {n : ℕ} → Err n ≡ or_unread o → (o ≡ none) × (n ≡ unread_message)
+  unread_err none {n} e = (refl, cc)
+  unread_err (some x) {n} e = absurd cc
+
 -- ---- the count of a Register: its string lies before the SS version
 
-module _ (s : List ℕ) (r : RegisterRead) (told : told_register r s ≡ register_of s) (f n : ℕ) (body : Body) (e : r ≡ Numbered f n body) where
-  module _ (k count : ℕ) (b : body ≡ Asks k count) where
-    abbrev before : List ℕ
-    before = take (length s - length version) s
+module _ (s : List ℕ) {r : Result Register Refusal} (told : told_register r s ≡ or_unread (register_of s)) (v : Register) (e : r ≡ Ok v) where
+  abbrev before : List ℕ
+  before = take (length s - length version) s
 
-    pub asks_so : told_register (Numbered f n (Asks k count)) s ≡ register_of s
-    asks_so = rw (e, b) at told
+  pub register_so : some (record { first = v.first; number = v.number; body = told_body v.body before }) ≡ register_of s
+  register_so = unread_ok (register_of s) (rw e at told)
 
-    longer : length version + length (last_of count before) < length s
+  module _ (a : Asked) (b : v.body ≡ Ok a) where
+    pub asks_so : some (record { first = v.first; number = v.number; body = asks a.scheme (last_of a.count before) }) ≡ register_of s
+    asks_so = rw b at register_so
+
+    longer : length version + length (last_of a.count before) < length s
     unfolding register
     longer =
-        let x = last_of count before in
+        let x = last_of a.count before in
         omega
-        (arith, ap length (register_only s f n k x (sym asks_so)).0, length-append (headed f register_type (invoke n k x)) version, invoke_longer n k x)
+        (arith, ap length (register_only s v.first v.number a.scheme x (sym asks_so)).0, length-append (headed v.first register_type (invoke v.number a.scheme x)) version, invoke_longer v.number a.scheme x)
 
     pub version_within : length version ≤ length s
     version_within = omega (arith, longer)
@@ -47,26 +61,30 @@ module _ (s : List ℕ) (r : RegisterRead) (told : told_register r s ≡ registe
     before_version : length before ≡ length s - length version
     before_version = length-take-le (length s - length version) s (omega arith)
 
-    pub count_within : count ≤ length s - length version
-    count_within = rw before_version at (last_proper count before (omega (arith, longer, before_version)))
+    pub count_within : a.count ≤ length s - length version
+    count_within = rw before_version at (last_proper a.count before (omega (arith, longer, before_version)))
 
-    pub register_count : length (last_of count before) ≡ count
-    register_count = length_last count before (omega (arith, count_within, before_version))
+    pub register_count : length (last_of a.count before) ≡ a.count
+    register_count = length_last a.count before (omega (arith, count_within, before_version))
 
 -- ---- the count of a Release Complete: its string ends it
 
-module _ (s : List ℕ) (r : ReleaseRead) (told : told_release r s ≡ release_of s) (f n count : ℕ) (e : r ≡ Result f n count) where
-  pub result_so : told_release (Result f n count) s ≡ release_of s
-  result_so = rw e at told
+module _ (s : List ℕ) {r : Result Release Refusal} (told : told_release r s ≡ or_unread (release_of s)) (v : Release) (e : r ≡ Ok v) where
+  pub release_so : some (record { first = v.first; answer = told_component v.answer s }) ≡ release_of s
+  release_so = unread_ok (release_of s) (rw e at told)
 
-  pub result_within : count ≤ length s
-  unfolding release
-  result_within =
-      let x = last_of count s in
-      last_proper count s (omega (arith, ap length (release_only s (record { first = f; answer = result n x }) (sym result_so)).0, result_longer n x))
+  module _ (n count : ℕ) (b : v.answer ≡ answer.Result n count) where
+    pub result_so : some (record { first = v.first; answer = result n (last_of count s) }) ≡ release_of s
+    result_so = rw b at release_so
 
-  pub result_count : length (last_of count s) ≡ count
-  result_count = length_last count s result_within
+    pub result_within : count ≤ length s
+    unfolding release
+    result_within =
+        let x = last_of count s in
+        last_proper count s (omega (arith, ap length (release_only s (record { first = v.first; answer = result n x }) (sym result_so)).0, result_longer n x))
+
+    pub result_count : length (last_of count s) ≡ count
+    result_count = length_last count s result_within
 
 -- ---- the place: a component ends in its string
 

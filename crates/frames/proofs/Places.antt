@@ -2,14 +2,14 @@
 use mathlib.Core.Path.{◌≡◌, refl, sym, ap, ◌∙◌}
 use mathlib.Core.Option.{Option, none, some}
 use mathlib.Core.List.{List, ◌++◌}
-use Prim.Native.Nat.{ℕ, ◌+◌, ◌-◌, ◌≤◌, ◌<◌}
+use Prim.Native.Nat.{ℕ, ◌+◌, ◌-◌, ◌≤◌}
 use native.Mathlib.Omega.{arith}
 use lib.ListN.{length, take, drop, length-append, length-drop, take-append-drop}
 use lib.Seq.{drop-append-add}
+use Rattle.std.specs.Prelude.{Some, None}
+use Rattle.std.specs.Prelude as core
 use Rattle.answers.proofs.Parts.{rest_of}
 use Rattle.frames.specs.Parts.{contents_of, octet_at}
-use Rattle.frames.specs.declared.OctetRead.{OctetRead}
-use Rattle.frames.specs.declared.OctetRead.TheVariants.{Octet, Nothing}
 use Rattle.frames.specs.Read.{start_of, last_of, told_octet}
 use Rattle.frames.proofs.Parts.{contents_only, octet_only, none_if_never, part_drop}
 
@@ -54,24 +54,24 @@ pub record Contents (tag : ℕ) (s : List ℕ) (at : ℕ) : Type 0 where
   pub within : at ≤ length s
   pub found : contents_of tag s ≡ some (from at s)
 
-module _ (tag : ℕ) (s : List ℕ) (at : ℕ) (start : at ≡ start_of s (contents_of tag s)) where
-  known : (c : List ℕ) → contents_of tag s ≡ some c → (at ≡ length s - length c) × (length c < length s) × (drop (length s - length c) s ≡ c)
-  known c e =
-      let p = contents_only tag s e in
-      let d = part_drop tag c in
-      (start ∙ rw e, rw p d.0, rw p d.1)
+module _ (tag : ℕ) (s : List ℕ) {r : core.Option ℕ} (start : r ≡ start_of s (contents_of tag s)) where
+  pub start_none : r ≡ None → contents_of tag s ≡ none
+  start_none z = none_if_never (contents_of tag s) λ c e.
+      let k : ◌≡◌ {A = core.Option ℕ} None (Some (length s - length c)) = sym z ∙ start ∙ ap (start_of s) e in
+      cc
 
-  pub start_none : at ≡ 0 → contents_of tag s ≡ none
-  start_none z = none_if_never (contents_of tag s) λ c e. let k = known c e in omega arith
-
-  pub start_some : (at ≡ 0 → ⊥) → Contents tag s at
-  start_some z = go (contents_of tag s) refl
+  pub start_some : {at : ℕ} → r ≡ Some at → Contents tag s at
+  start_some {at} z = go (contents_of tag s) refl
     where
       go : (o : Option (List ℕ)) → contents_of tag s ≡ o → Contents tag s at
-      go none e = absurd (z (start ∙ rw e))
+      go none e =
+          let k : ◌≡◌ {A = core.Option ℕ} (Some at) None = sym z ∙ start ∙ ap (start_of s) e in
+          cc
       go (some c) e =
-          let k = known c e in
-          record { within = omega arith; found = e ∙ ap some (sym (rest_of at s ∙ rw k.0 k.2)) }
+          let k : Some at ≡ Some (length s - length c) = sym z ∙ start ∙ ap (start_of s) e in
+          let n : at ≡ length s - length c = cc in
+          let d : drop (length s - length c) s ≡ c = rw (contents_only tag s e) (part_drop tag c).1 in
+          record { within = omega arith; found = e ∙ ap some (sym (rest_of at s ∙ rw n d)) }
 
 -- ---- a part of one octet
 
@@ -80,11 +80,11 @@ pub record OctetIs (tag : ℕ) (s : List ℕ) (x : ℕ) : Type 0 where
   pub within : 3 ≤ length s
   pub found : octet_at tag s ≡ some (record { got = x; rest = from 3 s })
 
-module _ (tag : ℕ) (s : List ℕ) {r : OctetRead} (told : told_octet r s ≡ octet_at tag s) where
-  pub octet_none : r ≡ Nothing → octet_at tag s ≡ none
+module _ (tag : ℕ) (s : List ℕ) {r : core.Option ℕ} (told : told_octet r s ≡ octet_at tag s) where
+  pub octet_none : r ≡ None → octet_at tag s ≡ none
   octet_none e = sym (rw e at told)
 
-  pub octet_some : {x : ℕ} → r ≡ Octet x → OctetIs tag s x
+  pub octet_some : {x : ℕ} → r ≡ Some x → OctetIs tag s x
   octet_some {x} e =
       let f : octet_at tag s ≡ some (record { got = x; rest = drop 3 s }) = sym (rw e at told) in
       record { within = omega (arith, ap length (octet_only tag s f)); found = f ∙ rw (rest_of 3 s) }

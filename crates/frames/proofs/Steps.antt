@@ -10,6 +10,7 @@ use lib.ListN.{length, get_or, drop, length-drop}
 use lib.Seq.{drop-cons}
 use lib.Dec.{ltb, eqb}
 use borrow.Author.Tests.{ltb-true, lt-ltb, eqb-true, eq-eqb, not-false}
+use Rattle.std.specs.Prelude.{Some, None}
 use Rattle.answers.proofs.Tests.{and_left, and_right, or_neither, less_or_not}
 use Rattle.strings.specs.Reader.{Field}
 use Rattle.frames.specs.Parts.{long_length, one_follows, part, octet_part, contents_of, octet_at}
@@ -56,14 +57,14 @@ module _ (tag : ℕ) (s : List ℕ) where
           rw (e ∙ part_long tag c l) (record { two = omega arith; tagged = refl; form = inr (omega arith, all) })
 
   -- what fails one of them has no contents
-  pub no_start : (Passes → ⊥) → 0 ≡ start_of s (contents_of tag s)
+  pub no_start : (Passes → ⊥) → None ≡ start_of s (contents_of tag s)
   no_start h = rw (none_if_never (contents_of tag s) (λ c e. h (part_passes c (contents_only tag s e))))
 
-  pub no_form : is_short s ≡ false → (long_length + 3 ≤ length s → is_long s ≡ true → ⊥) → 0 ≡ start_of s (contents_of tag s)
+  pub no_form : is_short s ≡ false → (long_length + 3 ≤ length s → is_long s ≡ true → ⊥) → None ≡ start_of s (contents_of tag s)
   no_form short long = no_start λ p. ⊎_elim (λ e. true≢false (sym e ∙ short)) (λ l. long l.0 l.1) p.form
 
   module _ (two : 2 ≤ length s) (tagged : get_or s 0 0 ≡ tag) where
-    pub short_start : is_short s ≡ true → 2 ≡ start_of s (contents_of tag s)
+    pub short_start : is_short s ≡ true → Some 2 ≡ start_of s (contents_of tag s)
     short_start h =
         let few = ltb (length s - 2) long_length in
         let all = eqb (get_or s 1 0) (length s - 2) in
@@ -72,9 +73,9 @@ module _ (tag : ℕ) (s : List ℕ) where
         let d = length-drop 2 s in
         let p : s ≡ part tag (drop 2 s) = two_and_rest s two ∙ rw (tagged, n, ← d) (sym (part_short tag (drop 2 s) (omega arith))) in
         let f : contents_of tag s ≡ some (drop 2 s) = ap (contents_of tag) p ∙ contents_back tag (drop 2 s) in
-        rw f (omega arith)
+        rw f (ap Some (omega arith))
 
-    pub long_start : long_length + 3 ≤ length s → is_long s ≡ true → 3 ≡ start_of s (contents_of tag s)
+    pub long_start : long_length + 3 ≤ length s → is_long s ≡ true → Some 3 ≡ start_of s (contents_of tag s)
     long_start l h =
         let one = eqb (get_or s 1 0) one_follows in
         let all = eqb (get_or s 2 0) (length s - 3) in
@@ -83,7 +84,7 @@ module _ (tag : ℕ) (s : List ℕ) where
         let d = length-drop 3 s in
         let p : s ≡ part tag (drop 3 s) = three_and_rest s (omega arith) ∙ rw (tagged, o, n, ← d) (sym (part_long tag (drop 3 s) (omega arith))) in
         let f : contents_of tag s ≡ some (drop 3 s) = ap (contents_of tag) p ∙ contents_back tag (drop 3 s) in
-        rw f (omega arith)
+        rw f (ap Some (omega arith))
 
 -- ---- a part of one octet
 

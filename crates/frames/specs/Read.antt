@@ -1,73 +1,88 @@
--- What each case of the readers' answers stands for, a string by its place in the octets that it was read from; `Refused` is refusal 11, `unread_message`. Assumes nothing.
-use Rattle.std.specs.Prelude.{ℕ, ◌+◌, ◌-◌, cond, List, length, take, drop}
+-- What each case of the readers' answers stands for, a string by its place in the octets that it was read from; a refusal and a problem by their numbers. Assumes nothing.
+use Rattle.std.specs.Prelude.{ℕ, ◌+◌, ◌-◌, cond, List, length, take, drop, Some, None, Result, Ok, Err}
+use Rattle.std.specs.Prelude as core
 use Rattle.std.proofs.Math.Option.{Option, none, some}
+use Rattle.answers.specs.declared.Refusal.{Refusal}
+use Rattle.answers.specs.Numbers.{refusal_number}
 use Rattle.strings.specs.Reader.{Field}
-use Rattle.frames.specs.declared.OctetRead.{OctetRead}
-use Rattle.frames.specs.declared.OctetRead.TheVariants as octet
-use Rattle.frames.specs.declared.PairRead.{PairRead}
-use Rattle.frames.specs.declared.PairRead.TheVariants as pair
-use Rattle.frames.specs.declared.Body.{Body}
-use Rattle.frames.specs.declared.Body.TheVariants.{Wrong, Asks}
-use Rattle.frames.specs.declared.InvokeRead.{InvokeRead}
-use Rattle.frames.specs.declared.InvokeRead.TheVariants as invoke
-use Rattle.frames.specs.declared.RegisterRead.{RegisterRead}
-use Rattle.frames.specs.declared.RegisterRead.TheVariants as register
-use Rattle.frames.specs.declared.AnswerRead.{AnswerRead}
-use Rattle.frames.specs.declared.AnswerRead.TheVariants as answer
-use Rattle.frames.specs.declared.ReleaseRead.{ReleaseRead}
-use Rattle.frames.specs.declared.ReleaseRead.TheVariants as release
+use Rattle.frames.specs.declared.Problem.{Problem}
+use Rattle.frames.specs.declared.Problem.TheVariants.{UnrecognizedOperation, MistypedParameter}
+use Rattle.frames.specs.declared.Asked.{Asked}
+use Rattle.frames.specs.declared.Invoke.{Invoke}
+use Rattle.frames.specs.declared.Register.{Register}
+use Rattle.frames.specs.declared.Answer.{Answer}
+use Rattle.frames.specs.declared.Answer.TheVariants as answer
+use Rattle.frames.specs.declared.Release.{Release}
 use Rattle.frames.specs.Components as components
 use Rattle.frames.specs.Messages as messages
 
--- where contents that end s start; 0 where there are none
-abbrev pub start_of : List ℕ → Option (List ℕ) → ℕ
-start_of s none = 0
-start_of s (some contents) = length s - length contents
+-- the code of a Reject's problem
+abbrev pub problem_number : Problem → ℕ
+problem_number UnrecognizedOperation = components.unrecognized_operation
+problem_number MistypedParameter = components.mistyped_parameter
+
+-- where contents that end s start
+abbrev pub start_of : List ℕ → Option (List ℕ) → core.Option ℕ
+start_of s none = None
+start_of s (some contents) = Some (length s - length contents)
 
 -- the last octets of s
 abbrev pub last_of : ℕ → List ℕ → List ℕ
 last_of count s = drop (length s - count) s
 
-abbrev pub told_octet : OctetRead → List ℕ → Option (Field ℕ)
-told_octet (octet.Octet x) s = some (record { got = x; rest = drop 3 s })
-told_octet octet.Nothing s = none
+abbrev pub told_octet : core.Option ℕ → List ℕ → Option (Field ℕ)
+told_octet (Some x) s = some (record { got = x; rest = drop 3 s })
+told_octet None s = none
 
-abbrev pub told_pair : PairRead → Option components.Pair
-told_pair (pair.Pair number code) = some (record { number = number; code = code })
-told_pair pair.Nothing = none
+abbrev pub told_pair : core.Option (ℕ × ℕ) → Option components.Pair
+told_pair (Some p) = some (record { number = p.0; code = p.1 })
+told_pair None = none
 
-abbrev pub told_body : Body → List ℕ → components.Body
-told_body (Wrong problem) s = components.wrong problem
-told_body (Asks scheme count) s = components.asks scheme (last_of count s)
+abbrev pub told_asked : Asked → List ℕ → components.Body
+told_asked a s = components.asks a.scheme (last_of a.count s)
+
+abbrev pub told_argument : core.Option Asked → List ℕ → Option components.Body
+told_argument (Some a) s = some (told_asked a s)
+told_argument None s = none
+
+abbrev pub told_body : Result Asked Problem → List ℕ → components.Body
+told_body (Ok a) s = told_asked a s
+told_body (Err problem) s = components.wrong (problem_number problem)
 
 -- with what lies behind the element
-abbrev pub ended_body : List ℕ → Body → Body
-ended_body rest (Wrong problem) = Wrong problem
-ended_body rest (Asks scheme count) = cond (messages.is_version rest) (Asks scheme count) (Wrong components.mistyped_parameter)
+abbrev pub ended_body : List ℕ → Result Asked Problem → Result Asked Problem
+ended_body rest (Ok a) = cond (messages.is_version rest) (Ok a) (Err MistypedParameter)
+ended_body rest (Err problem) = Err problem
 
-abbrev pub told_invoke : InvokeRead → List ℕ → Option components.Invoke
-told_invoke (invoke.Numbered number body) s = some (record { number = number; body = told_body body s })
-told_invoke invoke.Unnumbered s = none
+abbrev pub told_invoke : core.Option Invoke → List ℕ → Option components.Invoke
+told_invoke (Some v) s = some (record { number = v.number; body = told_body v.body s })
+told_invoke None s = none
 
--- where a message's element ends; 0 where there is none
-abbrev pub end_of : Option messages.Message → ℕ
-end_of none = 0
-end_of (some m) = 4 + length m.element
+-- where a message's element ends
+abbrev pub end_of : Option messages.Message → core.Option ℕ
+end_of none = None
+end_of (some m) = Some (4 + length m.element)
+
+-- what is read, or refusal 11
+abbrev pub or_unread : {X : Type 0} → Option X → Result X ℕ
+or_unread none = Err messages.unread_message
+or_unread (some x) = Ok x
 
 -- the string of a Register stands before the SS version
-abbrev pub told_register : RegisterRead → List ℕ → Option messages.Register
-told_register (register.Numbered first number body) s =
-    some (record { first = first; number = number; body = told_body body (take (length s - length messages.version) s) })
-told_register register.Refused s = none
+abbrev pub told_register : Result Register Refusal → List ℕ → Result messages.Register ℕ
+told_register (Ok r) s =
+    Ok (record { first = r.first; number = r.number; body = told_body r.body (take (length s - length messages.version) s) })
+told_register (Err refusal) s = Err (refusal_number refusal)
 
-abbrev pub told_answer : AnswerRead → List ℕ → Option components.Component
-told_answer (answer.Result number count) s = some (components.result number (last_of count s))
-told_answer (answer.Error number code) s = some (components.error number code)
-told_answer (answer.Reject number problem) s = some (components.reject number problem)
-told_answer answer.Unreadable s = none
+abbrev pub told_component : Answer → List ℕ → components.Component
+told_component (answer.Result number count) s = components.result number (last_of count s)
+told_component (answer.Error number code) s = components.error number code
+told_component (answer.Reject number problem) s = components.reject number problem
 
-abbrev pub told_release : ReleaseRead → List ℕ → Option messages.Release
-told_release (release.Result first number count) s = some (record { first = first; answer = components.result number (last_of count s) })
-told_release (release.Error first number code) s = some (record { first = first; answer = components.error number code })
-told_release (release.Reject first number problem) s = some (record { first = first; answer = components.reject number problem })
-told_release release.Refused s = none
+abbrev pub told_answer : core.Option Answer → List ℕ → Option components.Component
+told_answer (Some a) s = some (told_component a s)
+told_answer None s = none
+
+abbrev pub told_release : Result Release Refusal → List ℕ → Result messages.Release ℕ
+told_release (Ok r) s = Ok (record { first = r.first; answer = told_component r.answer s })
+told_release (Err refusal) s = Err (refusal_number refusal)

@@ -6,18 +6,18 @@ use Prim.Native.Nat.{ℕ, zero, suc, ◌+◌, ◌*◌, ◌^◌, ◌≤◌}
 use native.Mathlib.Omega.{arith}
 use lib.ListN.{length, take, length-append}
 use lib.Seq.{take_all}
-use Rattle.answers.specs.Writing.{Said, over, wrote}
+use Rattle.answers.specs.Writing.{Said, made_write, over, wrote}
 use Rattle.answers.proofs.Parts.{stands_front}
 use Rattle.bases.proofs.Digits.{Below}
 use Rattle.rows.specs.Rows.{row_words}
 use Rattle.tables.specs.Tables.{rows_in, table_sound, subscriber_words, subscribers_in, list_sound}
-use Rattle.tables.specs.Figures.{figure_count, recount}
+use Rattle.tables.specs.Figures.{figure_count}
 use Rattle.tables.proofs.Sound.{table_whole, table_few, list_whole, list_few}
 use Rattle.tables.proofs.Fits.{table_fits, list_fits}
 use Rattle.states.specs.States.{State, beside, counted, state_sound}
 use Rattle.states.proofs.States.{sound_state_lem, counted_sound}
-use Rattle.image.specs.declared.ImageWritten.TheVariants as written
-use Rattle.image.specs.Images.{word_octets, octets_of, trailer_words, trailer_of, image_of, words_from, trailer_start, table_rows, list_rows, distance, table_words, list_words, table_in, list_in, writing_image, made_image, leaving, reading_image}
+use Rattle.std.specs.Prelude.{Ok}
+use Rattle.image.specs.Images.{word_octets, octets_of, trailer_words, trailer_of, image_of, words_from, trailer_start, table_rows, list_rows, distance, table_words, list_words, table_in, list_in, writing_image, leaving, reading_image}
 use Rattle.image.specs.Images.SaidRead.{counts}
 use Rattle.image.proofs.Words.{length_octets_lem, words_append, words_octets, octets_words}
 use Rattle.image.proofs.Images.{length_trailer, image_parts, length_image}
@@ -104,8 +104,8 @@ pub reading_written :
     → reading_image (take n (writing_image s list out).buffer) t l f
     ≡ leaving (counts (rows_in s.table) (subscribers_in list)) (over s.table t) (over list l) (over s.figures f)
 reading_written s list out n says t l f a b c =
-    let done : made_image (written.Octets n) (writing_image s list out).buffer ≡ writing_image s list out = ap (λ (x : Said). record { answer = x; buffer = (writing_image s list out).buffer }) (sym says) in
-    let (sound, sound_list, stands) = at_octets s list out (written.Octets n) (writing_image s list out).buffer done n refl in
+    let done : made_write (Ok n) (writing_image s list out).buffer ≡ writing_image s list out = ap (λ (x : Said). record { answer = x; buffer = (writing_image s list out).buffer }) (sym says) in
+    let (sound, sound_list, stands) = at_octets s list out (Ok n) (writing_image s list out).buffer done n refl in
     ap (λ (i : List ℕ). reading_image i t l f) (stands_front stands) ∙ read_written s list sound sound_list t l f a b c
 
 -- ---- an accepted image

@@ -5,12 +5,13 @@ use Prim.Native.Nat.{ℕ, zero, suc, ◌+◌, ◌-◌, ◌*◌, ◌^◌, ◌≤�
 use native.Mathlib.Nat.{mul-zero, add-zero, zero-add, suc-add}
 use native.Mathlib.Numerals.{add-one}
 use native.Mathlib.Omega.{arith}
-use lib.ListN.{length, get_or, set, take, drop, length-append, length-take, length-drop, drop_of_length-le}
-use lib.Seq.{set_at, append_snoc, take-suc, take_all, take_at, take-take, take-add, drop_at, drop-cons, drop-drop, get_or-drop, length-take-le}
+use lib.ListN.{length, get_or, set, take, drop, length-append, length-drop, drop_of_length-le}
+use lib.Seq.{set_at, append_snoc, take-suc, take_all, take_at, take-add, drop_at, drop-cons, drop-drop, get_or-drop, length-take-le}
 use borrow.Rule.Slice.PartMut.{put_mid}
-use Rattle.answers.specs.Writing.{Stands, over}
+use Rattle.answers.specs.Writing.{Stands}
 use Rattle.answers.proofs.Parts.{stands_front, stands_rest}
 use Rattle.packing.specs.Packing.{value_of, digits}
+use Rattle.bases.proofs.Groups.{from}
 use Rattle.bases.proofs.Digits.{Below, Below-take, length_digits, digits_number, number_digits}
 use Rattle.image.specs.Images.{word_octets, octets_of, word_at, words_from}
 
@@ -53,34 +54,32 @@ word_of os start (suc n) (suc i) h = word_of os (start + word_octets) n i (omega
 
 -- ---- written one after the other
 
-pub stands_length : {text old new : List ℕ} {n : ℕ} → Stands text old n new → n ≤ length old → length new ≡ length old
-stands_length s h = omega (arith, s.count, simp (length-append, length-drop) at (ap length s.buffer))
-
 pub stored_none : (ws old : List ℕ) → Stands (octets_of (take 0 ws)) old 0 old
 unfolding octets_of
 stored_none ws old = record { count = refl; buffer = refl }
 
 -- the octets of i words stand at the front, and those of the next are put behind them
 pub stored_more :
-    (ws old mid part : List ℕ) (i at next : ℕ) → i < length ws → next ≡ at + word_octets → next ≤ length mid → Stands (octets_of (take i ws)) old at mid
-    → part ≡ digits 256 word_octets (get_or ws i 0) ++ drop word_octets (take (next - at) (drop at mid))
-    → Stands (octets_of (take (i + 1) ws)) old next (put_mid at (next - at) mid part)
-stored_more ws old mid part i at next h n room s e =
-    let size : next - at ≡ word_octets = omega arith in
+    (ws old mid part : List ℕ) (i : ℕ) → i < length ws → word_octets * length ws ≤ length old → length mid ≡ length old → Stands (octets_of (take i ws)) old (word_octets * i) mid
+    → part ≡ digits 256 word_octets (get_or ws i 0) ++ drop word_octets (take (length mid - word_octets * i) (drop (word_octets * i) mid))
+    → Stands (octets_of (take (i + 1) ws)) old (word_octets * (i + 1)) (put_mid (word_octets * i) (length mid - word_octets * i) mid part)
+stored_more ws old mid part i h room same s e =
+    let at = word_octets * i in
+    let next : word_octets * (i + 1) ≡ at + word_octets = omega arith in
     let word = digits 256 word_octets (get_or ws i 0) in
-    let nothing : drop word_octets (take word_octets (drop at mid)) ≡ [] = drop_of_length-le (take word_octets (drop at mid)) {i = word_octets} (simp length-take (omega arith)) in
-    let filled : part ≡ word = e ∙ rw (size, nothing) (append-nil word) in
-    let rest : drop word_octets (drop at mid) ≡ drop next old = ap (drop word_octets) (stands_rest s) ∙ rw n (drop-drop word_octets at old) in
+    let back : drop at mid ≡ drop at old = stands_rest s in
+    let all : take (length mid - at) (drop at mid) ≡ drop at old = rw (back, same) (take_all (length old - at) (drop at old) (simp length-drop (omega arith))) in
+    let none : drop (length mid - at) (drop at mid) ≡ [] = rw (back, same) (drop_of_length-le (drop at old) {i = length old - at} (simp length-drop (omega arith))) in
     record {
       count = rw (octets_more ws i h) (simp (length-append, length_digits) (omega (arith, s.count)));
-      buffer = rw (size, filled, stands_front s, rest, octets_more ws i h) (sym (append_assoc (octets_of (take i ws)) word (drop next old)));
+      buffer = rw (next, e, all, none, stands_front s, octets_more ws i h) (simp (append_assoc, append-nil, drop-drop));
     }
 
 pub stored_done : (ws old new : List ℕ) (i at : ℕ) → i ≤ length ws → length ws ≤ i → Stands (octets_of (take i ws)) old at new → Stands (octets_of ws) old at new
 stored_done ws old new i at h k s = rw (take_all i ws k) at s
 
 -- words set one after the other over the front of others
-pub front_more :
+front_more :
     (ws old new : List ℕ) (i w : ℕ) → i < length ws → i < length old → w ≡ get_or ws i 0 → new ≡ take i ws ++ drop i old
     → set new i w ≡ take (i + 1) ws ++ drop (i + 1) old
 front_more ws old new i w h room e so_far =
@@ -89,19 +88,15 @@ front_more ws old new i w h room e so_far =
     ∙ sym (append_snoc (take i ws) (get_or ws i 0) (drop (suc i) old))
     ∙ ap (λ (l : List ℕ). l ++ drop (suc i) old) (sym (take-suc ws i 0 h)))
 
-pub front_done : (ws old new : List ℕ) (i : ℕ) → i ≤ length ws → length ws ≤ i → new ≡ take i ws ++ drop i old → new ≡ over ws old
-front_done ws old new i h k so_far = let e : i ≡ length ws = omega arith in so_far ∙ rw (take_all i ws k, e)
-
 -- the same of words that are read from octets, which fill them
 pub loaded_more :
-    (os : List ℕ) (start : ℕ) (old new : List ℕ) (i at next w : ℕ) → i < length old → at ≡ start + word_octets * i → next ≡ at + word_octets
-    → w ≡ value_of 256 (take word_octets (take (next - at) (drop at os))) → new ≡ take i (words_from os start (length old)) ++ drop i old
+    (os : List ℕ) (start : ℕ) (old new : List ℕ) (i w : ℕ) → i < length old
+    → w ≡ value_of 256 (take word_octets (take (length os - (start + word_octets * i)) (drop (start + word_octets * i) os))) → new ≡ take i (words_from os start (length old)) ++ drop i old
     → set new i w ≡ take (i + 1) (words_from os start (length old)) ++ drop (i + 1) old
 unfolding word_at
-loaded_more os start old new i at next w h p n e so_far =
-    let size : next - at ≡ word_octets = omega arith in
-    let here : w ≡ get_or (words_from os start (length old)) i 0 =
-    e ∙ rw (size, take-take word_octets word_octets (drop at os) (omega arith), p) (sym (word_of os start (length old) i h)) in
+loaded_more os start old new i w h e so_far =
+    let at = start + word_octets * i in
+    let here : w ≡ get_or (words_from os start (length old)) i 0 = e ∙ rw (from at os) (sym (word_of os start (length old) i h)) in
     front_more (words_from os start (length old)) old new i w (rw length_words h) h here so_far
 
 pub loaded_done :

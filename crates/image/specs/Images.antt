@@ -1,16 +1,15 @@
 -- Document 02, M-109, "Moving a node to new hardware": "Write table and list as one image and read it back". What an image is, what it holds, and what writing and reading one answer and leave, for every input. Assumes nothing.
-use Rattle.std.specs.Prelude.{ℕ, zero, suc, ◌+◌, ◌-◌, ◌*◌, Bool, not, ◌||◌, List, [], ◌∷◌, ◌++◌, map, length, take, drop, eqb, ltb}
+use Rattle.std.specs.Prelude.{ℕ, zero, suc, ◌+◌, ◌-◌, ◌*◌, Bool, not, ◌||◌, List, [], ◌∷◌, ◌++◌, map, length, take, drop, eqb, ltb, Result, Ok, Err}
 use Rattle.answers.specs.Checks.{decide}
-use Rattle.answers.specs.Writing.{Said, WriteOutcome, refused, over, wrote}
+use Rattle.answers.specs.Numbers.{refusal_number}
+use Rattle.answers.specs.Writing.{WriteOutcome, refused, over, wrote}
+use Rattle.answers.specs.declared.Refusal.{Refusal}
 use Rattle.packing.specs.Packing.{value_of, digits}
 use Rattle.rows.specs.Rows.{row_words}
 use Rattle.tables.specs.Tables.{most_numbers, rows_in, table_sound, subscriber_words, most_subscribers, subscribers_in, list_sound}
 use Rattle.tables.specs.Figures.{figure_count, recount}
 use Rattle.states.specs.States.{State, figures_right}
-use Rattle.image.specs.declared.ImageWritten.{ImageWritten}
-use Rattle.image.specs.declared.ImageWritten.TheVariants as written
-use Rattle.image.specs.declared.ImageRead.{ImageRead}
-use Rattle.image.specs.declared.ImageRead.TheVariants as read
+use Rattle.image.specs.declared.ImageRows.{ImageRows}
 
 -- ---- the image
 
@@ -94,14 +93,6 @@ unwritten out check = (check.0, refused check.1 out)
 unfoldable pub writing_image : State → List ℕ → List ℕ → WriteOutcome
 writing_image s list out = decide (map (unwritten out) (writing_checks s list out)) (wrote (image_of s.table list) out)
 
--- what the code's answer says in the paper's words
-abbrev pub said_write : ImageWritten → Said
-said_write (written.Refused n) = Said.refusal n
-said_write (written.Octets n) = Said.count n
-
-abbrev pub made_image : ImageWritten → List ℕ → WriteOutcome
-made_image w out = record { answer = said_write w; buffer = out }
-
 -- ---- reading
 
 -- in the paper's words: the counts of rows, or a refusal by its number
@@ -155,11 +146,11 @@ reading_image image table list figures =
     (restored (counts (table_rows image) (list_rows image)) (table_in image) (list_in image) table list figures)
 
 -- what the code's answer says in the paper's words
-abbrev pub said_read : ImageRead → SaidRead
-said_read (read.Refused n) = refusal n
-said_read (read.Rows n m) = counts n m
+abbrev pub said_read : Result ImageRows Refusal → SaidRead
+said_read (Err r) = refusal (refusal_number r)
+said_read (Ok rows) = counts rows.numbers rows.subscribers
 
-abbrev pub made_read : ImageRead → List ℕ → List ℕ → List ℕ → RestoreOutcome SaidRead
+abbrev pub made_read : Result ImageRows Refusal → List ℕ → List ℕ → List ℕ → RestoreOutcome SaidRead
 made_read r table list figures = leaving (said_read r) table list figures
 
 -- ---- what the parts of the code say

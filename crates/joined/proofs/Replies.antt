@@ -28,8 +28,8 @@ use Rattle.records.specs.Steps.{interrogated}
 use Rattle.rows.specs.Rows.{record_sound}
 use Rattle.rows.proofs.Rows.{record_sound_lem}
 use Rattle.rows.proofs.Kept.{holder_number}
-use Rattle.tables.specs.declared.Found.{Found}
-use Rattle.tables.specs.declared.Found.TheVariants.{At, Nothing}
+use Rattle.tables.specs.Keys.{Found}
+use Rattle.std.specs.Prelude.{Some, None}
 use Rattle.tables.specs.Tables.{list_sound}
 use Rattle.tables.proofs.Stored.{record_found_lem, record_missing}
 use Rattle.states.specs.States.{State, state_sound, row_for, record_for, record_in}
@@ -79,8 +79,8 @@ known_sound : (t : State) (number : ℕ) (r : Record) → state_sound t ≡ true
 known_sound t number r sound e = go (row_for t number) refl
   where
     go : (place : Found) → row_for t number ≡ place → record_sound r ≡ true
-    go Nothing p = not_some (sym (record_missing t.table number p) ∙ e)
-    go (At i) p =
+    go None p = not_some (sym (record_missing t.table number p) ∙ e)
+    go (Some i) p =
         let it : record_in t i ≡ r = cc (record_found_lem t.table number i p) in
         rw (← it) (record_sound_lem t.table i (found_sound t number i sound p))
 

@@ -23,8 +23,8 @@ use Rattle.records.specs.declared.Notice.TheVariants.{Absent, Waiting, InFlight}
 use Rattle.records.specs.Steps.{is_absent, is_waiting}
 use Rattle.rows.proofs.Rows.{record_sound_lem}
 use Rattle.rows.proofs.Kept.{pending_words}
-use Rattle.tables.specs.declared.Found.{Found}
-use Rattle.tables.specs.declared.Found.TheVariants.{At, Nothing}
+use Rattle.tables.specs.Keys.{Found}
+use Rattle.std.specs.Prelude.{Some, None}
 use Rattle.tables.specs.Tables.{table_sound}
 use Rattle.tables.proofs.Stored.{record_found_lem}
 use Rattle.states.specs.States.{State, figures_right, state_sound, row_for, record_for, record_in}
@@ -69,8 +69,8 @@ module _ (radio : Radio) (question : List ℕ) (sound : radio_sound radio ≡ tr
 
     sent_heard : (place : Found) → row_for t number.0 ≡ place → state_sound t ≡ true → is_number number.0 ≡ true
         → is_waiting (notice_in (record_for t number.0)) ≡ true → Sends (sent_at number place t buffer)
-    sent_heard Nothing p s h w = never 7
-    sent_heard (At i) p s h w = λ e.
+    sent_heard None p s h w = never 7
+    sent_heard (Some i) p s h w = λ e.
         let r = record_in t i in
         let pending = waits_there r.notice (rw (record_found_lem t.table number.0 i p) at w) in
         let words = pending_words r (record_sound_lem t.table i (found_sound t number.0 i s p)) pending in

@@ -1,26 +1,21 @@
 -- What a line knows of the node's answer to its call. Assumes nothing.
 use mathlib.Core.Path.{◌≡◌, refl, subst, subst⁻¹}
-use mathlib.Core.Bool.{true, false}
-use mathlib.Core.List.{List, [], ◌∷◌}
+use Rattle.std.specs.Prelude.{Result, Err}
+use Rattle.answers.specs.declared.Refusal.{Refusal}
+use mathlib.Core.Bool.{Bool, true, false}
+use mathlib.Core.List.{List}
 use Prim.Native.Nat.{ℕ, ◌≤◌}
-use native.Mathlib.Nat.{not-le_of_lt}
-use types.Run.{OneOf}
-use denote.Enum.Declared.{tag_of}
 use native.Mathlib.Omega.{arith}
 use lib.ListN.{length, drop, length-drop}
-use Rattle.answers.specs.declared.Written.{Written}
-use Rattle.answers.specs.declared.Written.TheVariants.{Count, TooShort, Unfit}
-use Rattle.answers.specs.contracts.Written.{the_type}
 use Rattle.answers.specs.Writing as writing
 use Rattle.packing.specs.Packing.{octets_for, takes, packed}
 use Rattle.packing.specs.Outcomes.{packing}
-use Rattle.packing.proofs.Outcomes.{pack_short, pack_unfit}
+use Rattle.packing.proofs.Outcomes.{pack_good}
 use Rattle.numbers.specs.declared.Msisdn.{Msisdn}
 use Rattle.strings.specs.Text.{coding_scheme}
 use Rattle.states.specs.States.{State}
 use Rattle.rules.specs.Answers.{Answer, refusal, Outcome, made}
 use Rattle.rules.specs.Crews as crews
-use Rattle.visits.proofs.Texts.{counts_only}
 use Rattle.replies.specs.Replies.{behind_letter, Printable}
 use Rattle.lines.specs.Program.{lent_buffer, asked}
 use Rattle.answers.specs.Writing.{Stands}
@@ -38,11 +33,12 @@ module _ (a : Answer) (state : State) (b : List ℕ) (o : Outcome) (e : made a s
 
 -- where the packer has room and does not count, it does not take the string
 pub pack_fails :
-    (cs out new : List ℕ) (r : Written) → writing.made_write r new ≡ packing cs out → octets_for (length cs) ≤ length out → OneOf (1 ∷ 2 ∷ []) (tag_of the_type r)
-    → takes cs ≡ false
-pack_fails cs out new (Count n) e h o = counts_only (Count n) n refl o
-pack_fails cs out new TooShort e h o = absurd (not-le_of_lt (pack_short cs out TooShort new e refl).0 h)
-pack_fails cs out new Unfit e h o = (pack_unfit cs out Unfit new e refl).1
+    (cs out new : List ℕ) (r : Result ℕ Refusal) (e : Refusal) → writing.made_write r new ≡ packing cs out → octets_for (length cs) ≤ length out → r ≡ Err e → takes cs ≡ false
+pack_fails cs out new r e done h failed = go (takes cs) refl
+  where
+    go : (b : Bool) → takes cs ≡ b → b ≡ false
+    go true p = let f = (pack_good cs out r new done h p).0 in cc
+    go false p = refl
 
 pub asked_unfit : (m : Msisdn) (string : List ℕ) (state : State) (list : List ℕ) → takes string ≡ false → made (refusal 9) state lent_buffer ≡ asked m string state list
 unfolding asked

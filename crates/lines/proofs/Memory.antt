@@ -5,8 +5,9 @@ use mathlib.Core.List.{List, [], ◌∷◌, ◌++◌}
 use Prim.Native.Nat.{ℕ, suc, ◌+◌, ◌-◌, ◌*◌, ◌/◌, ◌≤◌, ◌<◌}
 use native.Mathlib.Numerals.{add-one}
 use native.Mathlib.Omega.{arith}
-use lib.ListN.{length, take, drop, set, get_or, length-append, length-drop, take-append-drop, get_or-eq_default}
-use lib.Seq.{drop-cons, set_at, append_snoc, length-take-le, take_all, paste, paste-suc}
+use Rattle.std.proofs.Math.Nat.{mul-le-mul_left, mul-div_cancel_left}
+use lib.ListN.{length, take, drop, set, get_or, length-append, length-drop, take-append-drop}
+use lib.Seq.{drop-cons, set_at, append_snoc, length-take-le}
 use lib.Dec.{ltb}
 use borrow.Rule.Slice.PartMut.{put_mid}
 use borrow.Author.Tests.{ltb-true}
@@ -30,36 +31,20 @@ use Rattle.answers.proofs.Parts.{stands_behind}
 
 -- ---- rows
 
-pub no_key : (width : ℕ) (words : List ℕ) → length words ≡ 0 → last_key width words ≡ 0
-no_key width words h = get_or-eq_default words 0 (omega arith)
-
-pub first_key : (width : ℕ) (words : List ℕ) → length words < width → last_key width words ≡ get_or words 0 0
-first_key width words h = ap (λ (i : ℕ). get_or words i 0) (omega arith)
-
 -- the rows in use, as they were
 pub put_kept : (n : ℕ) (words : List ℕ) → n ≤ length words → Stands (take n words) words n words
 put_kept n words h = record { count = sym (length-take-le n words h); buffer = sym (take-append-drop n words) }
-
--- a word more of a row, copied behind the words in use
-pub append_more :
-    (row words new : List ℕ) (used i : ℕ) → i < length row → used + length row ≤ length words → new ≡ paste words used row i
-    → set new (used + i) (get_or row i 0) ≡ paste words used row (i + 1)
-append_more row words new used i h l e = rw (e, add-one i) (paste-suc words used row i 0 (omega arith) h)
-
-pub append_done :
-    (row words new : List ℕ) (used i : ℕ) → i ≤ length row → length row ≤ i → used + length row ≤ length words → new ≡ paste words used row i
-    → Stands (take used words ++ row) words (used + length row) new
-append_done row words new used i h k l e =
-    let same : i ≡ length row = omega arith in
-    record {
-      count = sym (length-append (take used words) row ∙ ap (λ (n : ℕ). n + length row) (length-take-le used words (omega arith)));
-      buffer = e ∙ rw (take_all i row k, same);
-    }
 
 -- a row that may follow the words in use is not over the limit
 pub follows_below : (width most key n : ℕ) (words : List ℕ) → n ≤ length words → may_follow width most key (take n words) ≡ true → n / width < most
 unfolding may_follow
 follows_below width most key n words h e = ltb-true (n / width) most (rw (length-take-le n words h) at (and_left (ltb (length (take n words) / width) most) (ltb (last_key width (take n words)) key) e))
+
+-- a row that may follow the rows in use has its room among the most
+pub room_behind : (width most key rows : ℕ) (words : List ℕ) → 0 < width → width * rows ≤ length words → may_follow width most key (take (width * rows) words) ≡ true → width * (rows + 1) ≤ width * most
+room_behind width most key rows words pos within may =
+    let below : rows < most = rw (mul-div_cancel_left rows pos) at (follows_below width most key (width * rows) words within may) in
+    mul-le-mul_left width (omega arith)
 
 pub put_count : {text old new : List ℕ} {n : ℕ} (m : ℕ) → Stands text old n new → m ≡ n → Stands text old m new
 put_count m p e = rw e p

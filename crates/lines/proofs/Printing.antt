@@ -23,8 +23,8 @@ use Rattle.numbers.specs.declared.Msisdn.{Msisdn}
 use Rattle.strings.specs.Text.{text_of, coding_scheme}
 use Rattle.strings.specs.Notices.{notice_text, notice_fields}
 use Rattle.strings.proofs.Notices.{forced_text}
-use Rattle.tables.specs.declared.Found.{Found}
-use Rattle.tables.specs.declared.Found.TheVariants.{At, Nothing}
+use Rattle.tables.specs.Keys.{Found}
+use Rattle.std.specs.Prelude.{Some, None}
 use Rattle.records.specs.declared.Notice.{Notice}
 use Rattle.records.specs.declared.Notice.TheVariants.{Absent, Waiting, InFlight}
 use Rattle.records.specs.Steps.{is_absent, is_waiting}
@@ -115,8 +115,8 @@ module _ (state : State) (number : FunctionalNumber) (kind clock : ℕ) where
   returned_replies false false = (tt, refl)
 
   result_at_replies : (place : Found) → Replies (notices.result_at kind clock place state)
-  result_at_replies Nothing = (tt, refl)
-  result_at_replies (At i) = returned_replies (eqb kind 0) (notices.clears kind (record_in state i).notice)
+  result_at_replies None = (tt, refl)
+  result_at_replies (Some i) = returned_replies (eqb kind 0) (notices.clears kind (record_in state i).notice)
 
   pub result_replies : Replies (notices.taking_result state number kind clock)
   unfolding notices.taking_result
@@ -166,8 +166,8 @@ module _ (state : State) (lent_buffer : List ℕ) (number : FunctionalNumber) (d
   checks = refusing state lent_buffer (notices.sending_checks (table_sound state.table) (figures_right state) lent_buffer number.0 (record_for state number.0) delay clock)
 
   sent_sends : AllPass checks → (place : Found) → row_for state number.0 ≡ place → Sends (notices.sent_at number place state lent_buffer)
-  sent_sends pass Nothing e = (tt, refuses)
-  sent_sends pass (At i) e =
+  sent_sends pass None e = (tt, refuses)
+  sent_sends pass (Some i) e =
       let sound : state_sound state ≡ true = and_both (table_sound state.table) (figures_right state) (not-false _ pass.1.0) (not-false _ pass.1.1.0) in
       let r = record_in state i in
       let waits : is_waiting r.notice ≡ true = rw (record_found_lem state.table number.0 i e) at (not-false (is_waiting (notices.notice_in (record_for state number.0))) pass.1.1.1.1.1.0) in

@@ -1,7 +1,8 @@
 // What a line of the program comes to: its form is read, carried out over the lent table and list, and what it prints is written.
 #![tactic(auto)]
 
-ghost use Rattle.std.specs.Prelude.{◌≡◌, true, List, ◌++◌, ℕ, ◌+◌, ◌*◌, ◌≤◌, ◌<◌, length, take, set};
+ghost use Rattle.std.specs.Prelude.{◌≡◌, true, false, List, ◌++◌, ℕ, ◌+◌, ◌*◌, ◌≤◌, ◌<◌, length, take, set, get_or};
+ghost use Rattle.std.proofs.Math.Option.{some};
 ghost use Rattle.packing.specs.Packing.{octets_for};
 ghost use Rattle.rows.specs.Rows.{row_words};
 ghost use Rattle.tables.specs.Tables.{subscriber_words, full_table_words, full_list_words};
@@ -9,12 +10,12 @@ ghost use Rattle.states.specs.States.{beside};
 ghost use Rattle.rules.specs.Notices as notices;
 ghost use Rattle.forms.specs.Lines.{line_feed};
 ghost use Rattle.lines.specs.Program.{questioned, last_key, may_follow, numbered, subscribed, lent_buffer, asked, delayed, requested, dispatched, reported, effect_of, line_effect};
-ghost use Rattle.forms.specs.Reads.{form_in, start_in};
+ghost use Rattle.forms.specs.Reads.{form_of_line, start_of};
 ghost use Rattle.answers.specs.Writing.{Stands};
 ghost use Rattle.replies.specs.Replies.{answer_room};
 ghost use Rattle.lines.specs.Memory.{program_in, Fits, line_room, Did, Answered, ending, packed_room, Lent, ran, running};
 
-use answers::Written;
+use answers::Refusal;
 use forms::Line;
 use node::BUFFER_ROOM;
 use numbers::{FunctionalNumber, Msisdn};
@@ -39,7 +40,7 @@ const PROGRAM_DELAY: u32 = 60;
 
 // How many rows of the lent table and list are in use, whether they are still being filled, the delay, whether no line has come yet, and the figures of
 // the table's rows in use.
-#[derive(Clone, Copy)]
+#[derive(Clone, Copy, Debug, PartialEq, Eq)]
 struct Progress {
     numbers: usize,
     subscribers: usize,
@@ -50,25 +51,20 @@ struct Progress {
 }
 
 // What a line leaves: the state, and how many octets it printed.
-#[derive(Clone, Copy)]
+#[derive(Clone, Copy, Debug, PartialEq, Eq)]
 struct Done {
     state: Progress,
     printed: usize,
 }
 
 // The first word of the last row, in rows of `width` words; 0 where there is none.
+// Kept: an `Option` is no plainer, since every number may follow 0.
 fn last_key(words: &[u64], width: usize) -> u64
     requires { 0 < width }
     ensures { result ≡ last_key width words.now }
 {
-    let n = words.len();
-    if n == 0 {
-        return 0;
-    }
-    if n < width {
-        return words[0];
-    }
-    words[n - width]
+    let at = words.len().saturating_sub(width);
+    words.get(at).copied().unwrap_or(0)
 }
 
 // Whether a row with this key may follow the rows.
@@ -81,16 +77,20 @@ fn may_follow(width: usize, most: usize, key: u64, words: &[u64]) -> bool
     (rows < most) & (last < key)
 }
 
-// Puts a row behind the words in use.
-fn append(row: &[u64], used: usize, words: &mut [u64])
-    requires { used + length row.now ≤ length words.old }
-    ensures { Stands (take used words.old ++ row.now) words.old (used + length row.now) words.new }
+// Puts a row behind the rows in use, where it may follow them; whether it was put there.
+fn append(row: &[u64], rows: usize, most: usize, words: &mut [u64]) -> bool
+    requires row_in_bounds { 0 < length row.now }
+    requires rows_in_bounds { (length row.now * rows ≤ length words.old) × (length row.now * most ≤ length words.old) }
+    ensures allowed { result ≡ may_follow (length row.now) most (get_or row.now 0 0) (take (length row.now * rows) words.old) }
+    ensures put { result ≡ true → Stands (take (length row.now * rows) words.old ++ row.now) words.old (length row.now * (rows + 1)) words.new }
+    ensures kept { result ≡ false → words.new ≡ words.old }
 {
-    let mut i = 0;
-    while i < row.len() {
-        words[used + i] = row[i];
-        i += 1;
+    let used = row.len() * rows;
+    if !may_follow(row.len(), most, row[0], &words[..used]) {
+        return false;
     }
+    words[used..used + row.len()].copy_from_slice(row);
+    true
 }
 
 // Any other line.
@@ -108,31 +108,20 @@ fn add_number(state: Progress, number: FunctionalNumber, table: &mut [u64], out:
     requires line_room_in_bounds { line_room ≤ length out.old }
     ensures { (list : List ℕ) → Fits state table.old list → Did (numbered number (program_in state table.old list)) state table.old list out.old result table.new list out.new }
 {
-    let rows = state.numbers;
-    let used = ROW_WORDS * rows;
     if !state.filling {
         return question(state, out);
     }
-    if !may_follow(ROW_WORDS, MOST_NUMBERS, number.0, &table[..used]) {
+    let mut row = [0; ROW_WORDS];
+    row[0] = number.0;
+    if !append(&row, state.numbers, MOST_NUMBERS, table) {
         return question(state, out);
     }
-    let mut row = [0u64; ROW_WORDS];
-    row[0] = number.0;
-    append(&row, used, table);
     // A free row counts in no figure.
-    let figures = state.figures;
-    let next = Progress {
-        numbers: rows + 1,
-        subscribers: state.subscribers,
-        filling: true,
-        delay: state.delay,
-        fresh: state.fresh,
-        figures,
+    let state = Progress {
+        numbers: state.numbers + 1,
+        ..state
     };
-    Done {
-        state: next,
-        printed: 0,
-    }
+    Done { state, printed: 0 }
 }
 
 // `S` MSISDN flags: a row more of the list.
@@ -147,29 +136,18 @@ fn add_subscriber(
     requires line_room_in_bounds { line_room ≤ length out.old }
     ensures { (table : List ℕ) → Fits state table list.old → Did (subscribed msisdn flags (program_in state table list.old)) state table list.old out.old result table list.new out.new }
 {
-    let rows = state.subscribers;
-    let used = SUBSCRIBER_WORDS * rows;
     if !state.filling {
         return question(state, out);
     }
-    if !may_follow(SUBSCRIBER_WORDS, MOST_SUBSCRIBERS, msisdn.0, &list[..used]) {
+    let row = [msisdn.0, u64::from(flags)];
+    if !append(&row, state.subscribers, MOST_SUBSCRIBERS, list) {
         return question(state, out);
     }
-    let row = [msisdn.0, flags as u64];
-    append(&row, used, list);
-    let figures = state.figures;
-    let next = Progress {
-        numbers: state.numbers,
-        subscribers: rows + 1,
-        filling: true,
-        delay: state.delay,
-        fresh: state.fresh,
-        figures,
+    let state = Progress {
+        subscribers: state.subscribers + 1,
+        ..state
     };
-    Done {
-        state: next,
-        printed: 0,
-    }
+    Done { state, printed: 0 }
 }
 
 // `W` seconds: another delay, before any other line.
@@ -180,19 +158,11 @@ fn set_delay(state: Progress, first: bool, seconds: u32, out: &mut [u8]) -> Done
     if !(first & records::delay_allowed(seconds)) {
         return question(state, out);
     }
-    let figures = state.figures;
-    let next = Progress {
-        numbers: state.numbers,
-        subscribers: state.subscribers,
-        filling: state.filling,
+    let state = Progress {
         delay: seconds,
-        fresh: state.fresh,
-        figures,
+        ..state
     };
-    Done {
-        state: next,
-        printed: 0,
-    }
+    Done { state, printed: 0 }
 }
 
 // Asks the node, its string packed, and writes what follows the `R`.
@@ -208,9 +178,8 @@ fn ask(
     requires { (octets_for (length string.now) ≤ length packed.old) × (answer_room ≤ length out.old) }
     ensures { Answered (asked requester string.now (beside table.old figures.old) list.now) (beside table.new figures.new) out.old out.new result }
 {
-    let written = packing::pack(string, packed);
-    let Written::Count(n) = written else {
-        return writers::put_numbered(b"refused ", 9, out);
+    let Ok(n) = packing::pack(string, packed) else {
+        return writers::put_numbered(b"refused ", u8::from(Refusal::Unfit), out);
     };
     let mut reply = [0u8; BUFFER_ROOM];
     let answer = node::request(
@@ -264,16 +233,13 @@ fn end_line(state: Progress, figures: [u64; FIGURES], at: usize, out: &mut [u8])
     ensures { (result ≡ ending state figures at) × (out.new ≡ set out.old at line_feed) }
 {
     out[at] = b'\n';
-    let next = Progress {
-        numbers: state.numbers,
-        subscribers: state.subscribers,
+    let state = Progress {
         filling: false,
-        delay: state.delay,
-        fresh: state.fresh,
         figures,
+        ..state
     };
     Done {
-        state: next,
+        state,
         printed: at + 1,
     }
 }
@@ -370,9 +336,9 @@ fn carry_out(
     packed: &mut [u8],
     out: &mut [u8],
 ) -> Done
-    requires line_in_bounds { (start_in line ≤ length rest.now) × Fits state table.old list.old }
+    requires line_in_bounds { (start_of line ≤ length rest.now) × Fits state table.old list.old }
     requires rest_in_bounds { (octets_for (length rest.now) ≤ length packed.old) × (line_room ≤ length out.old) }
-    ensures { Did (effect_of first (form_in rest.now line) (program_in state table.old list.old)) state table.old list.old out.old result table.new list.new out.new }
+    ensures { Did (effect_of first (some (form_of_line rest.now line)) (program_in state table.old list.old)) state table.old list.old out.old result table.new list.new out.new }
 {
     match line {
         Line::Number(number) => add_number(state, number, table, out),
@@ -383,7 +349,6 @@ fn carry_out(
         Line::Sending(clock, number) => sending_line(state, clock, number, table, out),
         Line::Result(clock, number, kind) => result_line(state, clock, number, kind, table, out),
         Line::Delay(seconds) => set_delay(state, first, seconds, out),
-        Line::Other => question(state, out),
     }
 }
 
@@ -400,15 +365,11 @@ fn do_line(
     requires line_in_bounds { (octets_for (length line.now) ≤ length packed.old) × (line_room ≤ length out.old) }
     ensures { Did (line_effect line.now (program_in state table.old list.old)) state table.old list.old out.old result table.new list.new out.new }
 {
-    let figures = state.figures;
     let next = Progress {
-        numbers: state.numbers,
-        subscribers: state.subscribers,
-        filling: state.filling,
-        delay: state.delay,
         fresh: false,
-        figures,
+        ..state
     };
+    // Kept: a slice pattern was tried, and the proof did not close: its two ways to fail come as one branch.
     if line.len() < 2 {
         return question(next, out);
     }
@@ -416,7 +377,9 @@ fn do_line(
         return question(next, out);
     }
     let rest = &line[2..];
-    let form = forms::read_form(line[0], rest);
+    let Some(form) = forms::read_form(line[0], rest) else {
+        return question(next, out);
+    };
     carry_out(form, rest, state.fresh, next, table, list, packed, out)
 }
 
@@ -431,23 +394,22 @@ fn run_lines(
     requires { Lent input.now table.old list.old out.old × (octets_for (length input.now) ≤ length packed.old) }
     ensures { ran result table.new list.new out.new ≡ running input.now table.old list.old out.old }
 {
-    let figures = [0u64; FIGURES];
     let mut state = Progress {
         numbers: 0,
         subscribers: 0,
         filling: true,
         delay: PROGRAM_DELAY,
         fresh: true,
-        figures,
+        figures: [0; FIGURES],
     };
     let mut at = 0;
     let mut n = 0;
+    // Kept: the place goes from line to line, and `split` would give one line more behind the last line feed, which would print `?`.
     while at < input.len() {
         let rest = &input[at..];
         let end = forms::place_of(b'\n', rest);
         let done = do_line(&rest[..end], state, table, list, packed, &mut out[n..]);
-        let next = done.state;
-        state = next;
+        state = done.state;
         n += done.printed;
         at += end + 1;
     }
@@ -455,6 +417,7 @@ fn run_lines(
 }
 
 // An array for packed strings; a caller needs only its length.
+// Kept: a function, since the check of a caller that has the array in its hands computes with all its octets.
 fn packed_room() -> [u8; PACKED_ROOM]
     ensures { packed_room ≡ length result }
 {

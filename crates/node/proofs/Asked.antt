@@ -1,4 +1,6 @@
 -- A request whose string was read: that it is asked, what its crew's field says, and what it comes to at each of its checks. Assumes nothing.
+use Rattle.std.specs.Prelude as core
+use Rattle.std.specs.Prelude.{Some, None}
 use mathlib.Core.Path.{◌≡◌, refl, sym, ap, ◌∙◌}
 use mathlib.Core.Bool.{Bool, true, false, cond, not, ◌&&◌}
 use mathlib.Core.List.{List, [], ◌∷◌, map}
@@ -23,7 +25,6 @@ use Rattle.strings.specs.declared.Operation.TheVariants.{Register, Erase, Interr
 use Rattle.strings.specs.declared.Erasing.{Erasing}
 use Rattle.strings.specs.declared.Erasing.TheVariants.{Empty, Forced}
 use Rattle.strings.specs.declared.Fields.{Fields}
-use Rattle.strings.specs.declared.Reading.TheVariants.{Read}
 use Rattle.strings.specs.declared.ReadRequest.{ReadRequest}
 use Rattle.strings.specs.Text.{Request, request_from, erasing_sound, may_carry, is_lead, request_sound, most_characters}
 use Rattle.strings.specs.Outcomes.{ReadOutcome, request_of, tell, made_read, reading}
@@ -32,8 +33,6 @@ use Rattle.strings.proofs.ReadBack.{read_only}
 use Rattle.strings.proofs.Octets.{request_reads}
 use Rattle.strings.proofs.Answered.{told_place, told_so, was_read}
 use Rattle.strings.proofs.Choice.{beside_whole}
-use Rattle.tables.specs.declared.Found.{Found}
-use Rattle.tables.specs.declared.Found.TheVariants.{At, Nothing}
 use Rattle.tables.specs.Tables.{flags_of}
 use Rattle.states.specs.States.{State, state_sound, row_for, record_for}
 use Rattle.rules.specs.Answers.{Answer, outcome, Outcome, made, packed_over, octet_count}
@@ -90,9 +89,9 @@ step_same : (t : State) (q : Msisdn) (f : Fields) (field : List ℕ) → step t 
 unfolding step
 step_same t q f field = ap (decide (map (staying t) (step_checks q (with_additional f []) (record_for t f.number.0)))) (go (row_for t f.number.0))
   where
-    go : (place : Found) → carried_out_at (with_additional f field) place q t ≡ carried_out_at (with_additional f []) place q t
-    go Nothing = refl
-    go (At i) = refl
+    go : (place : core.Option ℕ) → carried_out_at (with_additional f field) place q t ≡ carried_out_at (with_additional f []) place q t
+    go None = refl
+    go (Some i) = refl
 
 pub single_asked_lem : (t : State) (b : List ℕ) (q : Msisdn) (f : Fields) (field : List ℕ) → crew_of field ≡ none
     → carried_out_for t b q (with_additional f field) (crew_of field) ≡ once t b q (with_additional f [])
@@ -100,11 +99,11 @@ single_asked_lem t b q f field e = ap (carried_out_for t b q (with_additional f 
 
 -- by the row of its number
 module _ (t : State) (b : List ℕ) (q : Msisdn) (f : Fields) where
-  pub single_misses : (said : Answer) (after : List ℕ) → row_for t f.number.0 ≡ Nothing → said ≡ outcome 41 (octet_count (two_digits 41)) → after ≡ packed_over (two_digits 41) b
+  pub single_misses : (said : Answer) (after : List ℕ) → row_for t f.number.0 ≡ None → said ≡ outcome 41 (octet_count (two_digits 41)) → after ≡ packed_over (two_digits 41) b
       → made said t after ≡ once t b q (with_additional f [])
   single_misses said after e s d = rw (s, d) (sym (ap (replying b) (step_misses t q (with_additional f []) e)))
 
-  pub single_visits : (o : Outcome) (i : ℕ) → row_for t f.number.0 ≡ At i → erasing_sound f.operation f.erasing ≡ true
+  pub single_visits : (o : Outcome) (i : ℕ) → row_for t f.number.0 ≡ Some i → erasing_sound f.operation f.erasing ≡ true
       → o ≡ replying b (decides_at f.operation f.erasing f.number q t i) → o ≡ once t b q (with_additional f [])
   single_visits o i e h d = d ∙ sym (ap (replying b) (step_visits t q (with_additional f []) i e h))
 
@@ -181,7 +180,7 @@ module _ (f : Fields) (field : List ℕ) (n : ℕ) (sound : request_sound (with_
 -- ---- what the reader's answer says of the string
 
 module _ (os : List ℕ) (r : ReadRequest) (done : made_read r ≡ reading os) where
-  module _ (f : Fields) (e : r.reading ≡ Read f) where
+  module _ (f : Fields) (e : r.reading ≡ Some f) where
     abbrev field : List ℕ
     field = take f.count (drop f.start r.text)
 

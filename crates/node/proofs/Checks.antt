@@ -6,15 +6,18 @@ use mathlib.Core.List.{List, []}
 use Prim.Native.Nat.{ℕ, ◌≤◌, ◌<◌}
 use lib.ListN.{length}
 use borrow.Author.Tests.{lt-ltb, le-ltb, eq-eqb, ne_eqb}
+use Rattle.std.specs.Prelude.{Result, Err}
 use Rattle.answers.specs.Checks.{any_holds}
+use Rattle.answers.specs.Numbers.{refusal_number}
+use Rattle.answers.specs.declared.Refusal.{Refusal}
 use Rattle.numbers.specs.Numbers.{is_number, nobody}
 use Rattle.numbers.specs.declared.FunctionalNumber.{FunctionalNumber}
 use Rattle.numbers.specs.declared.Msisdn.{Msisdn}
 use Rattle.strings.specs.Text.{Request, coding_scheme}
 use Rattle.strings.specs.Outcomes.{request_of}
 use Rattle.tables.specs.Tables.{table_sound, list_sound}
-use Rattle.states.specs.States.{State, figures_right, state_sound, refusal_of, record_in}
-use Rattle.states.proofs.States.{state_table, state_right, state_refuses}
+use Rattle.states.specs.States.{State, figures_right, state_sound, said_check, refusal_of, record_in}
+use Rattle.states.proofs.States.{state_table, state_right, check_refuses}
 use Rattle.rules.specs.Answers.{refusal, error, made, buffer_room, Outcome}
 use Rattle.rules.specs.Requests.{most_string_octets, refusal_checks, once}
 use Rattle.rules.specs.Crews.{requesting}
@@ -38,9 +41,9 @@ module _ (state : State) (list reply : List ℕ) (requester : Msisdn) (scheme : 
     refused_8 unsound = rw (le-ltb _ _ room, unsound)
 
     module _ (sound_list : list_sound list ≡ true) where
-      pub refused_state : (n : ℕ) → n ≡ refusal_of state → (n ≡ 0 → ⊥) → made (refusal n) state reply ≡ whole
+      pub refused_state : (answer : Result Unit Refusal) (r : Refusal) → said_check answer ≡ refusal_of state → answer ≡ Err r → made (refusal (refusal_number r)) state reply ≡ whole
       unfolding requesting
-      refused_state n e refused = rw (le-ltb _ _ room, sound_list) (state_refuses state n e (λ m. made (refusal m) state reply) _ refused)
+      refused_state answer r e is = rw (le-ltb _ _ room, sound_list) (check_refuses state answer e (λ m. made (refusal m) state reply) _ r is)
 
       module _ (sound : state_sound state ≡ true) where
         sound_table : table_sound state.table ≡ true
@@ -88,9 +91,10 @@ module _ (state : State) (buffer : List ℕ) (number : FunctionalNumber) (delay 
   sending_1 short = rw (lt-ltb _ _ short)
 
   module _ (room : buffer_room ≤ length buffer) where
-    pub sending_state : (n : ℕ) → n ≡ refusal_of state → (n ≡ 0 → ⊥) → made (refusal n) state buffer ≡ sending_notice state buffer number delay clock
+    pub sending_state : (answer : Result Unit Refusal) (r : Refusal) → said_check answer ≡ refusal_of state → answer ≡ Err r
+        → made (refusal (refusal_number r)) state buffer ≡ sending_notice state buffer number delay clock
     unfolding sending_notice
-    sending_state n e refused = rw (le-ltb _ _ room) (state_refuses state n e (λ m. made (refusal m) state buffer) _ refused)
+    sending_state answer r e is = rw (le-ltb _ _ room) (check_refuses state answer e (λ m. made (refusal m) state buffer) _ r is)
 
     pub sending_7 : state_sound state ≡ true → is_number number.0 ≡ false → sending_notice state buffer number delay clock ≡ made (refusal 7) state buffer
     unfolding sending_notice
@@ -108,9 +112,10 @@ passed_miss t b room = rw (le-ltb _ _ room)
 -- ---- results
 
 module _ (state : State) (number : FunctionalNumber) (kind clock : ℕ) where
-  pub result_state : (n : ℕ) → n ≡ refusal_of state → (n ≡ 0 → ⊥) → made (refusal n) state [] ≡ taking_result state number kind clock
+  pub result_state : (answer : Result Unit Refusal) (r : Refusal) → said_check answer ≡ refusal_of state → answer ≡ Err r
+      → made (refusal (refusal_number r)) state [] ≡ taking_result state number kind clock
   unfolding taking_result
-  result_state n e refused = state_refuses state n e (λ m. made (refusal m) state []) _ refused
+  result_state answer r e is = check_refuses state answer e (λ m. made (refusal m) state []) _ r is
 
   pub result_7 : state_sound state ≡ true → is_number number.0 ≡ false → taking_result state number kind clock ≡ made (refusal 7) state []
   unfolding taking_result
@@ -127,9 +132,10 @@ module _ (state : State) (reply : List ℕ) (number : FunctionalNumber) (holder 
   terminal_1 short = rw (lt-ltb _ _ short)
 
   module _ (room : buffer_room ≤ length reply) where
-    pub terminal_state : (n : ℕ) → n ≡ refusal_of state → (n ≡ 0 → ⊥) → made (refusal n) state reply ≡ erasure
+    pub terminal_state : (answer : Result Unit Refusal) (r : Refusal) → said_check answer ≡ refusal_of state → answer ≡ Err r
+        → made (refusal (refusal_number r)) state reply ≡ erasure
     unfolding terminal_erasure
-    terminal_state n e refused = rw (le-ltb _ _ room) (state_refuses state n e (λ m. made (refusal m) state reply) _ refused)
+    terminal_state answer r e is = rw (le-ltb _ _ room) (check_refuses state answer e (λ m. made (refusal m) state reply) _ r is)
 
     module _ (sound : state_sound state ≡ true) where
       pub terminal_7 : both_numbers number holder ≡ false → erasure ≡ made (refusal 7) state reply

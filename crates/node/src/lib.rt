@@ -6,6 +6,7 @@ ghost use Rattle.numbers.specs.Numbers.{is_number};
 ghost use Rattle.crews.specs.Crews.{count_of};
 ghost use Rattle.strings.specs.Text.{erasing_sound, request_sound};
 ghost use Rattle.tables.specs.Tables.{list_sound, flags_of};
+ghost use Rattle.states.specs.Lent.{state_in, SameLoans};
 ghost use Rattle.states.specs.States.{beside, state_sound};
 ghost use Rattle.rules.specs.Answers.{made, buffer_room};
 ghost use Rattle.rules.specs.Requests.{is_forced, is_supervisor};
@@ -14,13 +15,15 @@ ghost use Rattle.rules.specs.Crews as crews;
 ghost use Rattle.rules.specs.Notices as notices;
 ghost use Rattle.rules.specs.Terminal.{terminal_erasure};
 ghost use Rattle.node.specs.Asked.{with_additional, asked_by};
-ghost use Rattle.visits.specs.Said.{said_request, said_sending, said_result, said_finding};
+ghost use Rattle.visits.specs.Said.{said_reply, said_request, said_sending, said_result, said_finding};
 
+use answers::{Failure, Outcome, Refusal, RequestError};
 use crews::Crew;
 use numbers::{FunctionalNumber, Msisdn};
-use strings::{CODING_SCHEME, Erasing, Fields, Operation, Reading};
-use tables::Found;
-use visits::{FindingAnswer, RequestAnswer, ResultAnswer, SendingAnswer};
+use records::Fate;
+use states::Lent;
+use strings::{CODING_SCHEME, Erasing, Fields, Operation};
+use visits::{Reply, Sent};
 
 // Reply and notice buffers have at least so many octets.
 pub const BUFFER_ROOM: usize = 80;
@@ -39,95 +42,90 @@ fn is_forbidden(erasing: Erasing, flags: u64) -> bool
 }
 
 // A single request: the number's row, and what its record decides.
-fn ask_single(
-    table: &mut [u64],
-    figures: &mut [u64],
-    reply: &mut [u8],
-    requester: Msisdn,
-    fields: Fields,
-) -> RequestAnswer
-    requires { (state_sound (beside table.old figures.old) ≡ true) × (buffer_room ≤ length reply.old) × (erasing_sound fields.operation fields.erasing ≡ true) }
-    ensures { made (said_request result) (beside table.new figures.new) reply.new ≡ requests.once (beside table.old figures.old) reply.old requester (with_additional fields []) }
+fn ask_single(lent: &mut Lent<'_>, reply: &mut [u8], requester: Msisdn, fields: Fields) -> Reply
+    requires { (state_sound (state_in lent.old) ≡ true) × (buffer_room ≤ length reply.old) × (erasing_sound fields.operation fields.erasing ≡ true) }
+    ensures answer { made (said_reply result) (state_in lent.new) reply.new ≡ requests.once (state_in lent.old) reply.old requester (with_additional fields []) }
+    ensures loans { SameLoans lent.old lent.new }
 {
-    let number = fields.number;
-    let found = tables::row_of(table, number);
-    let Found::At(row) = found else {
-        return visits::say(41, reply);
-    };
-    visits::decide_at(table, figures, row, reply, requester, fields)
+    match lent.row_of(fields.number) {
+        Some(row) => visits::decide_at(lent, row, reply, requester, fields),
+        None => visits::say(Outcome::UnknownNumber, reply),
+    }
 }
 
 // A request whose string was read: the requester's flags, and then the single request or the crew's.
 fn ask(
-    table: &mut [u64],
-    figures: &mut [u64],
+    lent: &mut Lent<'_>,
     list: &[u64],
     reply: &mut [u8],
     requester: Msisdn,
     fields: Fields,
     additional: &[u8],
-) -> RequestAnswer
-    requires figures_value { (state_sound (beside table.old figures.old) ≡ true) × (list_sound list.now ≡ true) × (buffer_room ≤ length reply.old) × (is_number requester.0 ≡ true) }
+) -> Result<Reply, Failure>
+    requires figures_value { (state_sound (state_in lent.old) ≡ true) × (list_sound list.now ≡ true) × (buffer_room ≤ length reply.old) × (is_number requester.0 ≡ true) }
     requires additional_value { (request_sound (with_additional fields additional.now) ≡ true) × (fields.crew ≡ count_of additional.now) }
-    ensures { made (said_request result) (beside table.new figures.new) reply.new ≡ asked_by (beside table.old figures.old) (flags_of list.now requester.0) reply.old requester (with_additional fields additional.now) }
+    ensures answer { made (said_request result) (state_in lent.new) reply.new ≡ asked_by (state_in lent.old) (flags_of list.now requester.0) reply.old requester (with_additional fields additional.now) }
+    ensures loans { SameLoans lent.old lent.new }
 {
-    let operation = fields.operation;
-    let number = fields.number;
-    let erasing = fields.erasing;
-    let crew = fields.crew;
     let flags = tables::flags_of(list, requester);
     if flags % 2 != 1 {
-        return visits::say(42, reply);
+        return Ok(visits::say(Outcome::NoFollowMe, reply));
     }
-    if is_forbidden(erasing, flags) {
-        return visits::say(22, reply);
+    if is_forbidden(fields.erasing, flags) {
+        return Ok(visits::say(Outcome::NoSupervisor, reply));
     }
-    match crew {
-        Crew::Single => ask_single(table, figures, reply, requester, fields),
+    match fields.crew {
+        Crew::Single => Ok(ask_single(lent, reply, requester, fields)),
         Crew::Codes(n) => {
             let digits = &additional[additional.len() - 2 * n..];
-            walks::request_crew(table, figures, reply, requester, operation, number, digits)
+            Ok(walks::request_crew(
+                lent,
+                reply,
+                requester,
+                fields.operation,
+                fields.number,
+                digits,
+            ))
         }
         // No string reads so.
-        Crew::Broken => RequestAnswer::Error(36),
+        Crew::Broken => Err(Failure::Error(RequestError::UnexpectedData)),
     }
 }
 
 // A request over a sound table, right figures and a sound list, with room for the reply: the checks with an error, in document 01's order, and what its string asks for.
 pub fn ask_string(
-    table: &mut [u64],
-    figures: &mut [u64],
+    lent: &mut Lent<'_>,
     list: &[u64],
     reply: &mut [u8],
     requester: Msisdn,
     scheme: u8,
     string: &[u8],
-) -> RequestAnswer
-    requires { (state_sound (beside table.old figures.old) ≡ true) × (list_sound list.now ≡ true) × (buffer_room ≤ length reply.old) }
-    ensures { made (said_request result) (beside table.new figures.new) reply.new ≡ crews.requesting (beside table.old figures.old) list.now reply.old requester scheme string.now }
+) -> Result<Reply, Failure>
+    requires { (state_sound (state_in lent.old) ≡ true) × (list_sound list.now ≡ true) × (buffer_room ≤ length reply.old) }
+    ensures answer { made (said_request result) (state_in lent.new) reply.new ≡ crews.requesting (state_in lent.old) list.now reply.old requester scheme string.now }
+    ensures loans { SameLoans lent.old lent.new }
 {
     if !numbers::is_number(requester.0) {
-        return RequestAnswer::Error(35);
+        return Err(Failure::Error(RequestError::DataMissing));
     }
     if scheme != CODING_SCHEME {
-        return RequestAnswer::Error(71);
+        return Err(Failure::Error(RequestError::UnknownAlphabet));
     }
-    if string.len() == 0 {
-        return RequestAnswer::Error(35);
+    if string.is_empty() {
+        return Err(Failure::Error(RequestError::DataMissing));
     }
     if MOST_STRING_OCTETS < string.len() {
-        return RequestAnswer::Error(36);
+        return Err(Failure::Error(RequestError::UnexpectedData));
     }
     let read = strings::read_request(string);
-    let reading = read.reading;
-    let Reading::Read(fields) = reading else {
-        return RequestAnswer::Error(36);
+    let Some(fields) = read.reading else {
+        return Err(Failure::Error(RequestError::UnexpectedData));
     };
     let text = read.text;
     let start = fields.start;
     let end = start + fields.count;
     let additional = &text[start..end];
-    ask(table, figures, list, reply, requester, fields, additional)
+    ask(lent, list, reply, requester, fields, additional)
 }
 
 // A request: the checks with a refusal, and then those of its string.
@@ -139,20 +137,24 @@ pub fn request(
     requester: Msisdn,
     scheme: u8,
     string: &[u8],
-) -> RequestAnswer
+) -> Result<Reply, Failure>
     ensures { made (said_request result) (beside table.new figures.new) reply.new ≡ crews.requesting (beside table.old figures.old) list.now reply.old requester scheme string.now }
 {
     if reply.len() < BUFFER_ROOM {
-        return RequestAnswer::Refused(1);
+        return Err(Failure::Refused(Refusal::NoRoom));
     }
     if !tables::list_sound(list) {
-        return RequestAnswer::Refused(8);
+        return Err(Failure::Refused(Refusal::UnsoundList));
     }
-    let refused = states::refusal(table, figures);
-    if refused != 0 {
-        return RequestAnswer::Refused(refused);
-    }
-    ask_string(table, figures, list, reply, requester, scheme, string)
+    states::check(table, figures)?;
+    ask_string(
+        &mut Lent { table, figures },
+        list,
+        reply,
+        requester,
+        scheme,
+        string,
+    )
 }
 
 // An erasure at the node's terminal: a forced one by nobody listed, naming the number's holder.
@@ -162,18 +164,15 @@ pub fn terminal_erasure(
     reply: &mut [u8],
     number: FunctionalNumber,
     holder: Msisdn,
-) -> RequestAnswer
+) -> Result<Reply, Failure>
     ensures { made (said_request result) (beside table.new figures.new) reply.new ≡ terminal_erasure (beside table.old figures.old) reply.old number holder }
 {
     if reply.len() < BUFFER_ROOM {
-        return RequestAnswer::Refused(1);
+        return Err(Failure::Refused(Refusal::NoRoom));
     }
-    let refused = states::refusal(table, figures);
-    if refused != 0 {
-        return RequestAnswer::Refused(refused);
-    }
+    states::check(table, figures)?;
     if !(numbers::is_number(number.0) & numbers::is_number(holder.0)) {
-        return RequestAnswer::Refused(7);
+        return Err(Failure::Refused(Refusal::NoNumber));
     }
     let fields = Fields {
         operation: Operation::Erase,
@@ -183,7 +182,7 @@ pub fn terminal_erasure(
         count: 0,
         crew: Crew::Single,
     };
-    ask_single(table, figures, reply, Msisdn(0), fields)
+    Ok(ask_single(&mut Lent { table, figures }, reply, Msisdn(0), fields))
 }
 
 // A sending names a number.
@@ -194,24 +193,27 @@ pub fn sending(
     number: FunctionalNumber,
     delay: u32,
     clock: u32,
-) -> SendingAnswer
+) -> Result<Sent, Refusal>
     ensures { made (said_sending result) (beside table.new figures.new) buffer.new ≡ notices.sending_notice (beside table.old figures.old) buffer.old number delay clock }
 {
     if buffer.len() < BUFFER_ROOM {
-        return SendingAnswer::Refused(1);
+        return Err(Refusal::NoRoom);
     }
-    let refused = states::refusal(table, figures);
-    if refused != 0 {
-        return SendingAnswer::Refused(refused);
-    }
+    states::check(table, figures)?;
     if !numbers::is_number(number.0) {
-        return SendingAnswer::Refused(7);
+        return Err(Refusal::NoNumber);
     }
-    let found = tables::row_of(table, number);
-    let Found::At(row) = found else {
-        return SendingAnswer::Refused(7);
+    let Some(row) = tables::row_of(table, number) else {
+        return Err(Refusal::NoNumber);
     };
-    visits::send_at(table, figures, row, buffer, number, delay, clock)
+    visits::send_at(
+        &mut Lent { table, figures },
+        row,
+        buffer,
+        number,
+        delay,
+        clock,
+    )
 }
 
 // A result names a number and a kind.
@@ -221,32 +223,28 @@ pub fn result(
     number: FunctionalNumber,
     kind: u32,
     clock: u32,
-) -> ResultAnswer
+) -> Result<Fate, Refusal>
     ensures { made (said_result result) (beside table.new figures.new) [] ≡ notices.taking_result (beside table.old figures.old) number kind clock }
 {
-    let refused = states::refusal(table, figures);
-    if refused != 0 {
-        return ResultAnswer::Refused(refused);
-    }
+    states::check(table, figures)?;
     if !numbers::is_number(number.0) {
-        return ResultAnswer::Refused(7);
+        return Err(Refusal::NoNumber);
     }
-    let found = tables::row_of(table, number);
-    let Found::At(row) = found else {
-        return ResultAnswer::Refused(7);
+    let Some(row) = tables::row_of(table, number) else {
+        return Err(Refusal::NoNumber);
     };
-    visits::result_at(table, figures, row, kind, clock)
+    visits::result_at(&mut Lent { table, figures }, row, kind, clock)
 }
 
 // The lowest due number, if one is due.
-pub fn finding(table: &[u64], delay: u32, clock: u32) -> FindingAnswer
+pub fn finding(table: &[u64], delay: u32, clock: u32) -> Result<Option<FunctionalNumber>, Refusal>
     ensures { said_finding result ≡ notices.finding table.now delay clock }
 {
     if !tables::table_sound(table) {
-        return FindingAnswer::Refused(2);
+        return Err(Refusal::UnsoundTable);
     }
     if !records::delay_allowed(delay) {
-        return FindingAnswer::Refused(6);
+        return Err(Refusal::WrongDelay);
     }
-    visits::first_due(table, delay, clock)
+    Ok(visits::first_due(table, delay, clock))
 }

@@ -5,5 +5,6 @@ pub mod Lengths
 pub mod Least
 pub mod Digits
 pub mod Reading
+pub mod Prefix
 pub mod Writing
 pub mod Examples

@@ -3,8 +3,9 @@ use Rattle.std.proofs.Common.{◌≡◌, ℕ, zero, suc, ◌+◌, ◌-◌, ◌/�
 use native.Mathlib.Nat.{one-le-pow}
 use lib.Seq.{append_snoc}
 use Rattle.answers.specs.Writing.{made_write}
-use Rattle.answers.specs.declared.Written.{Written}
-use Rattle.answers.specs.declared.Written.TheVariants.{Count, TooShort, Unfit}
+use Rattle.std.specs.Prelude.{Result, Ok, Err}
+use Rattle.answers.specs.declared.Refusal.{Refusal}
+use Rattle.answers.specs.declared.Refusal.TheVariants.{NoRoom, Unfit}
 use Rattle.answers.proofs.Tests.{less_or_not}
 use Rattle.answers.proofs.Writing.{writing_short, writing_unfit, writing_good, wrote_count, done_good}
 use Rattle.numbers.specs.Numbers.{most_digits, is_number, digits_up_to, digits_of, writing_digits}
@@ -53,17 +54,17 @@ left_more left k w e h =
 
 -- ---- what the digit writer comes to
 
-pub digits_short : (w : ℕ) (out : List ℕ) → length out < most_digits → made_write TooShort out ≡ writing_digits w out
+pub digits_short : (w : ℕ) (out : List ℕ) → length out < most_digits → made_write (Err NoRoom) out ≡ writing_digits w out
 unfolding writing_digits
 digits_short w out h = sym (writing_short _ _ _ out (lt-ltb (length out) most_digits h))
 
-pub digits_unfit : (w : ℕ) (out : List ℕ) → most_digits ≤ length out → is_number w ≡ false → made_write Unfit out ≡ writing_digits w out
+pub digits_unfit : (w : ℕ) (out : List ℕ) → most_digits ≤ length out → is_number w ≡ false → made_write (Err Unfit) out ≡ writing_digits w out
 unfolding writing_digits
 digits_unfit w out h u = sym (writing_unfit _ _ _ out (le-ltb (length out) most_digits h) (ap not u))
 
 pub digits_good :
     (w n : ℕ) (out new : List ℕ) → most_digits ≤ length out → is_number w ≡ true → n ≡ length (digits_of w) → new ≡ digits_up_to n w ++ drop n out
-    → made_write (Count n) new ≡ writing_digits w out
+    → made_write (Ok n) new ≡ writing_digits w out
 unfolding writing_digits
 digits_good w n out new h g e f =
     let all : digits_up_to n w ≡ digits_of w = rw e (digits_fit w g) in
@@ -72,7 +73,7 @@ digits_good w n out new h g e f =
 
 -- what a caller knows of a number's digits written where there is room
 pub written_digits :
-    (w : ℕ) (out : List ℕ) (r : Written) (new : List ℕ) → is_number w ≡ true → most_digits ≤ length out → made_write r new ≡ writing_digits w out
-    → (r ≡ Count (length (digits_of w))) × (new ≡ digits_of w ++ drop (length (digits_of w)) out)
+    (w : ℕ) (out : List ℕ) (r : Result ℕ Refusal) (new : List ℕ) → is_number w ≡ true → most_digits ≤ length out → made_write r new ≡ writing_digits w out
+    → (r ≡ Ok (length (digits_of w))) × (new ≡ digits_of w ++ drop (length (digits_of w)) out)
 unfolding writing_digits
 written_digits w out r new g h done = done_good _ _ _ out r new done (le-ltb (length out) most_digits h) (ap not g)

@@ -1,10 +1,8 @@
 -- Document 01, "Numbers": digits, the stored form, and how the one is read from and written to the other. Assumes nothing.
-use Rattle.std.specs.Prelude.{ℕ, zero, suc, ◌+◌, ◌-◌, ◌*◌, ◌/◌, ◌%◌, ◌^◌, Bool, cond, not, ◌&&◌, ◌||◌, List, [], ◌∷◌, ◌++◌, length, take, ◌==◌, nat_le, nat_lt}
+use Rattle.std.specs.Prelude.{ℕ, zero, suc, ◌+◌, ◌-◌, ◌*◌, ◌/◌, ◌%◌, ◌^◌, Bool, cond, not, ◌&&◌, ◌||◌, List, [], ◌∷◌, ◌++◌, length, take, ◌==◌, nat_le, nat_lt, Option, Some, None}
 use Rattle.answers.specs.Leading.{each, leading}
 use Rattle.answers.specs.Writing.{WriteOutcome, writing}
 use Rattle.numbers.specs.declared.Msisdn.{Msisdn}
-use Rattle.numbers.specs.declared.NumberRead.{NumberRead}
-use Rattle.numbers.specs.declared.NumberRead.TheVariants.{Number, Unreadable}
 
 -- "Each has 5 to 15 decimal digits"
 abbrev pub fewest_digits : ℕ
@@ -72,10 +70,10 @@ abbrev pub leading_digits : List ℕ → ℕ
 leading_digits s = leading is_digit s
 
 -- the number at the front of a string, with how far it reaches: 5 to 15 digits, and no digit behind them
-unfoldable pub leading_number : List ℕ → NumberRead
+unfoldable pub leading_number : List ℕ → Option (ℕ × ℕ)
 leading_number s =
-    cond (nat_le fewest_digits (leading_digits s) && nat_le (leading_digits s) most_digits) (Number (stored_form (take (leading_digits s) s)) (leading_digits s))
-    Unreadable
+    cond (nat_le fewest_digits (leading_digits s) && nat_le (leading_digits s) most_digits) (Some (stored_form (take (leading_digits s) s), leading_digits s))
+    None
 
 -- a number's digits written over the front of a buffer that has room for the longest
 unfoldable pub writing_digits : ℕ → List ℕ → WriteOutcome

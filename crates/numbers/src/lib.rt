@@ -6,22 +6,15 @@ ghost use Rattle.answers.specs.Writing.{made_write};
 ghost use Rattle.numbers.specs.Numbers.{most_digits, is_digit, are_digits, stored_form, is_number, digits_up_to, digits_of, leading_digits, leading_number, writing_digits};
 ghost use Rattle.numbers.specs.Least.{least_for, is_from};
 
-use answers::Written;
+use answers::Refusal;
 
 // The "dummy" number of a function on a train, in stored form.
-#[derive(Clone, Copy)]
+#[derive(Clone, Copy, Debug, PartialEq, Eq)]
 pub struct FunctionalNumber(pub u64);
 
 // The "true" number of a subscriber, in stored form; 0 is nobody.
-#[derive(Clone, Copy)]
+#[derive(Clone, Copy, Debug, PartialEq, Eq)]
 pub struct Msisdn(pub u64);
-
-// What stands at the front of a part of a string: a number in stored form and how many digits it has, or none.
-#[derive(Clone, Copy)]
-pub enum NumberRead {
-    Number(u64, usize),
-    Unreadable,
-}
 
 // How many digits a number has.
 pub const FEWEST_DIGITS: usize = 5;
@@ -29,6 +22,7 @@ pub const FEWEST_DIGITS: usize = 5;
 pub const MOST_DIGITS: usize = 15;
 
 // The least number as long as a word below 10^10; 0 where it is below the least of all.
+// Kept: an `Option` is no plainer, since every word is compared with the answer, and none is from 0 on and below twice 0.
 fn least_short(word: u64) -> u64
     requires { word < 10 ^ 10 }
     ensures { result ≡ least_for word }
@@ -99,24 +93,11 @@ pub fn is_number(word: u64) -> bool
     is_from(word, least_for(word))
 }
 
-fn is_digit(c: u8) -> bool
-    ensures { result ≡ is_digit c }
-{
-    (b'0' <= c) & (c <= b'9')
-}
-
 // How many digits stand at the front of a part.
 pub fn leading_digits(part: &[u8]) -> usize
     ensures { result ≡ leading_digits part.now }
 {
-    let mut n = 0;
-    while n < part.len() {
-        if !is_digit(part[n]) {
-            return n;
-        }
-        n += 1;
-    }
-    n
+    part.iter().take_while(|c| c.is_ascii_digit()).count()
 }
 
 // The stored form of digits: they are put behind a 1.
@@ -126,26 +107,24 @@ fn stored_of(digits: &[u8]) -> u64
     ensures { result ≡ stored_form digits.now }
 {
     let mut word: u64 = 1;
-    let mut i = 0;
-    while i < digits.len() {
-        word = 10 * word + (digits[i] - b'0') as u64;
-        i += 1;
+    for digit in digits {
+        word = 10 * word + u64::from(*digit - b'0');
     }
     word
 }
 
-// The number at the front of a part.
-pub fn read_number(part: &[u8]) -> NumberRead
+// The number at the front of a part, in stored form, and how many digits it has.
+pub fn read_number(part: &[u8]) -> Option<(u64, usize)>
     ensures { result ≡ leading_number part.now }
 {
     let n = leading_digits(part);
     if n < FEWEST_DIGITS {
-        return NumberRead::Unreadable;
+        return None;
     }
     if MOST_DIGITS < n {
-        return NumberRead::Unreadable;
+        return None;
     }
-    NumberRead::Number(stored_of(&part[..n]), n)
+    Some((stored_of(&part[..n]), n))
 }
 
 // How many digits a number in stored form has.
@@ -153,6 +132,7 @@ fn count_digits(word: u64) -> usize
     requires { is_number word ≡ true }
     ensures { result ≡ length (digits_of word) }
 {
+    // Kept: a `for` is no plainer: the word is divided until one digit is left, and no index is counted.
     let mut rest = word;
     let mut n = 0;
     while 10 <= rest {
@@ -169,25 +149,23 @@ fn write_last(word: u64, n: usize, out: &mut [u8])
     ensures { out.new ≡ digits_up_to n word ++ drop n out.old }
 {
     let mut rest = word;
-    let mut left = n;
-    while 0 < left {
-        left -= 1;
-        out[left] = b'0' + (rest % 10) as u8;
+    for at in (0..n).rev() {
+        out[at] = b'0' + (rest % 10) as u8;
         rest = rest / 10;
     }
 }
 
 // Writes a number's digits over the front of a part that has room for the longest.
-pub fn write_digits(word: u64, out: &mut [u8]) -> Written
+pub fn write_digits(word: u64, out: &mut [u8]) -> Result<usize, Refusal>
     ensures { made_write result out.new ≡ writing_digits word out.old }
 {
     if out.len() < MOST_DIGITS {
-        return Written::TooShort;
+        return Err(Refusal::NoRoom);
     }
     if !is_number(word) {
-        return Written::Unfit;
+        return Err(Refusal::Unfit);
     }
     let n = count_digits(word);
     write_last(word, n, out);
-    Written::Count(n)
+    Ok(n)
 }

@@ -7,8 +7,8 @@ ghost use Rattle.answers.specs.Writing.{made_write};
 ghost use Rattle.packing.specs.Packing.{value_of, digits, octets_for, takes, return_if, packed, readable, kept, unpacked};
 ghost use Rattle.packing.specs.Outcomes.{packing, unpacking};
 
-use answers::Written;
-use bases::{eight, few, seven, store_eight, store_few, store_seven};
+use answers::Refusal;
+use bases::{few, load, store, store_few};
 
 const CARRIAGE_RETURN: u8 = 13;
 
@@ -17,11 +17,8 @@ fn takes_all(chars: &[u8]) -> bool
     ensures { result ≡ takes chars.now }
 {
     let mut ok = true;
-    let mut i = 0;
-    while i < chars.len() {
-        let c = chars[i];
+    for &c in chars {
         ok = ok & (c < 128) & (c != CARRIAGE_RETURN);
-        i += 1;
     }
     ok
 }
@@ -66,21 +63,18 @@ fn write_octets(chars: &[u8], out: &mut [u8])
     requires chars_in_bounds { octets_for (length chars.now) ≤ length out.old }
     ensures { out.new ≡ packed chars.now ++ drop (octets_for (length chars.now)) out.old }
 {
-    let n = chars.len();
-    let mut i = 0;
-    let mut j = 0;
-    while 8 <= n - i {
-        let held = squeezed(eight(&chars[i..]));
-        store_seven(&mut out[j..], held);
-        i += 8;
-        j += 7;
+    let groups = chars.len() / 8;
+    for k in 0..groups {
+        let held = squeezed(load::<8>(&chars[8 * k..]));
+        store::<7>(&mut out[7 * k..], held);
     }
-    let left = n - i;
-    let held = few(&chars[i..], 128, filler(left));
-    store_few(&mut out[j..], left, held, 256);
+    let rest = &chars[8 * groups..];
+    let held = few(rest, 128, filler(rest.len()));
+    store_few(&mut out[7 * groups..], rest.len(), held, 256);
 }
 
 // The last octet, or 0 where there is none.
+// Kept: an `Option` is no plainer, since both callers ask for bits of it, and those of none are 0.
 fn last_octet(octets: &[u8]) -> u8
     ensures { result ≡ get_or octets.now (length octets.now - 1) 0 }
 {
@@ -118,47 +112,44 @@ fn write_chars(octets: &[u8], out: &mut [u8], n: usize)
     requires n_in_bounds { n ≤ length out.old }
     ensures { out.new ≡ unpacked octets.now ++ drop n out.old }
 {
-    let mut i = 0;
-    let mut j = 0;
-    while 8 <= n - j {
-        let wide = spread(seven(&octets[i..]));
-        store_eight(&mut out[j..], wide);
-        i += 7;
-        j += 8;
+    let groups = n / 8;
+    for k in 0..groups {
+        let wide = spread(load::<7>(&octets[7 * k..]));
+        store::<8>(&mut out[8 * k..], wide);
     }
-    let held = few(&octets[i..], 256, 0);
-    store_few(&mut out[j..], n - j, held, 128);
+    let held = few(&octets[7 * groups..], 256, 0);
+    store_few(&mut out[8 * groups..], n - 8 * groups, held, 128);
 }
 
 // Packs the characters into out. All of them are tested first, since a refusal leaves out as it was.
-pub fn pack(chars: &[u8], out: &mut [u8]) -> Written
+pub fn pack(chars: &[u8], out: &mut [u8]) -> Result<usize, Refusal>
     ensures { made_write result out.new ≡ packing chars.now out.old }
 {
     let n = chars.len();
     let count = n - n / 8;
     if out.len() < count {
-        return Written::TooShort; // refusal 1, before 9
+        return Err(Refusal::NoRoom); // refusal 1, before 9
     }
     if !takes_all(chars) {
-        return Written::Unfit; // refusal 9, a character
+        return Err(Refusal::Unfit); // refusal 9, a character
     }
     write_octets(chars, out);
-    Written::Count(count)
+    Ok(count)
 }
 
 // Unpacks the octets into out.
-pub fn unpack(octets: &[u8], out: &mut [u8]) -> Written
+pub fn unpack(octets: &[u8], out: &mut [u8]) -> Result<usize, Refusal>
     ensures { made_write result out.new ≡ unpacking octets.now out.old }
 {
     let m = octets.len();
     let room = m + m / 7;
     if out.len() < room {
-        return Written::TooShort; // refusal 1, before any drop
+        return Err(Refusal::NoRoom); // refusal 1, before any drop
     }
     if !is_readable(octets) {
-        return Written::Unfit; // refusal 9, the unused bits
+        return Err(Refusal::Unfit); // refusal 9, the unused bits
     }
     let n = kept_count(octets);
     write_chars(octets, out, n);
-    Written::Count(n)
+    Ok(n)
 }

@@ -26,8 +26,8 @@ use Rattle.frames.specs.Messages as messages
 use Rattle.records.specs.declared.Record.{Record}
 use Rattle.records.specs.Steps as steps
 use Rattle.records.specs.Steps.{same, is_absent, held_by, forced_off}
-use Rattle.tables.specs.declared.Found.{Found}
-use Rattle.tables.specs.declared.Found.TheVariants.{At, Nothing}
+use Rattle.tables.specs.Keys.{Found}
+use Rattle.std.specs.Prelude.{Some, None}
 use Rattle.tables.specs.Tables.{table_sound, flags_of}
 use Rattle.tables.proofs.Stored.{record_found_lem, record_missing}
 use Rattle.states.specs.States.{State, figures_right, state_sound, row_for, record_for, record_in, stored_in}
@@ -81,8 +81,8 @@ module _ (list : List ℕ) (delay : ℕ) (c : Call) (t : State) (k : ℕ) (r : R
   visit_leaves stays = go (row_for t k) refl
     where
       go : (place : Found) → row_for t k ≡ place → single list delay c t ≡ (v.reply, t)
-      go Nothing e = not_some (sym (record_missing t.table k e) ∙ known)
-      go (At i) e =
+      go None e = not_some (sym (record_missing t.table k e) ∙ known)
+      go (Some i) e =
           let it : record_in t i ≡ r = cc (record_found_lem t.table k i e) in
           let same_state = ap (stored_in t i) (stays ∙ sym it) ∙ found_back t k i sound e in
           single_visits list delay t sound c k i named e

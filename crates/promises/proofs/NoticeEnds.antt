@@ -17,8 +17,8 @@ use Rattle.records.specs.declared.Record.{Record}
 use Rattle.records.specs.Steps.{held_by, most_sendings, is_absent, is_waiting, is_in_flight, sendings_done, launched}
 use Rattle.rows.proofs.Rows.{record_sound_lem}
 use Rattle.rows.proofs.Kept.{few_sendings}
-use Rattle.tables.specs.declared.Found.{Found}
-use Rattle.tables.specs.declared.Found.TheVariants.{At, Nothing}
+use Rattle.tables.specs.Keys.{Found}
+use Rattle.std.specs.Prelude.{Some, None}
 use Rattle.tables.proofs.Stored.{record_found_lem, record_missing}
 use Rattle.states.specs.States.{State, state_sound, row_for, record_for, record_in}
 use Rattle.rules.specs.Answers.{refusal, buffer_room, is_sent}
@@ -255,8 +255,8 @@ pub state_most : (state : State) (k : ℕ) → state_sound state ≡ true → se
 state_most state k sound = go (row_for state k) refl
   where
     go : (place : Found) → row_for state k ≡ place → sendings_done (notice_for state k) ≤ most_sendings
-    go Nothing e = rw (record_missing state.table k e) (omega arith)
-    go (At i) e = rw (record_found_lem state.table k i e) (few_sendings (record_in state i) (record_sound_lem state.table i (found_sound state k i sound e)))
+    go None e = rw (record_missing state.table k e) (omega arith)
+    go (Some i) e = rw (record_found_lem state.table k i e) (few_sendings (record_in state i) (record_sound_lem state.table i (found_sound state k i sound e)))
 
 -- ---- the notice ends
 

@@ -16,8 +16,8 @@ use Rattle.strings.specs.Text.{Request}
 use Rattle.records.specs.declared.Record.{Record}
 use Rattle.records.specs.Steps as steps
 use Rattle.records.specs.Steps.{same, forced_off, is_absent}
-use Rattle.tables.specs.declared.Found.{Found}
-use Rattle.tables.specs.declared.Found.TheVariants.{At, Nothing}
+use Rattle.tables.specs.Keys.{Found}
+use Rattle.std.specs.Prelude.{Some, None}
 use Rattle.tables.specs.Tables.{table_sound}
 use Rattle.states.specs.States.{State, state_sound, figures_right, row_for, record_for}
 use Rattle.rules.specs.Answers.{Answer, Outcome, buffer_room, is_outcome, refusing}
@@ -46,8 +46,8 @@ module _ (state : State) (reply : List ℕ) (number : FunctionalNumber) (holder 
       erasure = terminal_request number holder
 
       done : (place : Found) → Neither (replying reply (carried_out_at erasure place nobody state)).answer
-      done Nothing = (refl, refl)
-      done (At i) = (refl, refl)
+      done None = (refl, refl)
+      done (Some i) = (refl, refl)
 
 -- over a sound state, with room for the reply, and with a number and a holder that are numbers
 module _ (list : List ℕ) (delay : ℕ) (number : FunctionalNumber) (holder : Msisdn) (reply : List ℕ) (state : State) (sound : state_sound state ≡ true)

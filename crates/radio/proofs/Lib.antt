@@ -1,3 +1,4 @@
--- `Verdicts`: what a reply says, by its text. `Asked`: the next question, as the code asks it.
+-- `Verdicts`: what a reply says, by its text. `Named`: the number that a notice names. `Asked`: the next question, as the code asks it.
 pub mod Verdicts
+pub mod Named
 pub mod Asked

@@ -1,5 +1,6 @@
 -- Document 02, M-106, in the words of docs/RULES.md, "The cab radio", where the request has none: the radio's three calls. What each answers, what it leaves in the lent state and what in the question buffer, for every input. Assumes nothing.
-use Rattle.std.specs.Prelude.{ℕ, ◌+◌, ◌%◌, ◌^◌, Bool, cond, not, ◌&&◌, List, [], ◌∷◌, ◌++◌, length, ◌==◌, nat_lt}
+use Rattle.std.specs.Prelude as core
+use Rattle.std.specs.Prelude.{ℕ, ◌+◌, ◌%◌, ◌^◌, Bool, cond, not, ◌&&◌, List, [], ◌∷◌, ◌++◌, length, ◌==◌, nat_lt, Some, None}
 use Rattle.std.proofs.Math.Option.{Option, none, some}
 use Rattle.answers.specs.Ascii.{ascii}
 use Rattle.answers.specs.Begins.{begins, behind}
@@ -7,8 +8,6 @@ use Rattle.answers.specs.Checks.{decide, ◌>>=◌, only_if}
 use Rattle.answers.specs.Writing.{over}
 use Rattle.packing.specs.Packing.{packed, readable, unpacked}
 use Rattle.numbers.specs.Numbers.{is_number, leading_number}
-use Rattle.numbers.specs.declared.NumberRead.{NumberRead}
-use Rattle.numbers.specs.declared.NumberRead.TheVariants.{Number, Unreadable}
 use Rattle.strings.specs.declared.Operation.TheVariants.{Interrogate}
 use Rattle.strings.specs.declared.Erasing.TheVariants.{Empty}
 use Rattle.strings.specs.Text.{Request, request_from, text_of}
@@ -99,9 +98,9 @@ noticing radio string question =
 -- ---- a reply
 
 -- a number, and nothing behind it
-abbrev pub whole_number : List ℕ → NumberRead → Option ℕ
-whole_number digits Unreadable = none
-whole_number digits (Number msisdn n) = only_if (length digits == n) msisdn
+abbrev pub whole_number : List ℕ → core.Option (ℕ × ℕ) → Option ℕ
+whole_number digits None = none
+whole_number digits (Some read) = only_if (length digits == read.1) read.0
 
 -- `03`, a space and an MSISDN's digits: the holder in a reply
 abbrev pub holder_read : List ℕ → Option ℕ

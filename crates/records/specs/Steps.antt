@@ -7,14 +7,14 @@ use Rattle.numbers.specs.declared.Msisdn.{Msisdn}
 use Rattle.records.specs.declared.Notice.{Notice}
 use Rattle.records.specs.declared.Notice.TheVariants.{Absent, Waiting, InFlight}
 use Rattle.records.specs.declared.Record.{Record}
-use Rattle.records.specs.declared.Step.{Step}
-use Rattle.records.specs.declared.Step.TheVariants as step
-use Rattle.records.specs.declared.Holder.{Holder}
-use Rattle.records.specs.declared.Holder.TheVariants as holder
-use Rattle.records.specs.declared.Sending.{Sending}
-use Rattle.records.specs.declared.Sending.TheVariants as sending
-use Rattle.records.specs.declared.Resulted.{Resulted}
-use Rattle.records.specs.declared.Resulted.TheVariants.{Refused, Delivered, Dropped, Again}
+use Rattle.records.specs.Step.{Step}
+use Rattle.records.specs.Step as step
+use Rattle.records.specs.Holder.{Holder}
+use Rattle.records.specs.Holder as holder
+use Rattle.records.specs.Sending.{Sending}
+use Rattle.records.specs.Sending as sending
+use Rattle.records.specs.Resulted.{Resulted}
+use Rattle.records.specs.Resulted.{Refused, Delivered, Dropped, Again}
 
 -- ---- who holds the number
 

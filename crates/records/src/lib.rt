@@ -2,12 +2,17 @@
 #![tactic(auto)]
 
 ghost use Rattle.std.specs.Prelude.{◌≡◌, ◌≤◌};
+ghost use Rattle.records.specs.Holder.{said_holder};
+ghost use Rattle.records.specs.Resulted.{said_resulted};
+ghost use Rattle.records.specs.Sending.{said_sending};
+ghost use Rattle.records.specs.Step.{said_step};
 ghost use Rattle.records.specs.Steps.{most_sendings, sendings_done, registered, erased, forced, interrogated, sent, resulted, held_by, forced_off, cleared, with_notice, closing, elapsed as elapsedOf, delay_of, delay_allowed, is_due};
 
+use answers::{Outcome, Refusal};
 use numbers::{FunctionalNumber, Msisdn};
 
 // "a notice is absent, waiting or in flight": with the sendings done, and the second of the last failure.
-#[derive(Clone, Copy)]
+#[derive(Clone, Copy, Debug, PartialEq, Eq)]
 pub enum Notice {
     Absent,
     Waiting(u8, u32),
@@ -15,7 +20,7 @@ pub enum Notice {
 }
 
 // The record of one functional number; holder, addressee and supervisor 0 are nobody. M-110: a closed number is not registered any more.
-#[derive(Clone, Copy)]
+#[derive(Clone, Copy, Debug, PartialEq, Eq)]
 pub struct Record {
     pub holder: Msisdn,
     pub notice: Notice,
@@ -24,34 +29,12 @@ pub struct Record {
     pub closed: bool,
 }
 
-// What a request makes of a record: it stays, by the paper's number of the outcome, or becomes the next record.
-#[derive(Clone, Copy)]
-pub enum Step {
-    Stays(u8),
-    Becomes(Record),
-}
-
-// What an interrogation finds: an outcome by its number, or the holder.
-#[derive(Clone, Copy)]
-pub enum Holder {
-    Stays(u8),
-    Held(Msisdn),
-}
-
-// What a sending makes of a record: a refusal by its number, or the record with its notice in flight.
-#[derive(Clone, Copy)]
-pub enum Sending {
-    Refused(u8),
-    Launched(Record),
-}
-
-// What a result makes of a record: a refusal by its number, or what it returns, with the next record.
-#[derive(Clone, Copy)]
-pub enum Resulted {
-    Refused(u8),
-    Delivered(Record),
-    Dropped(Record),
-    Again(Record),
+// What became of a notice: it was delivered, it was dropped, or it waits again.
+#[derive(Clone, Copy, Debug, PartialEq, Eq)]
+pub enum Fate {
+    Delivered,
+    Dropped,
+    Again,
 }
 
 // "The delay is 60 to 600 seconds".
@@ -108,31 +91,19 @@ impl Record {
     fn held_by(self, holder: Msisdn) -> Record
         ensures { result ≡ held_by holder self }
     {
-        let notice = self.notice;
-        let addressee = self.addressee;
-        let supervisor = self.supervisor;
-        Record {
-            holder,
-            notice,
-            addressee,
-            supervisor,
-            closed: self.closed,
-        }
+        Record { holder, ..self }
     }
 
     // The holder forced off, with a notice to her.
     fn forced_off(self, supervisor: Msisdn) -> Record
         ensures { result ≡ forced_off supervisor self }
     {
-        let holder = Msisdn(0);
-        let notice = Notice::Waiting(0, 0);
-        let addressee = self.holder;
         Record {
-            holder,
-            notice,
-            addressee,
+            holder: Msisdn(0),
+            notice: Notice::Waiting(0, 0),
+            addressee: self.holder,
             supervisor,
-            closed: self.closed,
+            ..self
         }
     }
 
@@ -140,14 +111,11 @@ impl Record {
     fn cleared(self) -> Record
         ensures { result ≡ cleared self }
     {
-        let holder = self.holder;
-        let nobody = Msisdn(0);
         Record {
-            holder,
             notice: Notice::Absent,
-            addressee: nobody,
-            supervisor: nobody,
-            closed: self.closed,
+            addressee: Msisdn(0),
+            supervisor: Msisdn(0),
+            ..self
         }
     }
 
@@ -155,140 +123,129 @@ impl Record {
     fn with_notice(self, notice: Notice) -> Record
         ensures { result ≡ with_notice notice self }
     {
-        let holder = self.holder;
-        let addressee = self.addressee;
-        let supervisor = self.supervisor;
-        Record {
-            holder,
-            notice,
-            addressee,
-            supervisor,
-            closed: self.closed,
-        }
+        Record { notice, ..self }
     }
 
-    pub fn register(self, number: FunctionalNumber, requester: Msisdn) -> Step
-        ensures { result ≡ registered number requester self }
+    // What a registration makes of a record: the outcome, where it stays as it is, or the next record.
+    pub fn register(self, number: FunctionalNumber, requester: Msisdn) -> Result<Record, Outcome>
+        ensures { said_step result ≡ registered number requester self }
     {
         let holder_word = self.holder.0;
         let number_word = number.0;
         let requester_word = requester.0;
         if number_word == requester_word {
-            return Step::Stays(67);
+            return Err(Outcome::OwnNumber);
         }
         if self.closed {
-            return Step::Stays(64);
+            return Err(Outcome::ClosedNumber);
         }
         if (holder_word != 0) & (holder_word != requester_word) {
-            return Step::Stays(61);
+            return Err(Outcome::HeldByAnother);
         }
-        Step::Becomes(self.held_by(requester))
+        Ok(self.held_by(requester))
     }
 
     // A plain erasure, by the holder or by the number's own subscriber.
-    pub fn erase(self, number: FunctionalNumber, requester: Msisdn) -> Step
-        ensures { result ≡ erased number requester self }
+    pub fn erase(self, number: FunctionalNumber, requester: Msisdn) -> Result<Record, Outcome>
+        ensures { said_step result ≡ erased number requester self }
     {
         let holder_word = self.holder.0;
         let number_word = number.0;
         let requester_word = requester.0;
         if holder_word == 0 {
-            return Step::Stays(62);
+            return Err(Outcome::NoHolder);
         }
         if !((holder_word == requester_word) | (number_word == requester_word)) {
-            return Step::Stays(63);
+            return Err(Outcome::NotTheHolder);
         }
-        Step::Becomes(self.held_by(Msisdn(0)))
+        Ok(self.held_by(Msisdn(0)))
     }
 
     // A supervisor (M-111: at the terminal, nobody) forces off the holder whom she names; there is no notice to herself.
-    pub fn force(self, supervisor: Msisdn, named: Msisdn) -> Step
-        ensures { result ≡ forced supervisor named self }
+    pub fn force(self, supervisor: Msisdn, named: Msisdn) -> Result<Record, Outcome>
+        ensures { said_step result ≡ forced supervisor named self }
     {
         let holder_word = self.holder.0;
         let supervisor_word = supervisor.0;
         let named_word = named.0;
         if holder_word == 0 {
-            return Step::Stays(62);
+            return Err(Outcome::NoHolder);
         }
         if holder_word != named_word {
-            return Step::Stays(63);
+            return Err(Outcome::NotTheHolder);
         }
         if holder_word == supervisor_word {
-            return Step::Becomes(self.held_by(Msisdn(0)));
+            return Ok(self.held_by(Msisdn(0)));
         }
         let notice = self.notice;
         let Notice::Absent = notice else {
-            return Step::Stays(68);
+            return Err(Outcome::NoticePending);
         };
-        Step::Becomes(self.forced_off(supervisor))
+        Ok(self.forced_off(supervisor))
     }
 
-    pub fn interrogate(self) -> Holder
-        ensures { result ≡ interrogated self }
+    pub fn interrogate(self) -> Result<Msisdn, Outcome>
+        ensures { said_holder result ≡ interrogated self }
     {
         let holder_word = self.holder.0;
         if holder_word == 0 {
-            return Holder::Stays(62);
+            return Err(Outcome::NoHolder);
         }
-        let holder = self.holder;
-        Holder::Held(holder)
+        Ok(self.holder)
     }
 
-    pub fn send(self, delay: u32, clock: u32) -> Sending
+    // The record with its notice in flight.
+    pub fn send(self, delay: u32, clock: u32) -> Result<Record, Refusal>
         requires { sendings_done self.notice ≤ most_sendings }
-        ensures { result ≡ sent delay clock self }
+        ensures { said_sending result ≡ sent delay clock self }
     {
         if !delay_allowed(delay) {
-            return Sending::Refused(6);
+            return Err(Refusal::WrongDelay);
         }
         let notice = self.notice;
         let Notice::Waiting(sendings, _) = notice else {
-            return Sending::Refused(4);
+            return Err(Refusal::NotInPhase);
         };
         if !is_due(delay, clock, notice) {
-            return Sending::Refused(5);
+            return Err(Refusal::NotDue);
         }
-        Sending::Launched(self.with_notice(Notice::InFlight(sendings + 1)))
+        Ok(self.with_notice(Notice::InFlight(sendings + 1)))
     }
 
-    pub fn result(self, kind: u32, clock: u32) -> Resulted
-        ensures { result ≡ resulted kind clock self }
+    // What a result returns, with the next record.
+    pub fn result(self, kind: u32, clock: u32) -> Result<(Fate, Record), Refusal>
+        ensures { said_resulted result ≡ resulted kind clock self }
     {
         if LAST_KIND < kind {
-            return Resulted::Refused(3);
+            return Err(Refusal::UnknownKind);
         }
         let notice = self.notice;
         let Notice::InFlight(sendings) = notice else {
-            return Resulted::Refused(4);
+            return Err(Refusal::NotInPhase);
         };
         let ended = self.cleared();
         if kind == 0 {
-            return Resulted::Delivered(ended);
+            return Ok((Fate::Delivered, ended));
         }
         if kind < LAST_KIND {
-            return Resulted::Dropped(ended);
+            return Ok((Fate::Dropped, ended));
         }
         if MOST_SENDINGS <= sendings {
-            return Resulted::Dropped(ended);
+            return Ok((Fate::Dropped, ended));
         }
-        Resulted::Again(self.with_notice(Notice::Waiting(sendings, clock)))
+        Ok((
+            Fate::Again,
+            self.with_notice(Notice::Waiting(sendings, clock)),
+        ))
     }
 
     // The number is closed; holder and notice stay.
     pub fn close(self) -> Record
         ensures { result ≡ closing self }
     {
-        let holder = self.holder;
-        let notice = self.notice;
-        let addressee = self.addressee;
-        let supervisor = self.supervisor;
         Record {
-            holder,
-            notice,
-            addressee,
-            supervisor,
             closed: true,
+            ..self
         }
     }
 }

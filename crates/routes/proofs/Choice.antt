@@ -1,51 +1,57 @@
 -- `routing` leaves no choice: two answers that its contract allows are equal. Assumes nothing.
 use mathlib.Core.Path.{◌≡◌, refl, sym, ap, ◌∙◌}
-use mathlib.Core.List.{List, [], ◌∷◌}
-use Prim.Native.Nat.{ℕ}
-use Rattle.numbers.specs.declared.Msisdn.{Msisdn}
-use Rattle.rules.specs.Answers.{Answer, refusal, error, outcome, holder_is, return_error, reject, sent_to, delivered, dropped, again, found, none_due, ask_network, routed_to}
+use Rattle.std.specs.Prelude.{Option, Some, None, Result, Ok, Err}
+use Rattle.answers.specs.declared.Refusal.{Refusal}
+use Rattle.answers.specs.declared.RequestError.{RequestError}
+use Rattle.answers.specs.declared.Outcome as answers
+use Rattle.answers.specs.declared.Failure.{Failure}
+use Rattle.answers.specs.declared.Failure.TheVariants.{Refused, Error}
+use Rattle.answers.proofs.Numbers as numbers
+use Rattle.rules.specs.Answers.{Answer}
 use Rattle.routes.specs.declared.Subaddress.{Subaddress}
-use Rattle.routes.specs.declared.Subaddress.TheVariants.{Absent, Octets}
 use Rattle.routes.specs.declared.RoutingAnswer.{RoutingAnswer}
-use Rattle.routes.specs.declared.RoutingAnswer.TheVariants.{Refused, Error, Outcome, AskNetwork, Routed}
-use Rattle.routes.specs.Said.{said_routing}
+use Rattle.routes.specs.declared.RoutingAnswer.TheVariants.{Outcome, AskNetwork, Routed}
+use Rattle.routes.specs.Said.{octets_in, said_routing}
 
-subaddress_from : List ℕ → Subaddress
-subaddress_from [] = Absent
-subaddress_from (a ∷ []) = Absent
-subaddress_from (a ∷ b ∷ []) = Absent
-subaddress_from (a ∷ b ∷ c ∷ more) = Octets a b c
+pub octets_one : (s t : Option Subaddress) → octets_in s ≡ octets_in t → s ≡ t
+octets_one None None e = refl
+octets_one None (Some t) e = cc
+octets_one (Some s) None e = cc
+octets_one (Some s) (Some t) e =
+    let kind : s.kind ≡ t.kind = cc in
+    let format : s.format ≡ t.format = cc in
+    let branch : s.branch ≡ t.branch = cc in
+    λ i. Some (record { kind = kind i; format = format i; branch = branch i })
 
-network_from : List ℕ → RoutingAnswer
-network_from [] = Refused 0
-network_from (a ∷ []) = Refused 0
-network_from (a ∷ b ∷ []) = Refused 0
-network_from (a ∷ b ∷ c ∷ more) = AskNetwork a b c
+same : (v w : Result RoutingAnswer Failure) → said_routing v ≡ said_routing w → v ≡ w
+same (Err (Refused a)) (Err (Refused b)) e = ap (λ (r : Refusal). Err (Refused r)) (numbers.refusal_one a b cc)
+same (Err (Refused a)) (Err (Error b)) e = cc
+same (Err (Refused a)) (Ok (Outcome b)) e = cc
+same (Err (Refused a)) (Ok (AskNetwork code)) e = cc
+same (Err (Refused a)) (Ok (Routed m s)) e = cc
+same (Err (Error a)) (Err (Refused b)) e = cc
+same (Err (Error a)) (Err (Error b)) e = ap (λ (r : RequestError). Err (Error r)) (numbers.error_one a b cc)
+same (Err (Error a)) (Ok (Outcome b)) e = cc
+same (Err (Error a)) (Ok (AskNetwork code)) e = cc
+same (Err (Error a)) (Ok (Routed m s)) e = cc
+same (Ok (Outcome a)) (Err (Refused b)) e = cc
+same (Ok (Outcome a)) (Err (Error b)) e = cc
+same (Ok (Outcome a)) (Ok (Outcome b)) e = ap (λ (o : answers.Outcome). Ok (Outcome o)) (numbers.outcome_one a b cc)
+same (Ok (Outcome a)) (Ok (AskNetwork code)) e = cc
+same (Ok (Outcome a)) (Ok (Routed m s)) e = cc
+same (Ok (AskNetwork c)) (Err (Refused b)) e = cc
+same (Ok (AskNetwork c)) (Err (Error b)) e = cc
+same (Ok (AskNetwork c)) (Ok (Outcome b)) e = cc
+same (Ok (AskNetwork c)) (Ok (AskNetwork code)) e = cc
+same (Ok (AskNetwork c)) (Ok (Routed m s)) e = cc
+same (Ok (Routed l r)) (Err (Refused b)) e = cc
+same (Ok (Routed l r)) (Err (Error b)) e = cc
+same (Ok (Routed l r)) (Ok (Outcome b)) e = cc
+same (Ok (Routed l r)) (Ok (AskNetwork code)) e = cc
+same (Ok (Routed l r)) (Ok (Routed m s)) e =
+    let one : l.0 ≡ m.0 = cc in
+    let same_octets = octets_one r s cc in
+    λ i. Ok (Routed (record { 0 = one i }) (same_octets i))
 
-unsaid : Answer → RoutingAnswer
-unsaid (refusal n) = Refused n
-unsaid (error n) = Error n
-unsaid (outcome n octets) = Outcome n
-unsaid (holder_is msisdn octets) = Refused 0
-unsaid (return_error n octets) = Refused 0
-unsaid (reject n octets) = Refused 0
-unsaid (sent_to addressee octets) = Refused 0
-unsaid delivered = Refused 0
-unsaid dropped = Refused 0
-unsaid again = Refused 0
-unsaid (found number) = Refused 0
-unsaid none_due = Refused 0
-unsaid (ask_network code) = network_from code
-unsaid (routed_to msisdn subaddress) = Routed (record { 0 = msisdn }) (subaddress_from subaddress)
-
-back : (x : RoutingAnswer) → unsaid (said_routing x) ≡ x
-unfolding unsaid network_from subaddress_from
-back (Refused n) = refl
-back (Error n) = refl
-back (Outcome n) = refl
-back (AskNetwork a b c) = refl
-back (Routed msisdn Absent) = refl
-back (Routed msisdn (Octets a b c)) = refl
-
-pub routing_one : (v w : RoutingAnswer) (a : Answer) → said_routing v ≡ a → said_routing w ≡ a → v ≡ w
-routing_one v w a p q = sym (back v) ∙ ap unsaid (p ∙ sym q) ∙ back w
+pub routing_one : (v w : Result RoutingAnswer Failure) (a : Answer) → said_routing v ≡ a → said_routing w ≡ a → v ≡ w
+routing_one v w a p q = same v w (p ∙ sym q)

@@ -1,18 +1,17 @@
 -- The digits asked for: their front, how many they are with the node's code, and the number that they read as. Assumes nothing.
 use mathlib.Core.Path.{◌≡◌, refl, sym, ap, ◌∙◌}
-use mathlib.Core.Logic.{⊎_elim}
-use mathlib.Core.Bool.{Bool, true, false, cond, ◌&&◌}
+use mathlib.Core.Bool.{Bool, true, false, cond}
 use mathlib.Core.List.{List, [], ◌∷◌}
-use Prim.Native.Nat.{ℕ, ◌+◌, ◌≤◌, ◌<◌}
+use Prim.Native.Nat.{ℕ, ◌+◌, ◌≤◌}
 use native.Mathlib.Omega.{arith}
 use lib.ListN.{length, take, get_or, length-append}
 use lib.Seq.{take-length}
-use lib.Dec.{eqb, leb, ltb}
-use borrow.Author.Tests.{eqb-true, leb-true, lt-ltb, le-ltb}
-use Rattle.answers.proofs.Leading.{each_at, each_append, each_leading}
-use Rattle.answers.proofs.Tests.{no_path, and_left, and_right, and_both, less_or_not}
+use lib.Dec.{eqb}
+use borrow.Author.Tests.{eqb-true}
+use Rattle.answers.proofs.Leading.{each_append, each_leading}
+use Rattle.answers.proofs.Tests.{no_path, and_left, and_right, and_both}
 use Rattle.numbers.specs.Numbers.{fewest_digits, most_digits, is_digit, are_digits, stored_form, leading_digits, leading_number}
-use Rattle.numbers.specs.declared.NumberRead.TheVariants.{Number}
+use Rattle.std.specs.Prelude.{Some}
 use Rattle.numbers.proofs.Reading.{reads}
 use Rattle.rules.specs.Routing.{code_length, with_code_in, is_international_code}
 
@@ -25,16 +24,10 @@ three_front (a ∷ b ∷ c ∷ digits) h = refl
 
 -- 5 to 15 digits read as the number that they are
 pub digits_read : (digits : List ℕ) → are_digits digits ≡ true → fewest_digits ≤ length digits → length digits ≤ most_digits
-    → leading_number digits ≡ Number (stored_form digits) (length digits)
+    → leading_number digits ≡ Some (stored_form digits, length digits)
 digits_read digits h least most =
     let all = eqb-true (leading_digits digits) (length digits) (sym (each_leading is_digit digits) ∙ h) in
     reads digits (stored_form digits) (length digits) (sym all) least most (ap stored_form (sym (take-length digits)))
-
--- the same number on both sides
-pub shifted : (k m n : ℕ) → ltb (k + m) (k + n) ≡ ltb m n
-shifted k m n =
-    ⊎_elim (λ l. lt-ltb (k + m) (k + n) (omega arith) ∙ sym (lt-ltb m n l)) (λ g. le-ltb (k + m) (k + n) (omega arith) ∙ sym (le-ltb m n (omega arith)))
-    (less_or_not m n)
 
 -- the digits with the node's code in front, where they have none
 module _ (home asked : List ℕ) (known : is_international_code home ≡ true) where
@@ -48,8 +41,3 @@ module _ (home asked : List ℕ) (known : is_international_code home ≡ true) w
   pub full_digits : (coded : Bool) → are_digits asked ≡ true → are_digits (with_code_in home coded asked) ≡ true
   full_digits true h = h
   full_digits false h = each_append is_digit home asked ∙ and_both (are_digits home) (are_digits asked) (and_right (eqb (length home) code_length) (are_digits home) known) h
-
--- there is room for the code and the digits behind it
-pub both_fit : (home asked : List ℕ) (n : ℕ) (coded : Bool) → coded ≡ false → length (with_code_in home coded asked) ≤ n → length home + length asked ≤ n
-both_fit home asked n true e h = no_path (sym e)
-both_fit home asked n false e h = omega (arith, h, length-append home asked)

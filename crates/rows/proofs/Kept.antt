@@ -15,12 +15,12 @@ use Rattle.numbers.specs.declared.Msisdn.{Msisdn}
 use Rattle.records.specs.declared.Notice.{Notice}
 use Rattle.records.specs.declared.Notice.TheVariants.{Absent, Waiting, InFlight}
 use Rattle.records.specs.declared.Record.{Record}
-use Rattle.records.specs.declared.Step.{Step}
-use Rattle.records.specs.declared.Step.TheVariants.{Stays, Becomes}
-use Rattle.records.specs.declared.Sending.{Sending}
-use Rattle.records.specs.declared.Sending.TheVariants as sending
-use Rattle.records.specs.declared.Resulted.{Resulted}
-use Rattle.records.specs.declared.Resulted.TheVariants.{Refused, Delivered, Dropped, Again}
+use Rattle.records.specs.Step.{Step}
+use Rattle.records.specs.Step.{Stays, Becomes}
+use Rattle.records.specs.Sending.{Sending}
+use Rattle.records.specs.Sending as sending
+use Rattle.records.specs.Resulted.{Resulted}
+use Rattle.records.specs.Resulted.{Refused, Delivered, Dropped, Again}
 use Rattle.records.specs.Steps.{same, is_own, may_erase, held_by, most_sendings, is_absent, is_waiting, is_in_flight, sendings_done, with_notice, cleared, forced_off, registered, erased, forced, delay_allowed, is_due, launched, sent, last_kind, resulted}
 use Rattle.rows.specs.Rows.{last_phase, failed_once, notice_up_to, phase_of, second_of, sent_once, record_sound}
 use Rattle.rows.proofs.Notices.{Pending, pending, pending_sound}

@@ -8,6 +8,7 @@ use native.Mathlib.Omega.{arith}
 use lib.ListN.{length, get_or, set}
 use lib.Dec.{eqb}
 use borrow.Author.Tests.{eqb-true}
+use mir.Val.{bool_byte}
 use lib.Seq.{length-sets}
 use Rattle.answers.proofs.Tests.{and_left, and_right, and_three, or_cases, less_or_not}
 use Rattle.numbers.specs.Numbers.{is_number, number_or_nobody}
@@ -116,6 +117,11 @@ same_words_lem t i u j st su e (suc k) l m = at t i ∙ sym (words_back t i st k
     at t i = ap (λ (n : ℕ). get_or t n 0) (omega arith)
 
 -- ---- a stored record
+
+-- a flag as the code makes it a word
+pub flag_word : (b : Bool) → bool_byte b ≡ one b
+flag_word true = refl
+flag_word false = refl
 
 -- word by word, as straight-line code stores it
 pub six_stores : (t : List ℕ) (i : ℕ) (r : Record) (phase second closed : ℕ) → phase ≡ phase_of r.notice → second ≡ second_of r.notice → closed ≡ one r.closed

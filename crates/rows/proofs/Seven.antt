@@ -1,20 +1,20 @@
--- Seven words read and stored one by one are a row. Assumes nothing.
-use mathlib.Core.Path.{◌≡◌, refl, ap, ◌∙◌}
+-- Seven words read one by one are a row. Assumes nothing.
+use mathlib.Core.Path.{◌≡◌, refl, ap}
 use mathlib.Core.List.{List, [], ◌∷◌}
 use Prim.Native.Nat.{ℕ, zero, suc, ◌+◌, ◌*◌, ◌≤◌}
 use native.Mathlib.Omega.{arith}
-use lib.ListN.{length, get_or, take, drop, set}
-use lib.Seq.{drop-cons, take_all, sets}
+use lib.ListN.{length, get_or, take, drop}
+use lib.Seq.{drop-cons}
 use Rattle.rows.specs.Rows.{row_words, row, listed}
 
 abbrev list_from : ℕ → List ℕ → ℕ → List ℕ
 list_from zero t at = []
 list_from (suc n) t at = get_or t at 0 ∷ list_from n t (suc at)
 
-list_from_lem : (n : ℕ) (t : List ℕ) (at : ℕ) → at + n ≤ length t → list_from n t at ≡ take n (drop at t)
-list_from_lem zero t at h = refl
-list_from_lem (suc n) t at h =
-    rw (drop-cons t at 0 (omega arith)) (ap (λ (l : List ℕ). get_or t at 0 ∷ l) (list_from_lem n t (suc at) (omega arith)))
+list_from_is : (n : ℕ) (t : List ℕ) (at : ℕ) → at + n ≤ length t → list_from n t at ≡ take n (drop at t)
+list_from_is zero t at h = refl
+list_from_is (suc n) t at h =
+    rw (drop-cons t at 0 (omega arith)) (ap (λ (l : List ℕ). get_or t at 0 ∷ l) (list_from_is n t (suc at) (omega arith)))
 
 -- the code counts `at + 3`, the lists `suc (suc (suc at))`
 record Steps (at : ℕ) : Type 0 where
@@ -28,14 +28,5 @@ record Steps (at : ℕ) : Type 0 where
 steps : (at : ℕ) → Steps at
 steps at = record { one = omega arith; two = omega arith; three = omega arith; four = omega arith; five = omega arith; six = omega arith }
 
-module _ (t : List ℕ) (at : ℕ) where
-  pub seven_stores : (r : List ℕ) → length r ≡ row_words
-      → set (set (set (set (set (set (set t at (get_or r 0 0)) (at + 1) (get_or r 1 0)) (at + 2) (get_or r 2 0)) (at + 3) (get_or r 3 0)) (at + 4) (get_or r 4 0)) (at + 5) (get_or r 5 0)) (at + 6) (get_or r 6 0)
-      ≡ sets t at r
-  seven_stores r e =
-      let s = steps at in
-      rw (s.one, s.two, s.three, s.four, s.five, s.six)
-      (ap (sets t at) (list_from_lem row_words r 0 (omega arith) ∙ take_all row_words r (omega arith)))
-
 pub row_listed : (t : List ℕ) (i : ℕ) → row_words * (i + 1) ≤ length t → listed t i ≡ row t i
-row_listed t i h = let s = steps (row_words * i) in rw (s.one, s.two, s.three, s.four, s.five, s.six) (list_from_lem row_words t (row_words * i) (omega arith))
+row_listed t i h = let s = steps (row_words * i) in rw (s.one, s.two, s.three, s.four, s.five, s.six) (list_from_is row_words t (row_words * i) (omega arith))

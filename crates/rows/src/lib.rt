@@ -4,7 +4,7 @@
 ghost use Rattle.std.specs.Prelude.{◌≡◌, true, ◌+◌, ◌*◌, ◌/◌, ◌^◌, ◌≤◌, ◌<◌, length};
 ghost use Rattle.std.proofs.lemmas.List.Edits.{sets};
 ghost use Rattle.numbers.specs.Numbers.{most_digits};
-ghost use Rattle.rows.specs.Rows.{row_words, listed, holder_at, last_phase, phase_of, second_of, one, notice_of, words_at, notice_by, row_sound, record_at, stored};
+ghost use Rattle.rows.specs.Rows.{row_words, listed, holder_at, last_phase, phase_of, second_of, notice_of, words_at, notice_by, row_sound, record_at, stored};
 ghost use Rattle.rows.specs.Starts.{rest_by, near_from, holder_start, rest_from};
 
 use numbers::{Msisdn, is_from, is_number, least_for};
@@ -34,7 +34,7 @@ const SECOND: usize = 5;
 const CLOSED: usize = 6;
 
 // The words of a row.
-#[derive(Clone, Copy)]
+#[derive(Clone, Copy, Debug, PartialEq, Eq)]
 pub struct Words {
     pub number: u64,
     pub holder: u64,
@@ -79,13 +79,6 @@ fn second_of(notice: Notice) -> u64
     }
 }
 
-// 1 where it is so, else 0.
-pub fn one_if(so: bool) -> u64
-    ensures { result ≡ one so }
-{
-    so as u64
-}
-
 // Whether words three to six of a row are those of a notice, or of none; `parties` says whether addressee and supervisor are sound.
 fn notice_by(parties: bool, phase: u64, addressee: u64, supervisor: u64, second: u64) -> bool
     ensures { result ≡ notice_by parties phase addressee supervisor second }
@@ -104,15 +97,15 @@ fn words_at(table: &[u64], row: usize) -> Words
     requires { row < length table.now / row_words }
     ensures { result ≡ words_at table.now row }
 {
-    let at = ROW_WORDS * row;
+    let [number, holder, phase, addressee, supervisor, second, closed] = row_at(table, row);
     Words {
-        number: table[at],
-        holder: table[at + HOLDER],
-        phase: table[at + PHASE],
-        addressee: table[at + ADDRESSEE],
-        supervisor: table[at + SUPERVISOR],
-        second: table[at + SECOND],
-        closed: table[at + CLOSED],
+        number,
+        holder,
+        phase,
+        addressee,
+        supervisor,
+        second,
+        closed,
     }
 }
 
@@ -123,15 +116,11 @@ pub fn load(table: &[u64], row: usize) -> Record
     ensures { result ≡ record_at table.now row }
 {
     let words = words_at(table, row);
-    let holder = Msisdn(words.holder);
-    let notice = notice_of(words.phase, words.second);
-    let addressee = Msisdn(words.addressee);
-    let supervisor = Msisdn(words.supervisor);
     Record {
-        holder,
-        notice,
-        addressee,
-        supervisor,
+        holder: Msisdn(words.holder),
+        notice: notice_of(words.phase, words.second),
+        addressee: Msisdn(words.addressee),
+        supervisor: Msisdn(words.supervisor),
         closed: words.closed == 1,
     }
 }
@@ -142,15 +131,12 @@ pub fn store(table: &mut [u64], row: usize, next: Record)
     ensures { table.new ≡ stored table.old row next }
 {
     let at = ROW_WORDS * row;
-    let notice = next.notice;
-    let phase = phase_of(notice);
-    let second = second_of(notice);
     table[at + HOLDER] = next.holder.0;
-    table[at + PHASE] = phase;
+    table[at + PHASE] = phase_of(next.notice);
     table[at + ADDRESSEE] = next.addressee.0;
     table[at + SUPERVISOR] = next.supervisor.0;
-    table[at + SECOND] = second;
-    table[at + CLOSED] = one_if(next.closed);
+    table[at + SECOND] = second_of(next.notice);
+    table[at + CLOSED] = u64::from(next.closed);
 }
 
 // Reads a row as its words.
@@ -159,15 +145,9 @@ pub fn row_at(table: &[u64], i: usize) -> [u64; ROW_WORDS]
     ensures { result ≡ listed table.now i }
 {
     let at = ROW_WORDS * i;
-    [
-        table[at],
-        table[at + HOLDER],
-        table[at + PHASE],
-        table[at + ADDRESSEE],
-        table[at + SUPERVISOR],
-        table[at + SECOND],
-        table[at + CLOSED],
-    ]
+    let mut words = [0; ROW_WORDS];
+    words.copy_from_slice(&table[at..at + ROW_WORDS]);
+    words
 }
 
 // Writes a row as its words.
@@ -176,13 +156,7 @@ pub fn put_row(table: &mut [u64], i: usize, words: [u64; ROW_WORDS])
     ensures { table.new ≡ sets table.old (row_words * i) words }
 {
     let at = ROW_WORDS * i;
-    table[at] = words[0];
-    table[at + HOLDER] = words[HOLDER];
-    table[at + PHASE] = words[PHASE];
-    table[at + ADDRESSEE] = words[ADDRESSEE];
-    table[at + SUPERVISOR] = words[SUPERVISOR];
-    table[at + SECOND] = words[SECOND];
-    table[at + CLOSED] = words[CLOSED];
+    table[at..at + ROW_WORDS].copy_from_slice(&words);
 }
 
 // Whether what stands behind a row's number is sound, the holder tested by a start; `parties` says whether addressee and supervisor are sound.

@@ -9,8 +9,8 @@ use native.Mathlib.Omega.{arith}
 use lib.ListN.{length}
 use Rattle.records.specs.declared.Record.{Record}
 use Rattle.rows.specs.Rows.{row_words, number_at, record_at}
-use Rattle.tables.specs.declared.Found.{Found}
-use Rattle.tables.specs.declared.Found.TheVariants.{At, Nothing}
+use Rattle.tables.specs.Keys.{Found}
+use Rattle.std.specs.Prelude.{Some, None}
 use Rattle.tables.specs.Tables.{table_sound, rows_in, number_key, row_of, record_of}
 use Rattle.tables.proofs.Keys.{place_same}
 use Rattle.tables.proofs.Sound.{empty_table}
@@ -54,8 +54,8 @@ same_words_lem t u v p q same =
 
 module _ (t : State) (k : ℕ) (sound : state_sound t ≡ true) where
   row_alone_lem : (place : Found) → row_for t k ≡ place → (table_sound (row_alone t.table place) ≡ true) × (record_for t k ≡ record_of (row_alone t.table place) k)
-  row_alone_lem Nothing e = (empty_table, record_missing t.table k e ∙ sym (empty_record k))
-  row_alone_lem (At i) e = (alone_sound t.table i (row_found t.table k i e).0 (state_table t sound), sym (alone_own t.table i k e))
+  row_alone_lem None e = (empty_table, record_missing t.table k e ∙ sym (empty_record k))
+  row_alone_lem (Some i) e = (alone_sound t.table i (row_found t.table k i e).0 (state_table t sound), sym (alone_own t.table i k e))
 
 -- a state that was kept has every number where it was
 row_kept : (t u : State) (k : ℕ) → Kept t u → row_for u k ≡ row_for t k
@@ -65,8 +65,8 @@ row_kept t u k p = rw p.long (place_same (number_key u.table) (number_key t.tabl
 -- of two that were kept, one from a state and one from a number's row alone, the first's row alone is the second, if the number's record is the same
 module _ (t u v : State) (k : ℕ) (sound : state_sound t ≡ true) (p : Kept t u) (q : Kept (alone t k) v) (same : record_for u k ≡ record_for v k) where
   one_row : (place : Found) → row_for t k ≡ place → row_for u k ≡ place → row_alone u.table place ≡ v.table
-  one_row Nothing e f = same_table [] v.table empty_table (state_table v q.sound) (sym (rw e at q.long)) (λ j l. absurd (not-suc-le-zero l)) (λ j l. absurd (not-suc-le-zero l))
-  one_row (At i) e f =
+  one_row None e f = same_table [] v.table empty_table (state_table v q.sound) (sym (rw e at q.long)) (λ j l. absurd (not-suc-le-zero l)) (λ j l. absurd (not-suc-le-zero l))
+  one_row (Some i) e f =
       same_table (tables.alone u.table i) v.table (alone_sound u.table i there (state_table u p.sound)) (state_table v q.sound)
       (alone_length u.table i there ∙ sym long) (λ j l. rw (first j l) number) (λ j l. rw (first j l) records)
     where

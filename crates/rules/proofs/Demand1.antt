@@ -16,8 +16,8 @@ use Rattle.strings.specs.Text.{Request}
 use Rattle.strings.specs.Outcomes.{request_of}
 use Rattle.records.specs.declared.Record.{Record}
 use Rattle.records.specs.Steps.{held_by}
-use Rattle.tables.specs.declared.Found.{Found}
-use Rattle.tables.specs.declared.Found.TheVariants.{At, Nothing}
+use Rattle.tables.specs.Keys.{Found}
+use Rattle.std.specs.Prelude.{Some, None}
 use Rattle.tables.specs.Tables.{table_sound, flags_of}
 use Rattle.tables.proofs.Stored.{record_found_lem}
 use Rattle.states.specs.States.{State, figures_right, state_sound, row_for, record_for, record_in, stored_in}
@@ -51,8 +51,8 @@ module _ (list reply : List ℕ) (requester : Msisdn) (scheme : ℕ) (string : L
 
   at : (f : Request) → f.operation ≡ Register → holder_of t f.number.0 ≡ requester.0 → state_sound t ≡ true → (place : Found)
       → row_for t f.number.0 ≡ place → (requests.carried_out_at f place requester t).state ≡ t
-  at f register holds sound Nothing e = refl
-  at f register holds sound (At i) e = rw register
+  at f register holds sound None e = refl
+  at f register holds sound (Some i) e = rw register
       (ap (stored_in t i) (held_already (record_in t i) requester (sym (ap (λ o. (requests.holder_in o).0) (record_found_lem t.table f.number.0 i e)) ∙ holds))
       ∙ found_back t f.number.0 i sound e)
 
@@ -158,8 +158,8 @@ single_answered list delay (sending now number buffer) state =
     (refl, (refl, (refl, (refl, (refl, (refl, (refl, tt))))))) (at_place (row_for state number.0))
   where
     at_place : (place : Found) → is_crew_outcome (notices.sent_at number place state buffer).answer ≡ false
-    at_place Nothing = refl
-    at_place (At i) = refl
+    at_place None = refl
+    at_place (Some i) = refl
 single_answered list delay (routes home coded asked) state =
     routing_each (λ a. is_crew_outcome a ≡ false) refl refl (λ code. refl) (λ m s. refl) refl refl state.table home coded asked
 single_answered list delay (terminal number holder reply) state =
@@ -171,8 +171,8 @@ single_answered list delay (result now number kind) state =
     (refl, (refl, (refl, (refl, (refl, tt))))) (at_place (row_for state number.0))
   where
     at_place : (place : Found) → is_crew_outcome (notices.result_at kind (clock_reading now) place state).answer ≡ false
-    at_place Nothing = refl
-    at_place (At i) = returned_each (λ a. is_crew_outcome a ≡ false) refl refl refl kind (record_in state i).notice
+    at_place None = refl
+    at_place (Some i) = returned_each (λ a. is_crew_outcome a ≡ false) refl refl refl kind (record_in state i).notice
 
 module _ (list : List ℕ) (delay : ℕ) (c : Call) (state : State) where
   abbrev answer : Answer

@@ -17,8 +17,8 @@ use Rattle.strings.specs.declared.Erasing.{Erasing}
 use Rattle.strings.specs.Text.{Request}
 use Rattle.strings.specs.Outcomes.{request_of}
 use Rattle.records.specs.declared.Notice.{Notice}
-use Rattle.tables.specs.declared.Found.{Found}
-use Rattle.tables.specs.declared.Found.TheVariants.{At, Nothing}
+use Rattle.tables.specs.Keys.{Found}
+use Rattle.std.specs.Prelude.{Some, None}
 use Rattle.tables.specs.Tables.{table_sound, flags_of}
 use Rattle.states.specs.States.{State, figures_right, row_for, record_for}
 use Rattle.rules.specs.Answers.{Answer, refusal, error, delivered, dropped, again, Outcome, made, is_negative_number, refusing}
@@ -51,8 +51,8 @@ module _ (t : State) (reply : List ℕ) (P : Outcome → Type 0) (denied : (n : 
   done_each Interrogate e requester i = told _
 
   done_at_each : (f : Request) (place : Found) (requester : Msisdn) → Replied (carried_out_at f place requester t)
-  done_at_each f Nothing requester = denied 41 (omega arith) refl
-  done_at_each f (At i) requester = done_each f.operation f.erasing requester i
+  done_at_each f None requester = denied 41 (omega arith) refl
+  done_at_each f (Some i) requester = done_each f.operation f.erasing requester i
 
   pub step_each : (requester : Msisdn) (f : Request) → Replied (step t requester f)
   unfolding step

@@ -19,8 +19,8 @@ use Rattle.strings.specs.Outcomes.{request_of}
 use Rattle.frames.specs.Components.{Body, wrong, asks}
 use Rattle.frames.specs.Messages.{frame_room, unread_message, Register, register_of}
 use Rattle.records.specs.Steps.{last_kind, is_waiting, is_in_flight, is_due, delay_allowed}
-use Rattle.tables.specs.declared.Found.{Found}
-use Rattle.tables.specs.declared.Found.TheVariants.{At, Nothing}
+use Rattle.tables.specs.Keys.{Found}
+use Rattle.std.specs.Prelude.{Some, None}
 use Rattle.tables.specs.Tables.{table_sound, list_sound, flags_of}
 use Rattle.states.specs.States.{State, figures_right, state_sound, row_for, record_for, record_in}
 use Rattle.states.proofs.States.{right_figures_lem, sound_state_lem}
@@ -115,8 +115,8 @@ module _ (t : State) (right : figures_right t ≡ true) where
       ∷ [])) _ (refl, (refl, (refl, (refl, (refl, (refl, tt)))))) (at_place (row_for t number.0)))
     where
       at_place : (place : Found) → Not10 (notices.sent_at number place t buffer)
-      at_place Nothing = refl
-      at_place (At i) = refl
+      at_place None = refl
+      at_place (Some i) = refl
 
   result_not_10 : (number : FunctionalNumber) (kind clock : ℕ) → Not10 (notices.taking_result t number kind clock)
   unfolding notices.taking_result
@@ -129,8 +129,8 @@ module _ (t : State) (right : figures_right t ≡ true) where
       ∷ [])) _ (refl, (refl, (refl, (refl, tt)))) (at_place (row_for t number.0)))
     where
       at_place : (place : Found) → Not10 (notices.result_at kind clock place t)
-      at_place Nothing = refl
-      at_place (At i) = returned_each (λ a. is_refused_with 10 a ≡ false) refl refl refl kind (record_in t i).notice
+      at_place None = refl
+      at_place (Some i) = returned_each (λ a. is_refused_with 10 a ≡ false) refl refl refl kind (record_in t i).notice
 
   terminal_not_10 : (number : FunctionalNumber) (holder : Msisdn) (reply : List ℕ) → Not10 (terminal_erasure t reply number holder)
   unfolding terminal_erasure

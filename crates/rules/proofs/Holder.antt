@@ -18,11 +18,11 @@ use Rattle.strings.specs.Text.{Request}
 use Rattle.strings.specs.Outcomes.{request_of}
 use Rattle.records.specs.declared.Notice.TheVariants.{Waiting}
 use Rattle.records.specs.declared.Record.{Record}
-use Rattle.records.specs.declared.Step.{Step}
-use Rattle.records.specs.declared.Step.TheVariants as step
-use Rattle.records.specs.declared.Holder.TheVariants as holds
-use Rattle.records.specs.declared.Sending.TheVariants as launches
-use Rattle.records.specs.declared.Resulted.TheVariants.{Refused, Delivered, Dropped, Again}
+use Rattle.records.specs.Step.{Step}
+use Rattle.records.specs.Step as step
+use Rattle.records.specs.Holder as holds
+use Rattle.records.specs.Sending as launches
+use Rattle.records.specs.Resulted.{Refused, Delivered, Dropped, Again}
 use Rattle.records.specs.Steps as steps
 use Rattle.tables.specs.Tables.{flags_of}
 use Rattle.states.specs.States.{State, state_sound, record_for}

@@ -18,8 +18,8 @@ use Rattle.frames.specs.Components.{Body, wrong, asks}
 use Rattle.frames.specs.Components as components
 use Rattle.frames.specs.Messages.{register_of, release, inverted}
 use Rattle.frames.specs.Messages as messages
-use Rattle.tables.specs.declared.Found.{Found}
-use Rattle.tables.specs.declared.Found.TheVariants.{At, Nothing}
+use Rattle.tables.specs.Keys.{Found}
+use Rattle.std.specs.Prelude.{Some, None}
 use Rattle.tables.specs.Tables.{table_sound}
 use Rattle.states.specs.States.{State, figures_right, row_for, record_for, record_in, stored_in}
 use Rattle.rules.specs.Answers.{Answer, refusal, error, outcome, holder_is, return_error, reject, Outcome, made, outcome_class, numbers_of, is_of, is_refusal, is_error, is_return_error, is_reject, is_negative_number, is_negative, crew_registered, crew_erased, packed_over, octet_count, refusing}
@@ -169,8 +169,8 @@ module _ (now : ℕ) (number : FunctionalNumber) (buffer : List ℕ) (state : St
   sent_call = sending now number buffer
 
   sent_leaves : (place : Found) → Leaves sent_call state (notices.sent_at number place state buffer)
-  sent_leaves Nothing = refuses sent_call state 7
-  sent_leaves (At i) = apart sent_call state _ _ _ refl refl refl
+  sent_leaves None = refuses sent_call state 7
+  sent_leaves (Some i) = apart sent_call state _ _ _ refl refl refl
 
   sending_leaves : (delay clock : ℕ) → Leaves sent_call state (notices.sending_notice state buffer number delay clock)
   unfolding notices.sending_notice
@@ -190,8 +190,8 @@ module _ (now : ℕ) (number : FunctionalNumber) (kind : ℕ) (state : State) wh
       (refuses taken_call state 2, (refuses taken_call state 10, (refuses taken_call state 7, (refuses taken_call state 3, (refuses taken_call state 4, tt))))) (at (row_for state number.0))
     where
       at : (place : Found) → Leaves taken_call state (notices.result_at kind clock place state)
-      at Nothing = refuses taken_call state 7
-      at (At i) =
+      at None = refuses taken_call state 7
+      at (Some i) =
           let new = stored_in state i (notices.after_result kind clock (record_in state i)) in
           returned_each (λ a. Leaves taken_call state (made a new [])) (apart taken_call state _ _ _ refl refl refl) (apart taken_call state _ _ _ refl refl refl)
           (apart taken_call state _ _ _ refl refl refl) kind (record_in state i).notice

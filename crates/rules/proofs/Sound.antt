@@ -21,20 +21,20 @@ use Rattle.strings.specs.declared.Erasing.TheVariants.{Empty, Forced}
 use Rattle.strings.specs.Text.{Request, erasing_sound}
 use Rattle.strings.specs.Outcomes.{request_of}
 use Rattle.records.specs.declared.Record.{Record}
-use Rattle.records.specs.declared.Step.{Step}
-use Rattle.records.specs.declared.Step.TheVariants as step
-use Rattle.records.specs.declared.Holder.{Holder}
-use Rattle.records.specs.declared.Holder.TheVariants as holds
-use Rattle.records.specs.declared.Sending.{Sending}
-use Rattle.records.specs.declared.Sending.TheVariants as launches
-use Rattle.records.specs.declared.Resulted.{Resulted}
-use Rattle.records.specs.declared.Resulted.TheVariants.{Refused, Delivered, Dropped, Again}
+use Rattle.records.specs.Step.{Step}
+use Rattle.records.specs.Step as step
+use Rattle.records.specs.Holder.{Holder}
+use Rattle.records.specs.Holder as holds
+use Rattle.records.specs.Sending.{Sending}
+use Rattle.records.specs.Sending as launches
+use Rattle.records.specs.Resulted.{Resulted}
+use Rattle.records.specs.Resulted.{Refused, Delivered, Dropped, Again}
 use Rattle.records.specs.Steps as steps
 use Rattle.rows.specs.Rows.{number_at, record_sound}
 use Rattle.rows.proofs.Rows.{record_sound_lem, stored_length, stored_number}
 use Rattle.rows.proofs.Kept.{SoundStep, SoundSending, SoundResult, registered_sound, erased_sound, forced_sound, sent_sound, resulted_sound}
-use Rattle.tables.specs.declared.Found.{Found}
-use Rattle.tables.specs.declared.Found.TheVariants.{At, Nothing}
+use Rattle.tables.specs.Keys.{Found}
+use Rattle.std.specs.Prelude.{Some, None}
 use Rattle.tables.specs.Tables.{rows_in, record_of, flags_of}
 use Rattle.tables.proofs.Stored.{row_found, own_record, other_record}
 use Rattle.states.specs.States.{State, state_sound, row_for, record_where, record_for, record_in, stored_in}
@@ -149,33 +149,33 @@ module _ (t : State) (sound : state_sound t ≡ true) (requester : Msisdn) (one 
   step_keeps f h = placed (row_for t f.number.0) refl
     where
       placed : (place : Found) → row_for t f.number.0 ≡ place → Kept t (requests.step t requester f).state
-      placed Nothing e = rw (step_misses t requester f e) (kept_same t sound)
-      placed (At i) e =
+      placed None e = rw (step_misses t requester f e) (kept_same t sound)
+      placed (Some i) e =
           rw (step_visits t requester f i e h)
           (decides_at_keeps i (row_found t.table f.number.0 i e).0 (record_sound_lem t.table i (found_sound t f.number.0 i sound e)) f.operation f.erasing f.number)
 
 -- the row of a record that the table has, and that there is none for one that it does not have
-pub record_place : (t : State) (k : ℕ) (r : Record) → record_for t k ≡ some r → (i : ℕ) × (row_for t k ≡ At i) × (record_in t i ≡ r)
+pub record_place : (t : State) (k : ℕ) (r : Record) → record_for t k ≡ some r → (i : ℕ) × (row_for t k ≡ Some i) × (record_in t i ≡ r)
 unfolding record_of
 record_place t k r e = go (row_for t k) refl e
   where
-    go : (place : Found) → row_for t k ≡ place → record_where t place ≡ some r → (i : ℕ) × (row_for t k ≡ At i) × (record_in t i ≡ r)
-    go Nothing p e = not_some e
-    go (At i) p e = (i, p, cc)
+    go : (place : Found) → row_for t k ≡ place → record_where t place ≡ some r → (i : ℕ) × (row_for t k ≡ Some i) × (record_in t i ≡ r)
+    go None p e = not_some e
+    go (Some i) p e = (i, p, cc)
 
-no_place : (t : State) (k : ℕ) → record_for t k ≡ none → row_for t k ≡ Nothing
+no_place : (t : State) (k : ℕ) → record_for t k ≡ none → row_for t k ≡ None
 unfolding record_of
 no_place t k e = go (row_for t k) refl e
   where
-    go : (place : Found) → row_for t k ≡ place → record_where t place ≡ none → row_for t k ≡ Nothing
-    go Nothing p e = p
-    go (At i) p e = not_some (sym e)
+    go : (place : Found) → row_for t k ≡ place → record_where t place ≡ none → row_for t k ≡ None
+    go None p e = p
+    go (Some i) p e = not_some (sym e)
 
 module _ (list : List ℕ) (delay : ℕ) (c : Call) (t : State) (sound : state_sound t ≡ true) where
   abbrev went : Reply × State
   went = single list delay c t
 
-  at_row : (k i : ℕ) → name_of list c ≡ some k → row_for t k ≡ At i → record_sound (visit list delay c (record_in t i)).next ≡ true
+  at_row : (k i : ℕ) → name_of list c ≡ some k → row_for t k ≡ Some i → record_sound (visit list delay c (record_in t i)).next ≡ true
   at_row k i n e = visit_sound (record_in t i) (record_sound_lem t.table i (found_sound t k i sound e)) list delay c k n
 
   -- a sound state is left, with the same numbers in the same rows
@@ -183,8 +183,8 @@ module _ (list : List ℕ) (delay : ℕ) (c : Call) (t : State) (sound : state_s
   single_keeps = named (name_of list c) refl
     where
       placed : (k : ℕ) → name_of list c ≡ some k → (place : Found) → row_for t k ≡ place → Kept t went.1
-      placed k n Nothing e = rw (single_misses list delay t sound c k n e) (kept_same t sound)
-      placed k n (At i) e = rw (single_visits list delay t sound c k i n e) (kept_stored t i _ sound (row_found t.table k i e).0 (at_row k i n e))
+      placed k n None e = rw (single_misses list delay t sound c k n e) (kept_same t sound)
+      placed k n (Some i) e = rw (single_visits list delay t sound c k i n e) (kept_stored t i _ sound (row_found t.table k i e).0 (at_row k i n e))
 
       named : (n : Option ℕ) → name_of list c ≡ n → Kept t went.1
       named none n = rw ((single_stops list delay c n).2 t sound) (kept_same t sound)
@@ -209,8 +209,8 @@ module _ (list : List ℕ) (delay : ℕ) (c : Call) (t : State) (sound : state_s
   single_other k m = named (name_of list c) refl
     where
       placed : (j : ℕ) → name_of list c ≡ some j → (place : Found) → row_for t j ≡ place → record_for went.1 k ≡ record_for t k
-      placed j n Nothing e = rw (single_misses list delay t sound c j n e)
-      placed j n (At i) e =
+      placed j n None e = rw (single_misses list delay t sound c j n e)
+      placed j n (Some i) e =
           ap (λ x. record_for x.1 k) (single_visits list delay t sound c j i n e)
           ∙ other_record t.table i _ j e k (λ q. eqb-false j k (ap (λ o. is_named o k) (sym n) ∙ m) (sym q))
 

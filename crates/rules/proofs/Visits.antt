@@ -26,17 +26,17 @@ use Rattle.strings.proofs.ReadBack.{read_only}
 use Rattle.strings.proofs.Octets.{request_reads}
 use Rattle.records.specs.declared.Notice.TheVariants.{Waiting}
 use Rattle.records.specs.declared.Record.{Record}
-use Rattle.records.specs.declared.Step.{Step}
-use Rattle.records.specs.declared.Step.TheVariants as step
-use Rattle.records.specs.declared.Holder.{Holder}
-use Rattle.records.specs.declared.Holder.TheVariants as holds
-use Rattle.records.specs.declared.Sending.TheVariants as launches
-use Rattle.records.specs.declared.Resulted.TheVariants.{Refused, Delivered, Dropped, Again}
+use Rattle.records.specs.Step.{Step}
+use Rattle.records.specs.Step as step
+use Rattle.records.specs.Holder.{Holder}
+use Rattle.records.specs.Holder as holds
+use Rattle.records.specs.Sending as launches
+use Rattle.records.specs.Resulted.{Refused, Delivered, Dropped, Again}
 use Rattle.records.specs.Steps as steps
 use Rattle.rows.specs.Rows.{row_sound}
 use Rattle.rows.proofs.Rows.{sound_row}
-use Rattle.tables.specs.declared.Found.{Found}
-use Rattle.tables.specs.declared.Found.TheVariants.{At, Nothing}
+use Rattle.tables.specs.Keys.{Found}
+use Rattle.std.specs.Prelude.{Some, None}
 use Rattle.tables.specs.Tables.{record_of, flags_of}
 use Rattle.tables.proofs.Sound.{table_row}
 use Rattle.tables.proofs.Stored.{row_found, record_found_lem, record_missing}
@@ -57,7 +57,7 @@ use Rattle.rules.proofs.Inside.{turned, outcome_kept, Opened, shut, carries, ope
 
 -- ---- the row of a number in a sound state
 
-module _ (t : State) (k i : ℕ) (sound : state_sound t ≡ true) (e : row_for t k ≡ At i) where
+module _ (t : State) (k i : ℕ) (sound : state_sound t ≡ true) (e : row_for t k ≡ Some i) where
   pub found_sound : row_sound t.table i ≡ true
   found_sound = table_row t.table (state_table t sound) i (row_found t.table k i e).0
 
@@ -128,15 +128,15 @@ module _ (t : State) (requester : Msisdn) (f : Request) where
   unfolding requests.step record_of
   step_place place e = ap stepped_at e
 
-  pub step_visits : (i : ℕ) → row_for t f.number.0 ≡ At i → erasing_sound f.operation f.erasing ≡ true
+  pub step_visits : (i : ℕ) → row_for t f.number.0 ≡ Some i → erasing_sound f.operation f.erasing ≡ true
       → requests.step t requester f ≡ decides_at f.operation f.erasing f.number requester t i
   step_visits i e h =
-      step_place (At i) e
+      step_place (Some i) e
       ∙ in_order t i requester f.operation f.erasing f.number f.additional h
       ∙ by_record_lem t i requester f.operation f.erasing f.number
 
-  pub step_misses : row_for t f.number.0 ≡ Nothing → requests.step t requester f ≡ comes_to (says 41) t
-  step_misses e = step_place Nothing e
+  pub step_misses : row_for t f.number.0 ≡ None → requests.step t requester f ≡ comes_to (says 41) t
+  step_misses e = step_place None e
 
 -- a single request by its step: what is replied, and stored
 module _ (t : State) (i : ℕ) (same : stored_in t i (record_in t i) ≡ t) (requester : Msisdn) (reply : List ℕ) where
@@ -158,7 +158,7 @@ module _ (t : State) (i : ℕ) (same : stored_in t i (record_in t i) ≡ t) (req
   replies Erase e number = replies_step 2 (erases e number requester (record_in t i))
   replies Interrogate e number = replies_holder (steps.interrogated (record_in t i))
 
-  visits : (flags : ℕ) (f : Request) → row_for t f.number.0 ≡ At i → erasing_sound f.operation f.erasing ≡ true
+  visits : (flags : ℕ) (f : Request) → row_for t f.number.0 ≡ Some i → erasing_sound f.operation f.erasing ≡ true
       → requests.asking_by (requests.once t reply requester) t flags reply (some f) ≡ storing t i (visit_request flags requester reply (some f) (record_in t i))
   unfolding decided
   visits flags f e h =
@@ -242,7 +242,7 @@ module _ (list reply : List ℕ) (requester : Msisdn) (scheme : ℕ) (string : L
       request_asks = by_asks (requests.once t reply requester) f passed reads
 
       -- the number is in row i: that row's record decides
-      pub request_visits : (i : ℕ) → row_for t f.number.0 ≡ At i
+      pub request_visits : (i : ℕ) → row_for t f.number.0 ≡ Some i
           → requesting_once t list reply requester scheme string
           ≡ storing t i (visit_request (flags_of list requester.0) requester reply (some f) (record_in t i))
       request_visits i e =
@@ -250,7 +250,7 @@ module _ (list reply : List ℕ) (requester : Msisdn) (scheme : ℕ) (string : L
           ∙ visits t i (found_back t f.number.0 i sound e) requester reply (flags_of list requester.0) f e (read_sound string f reads)
 
       -- the number is not in the table
-      pub request_misses : row_for t f.number.0 ≡ Nothing
+      pub request_misses : row_for t f.number.0 ≡ None
           → requesting_once t list reply requester scheme string ≡ leaving t (missed_request (flags_of list requester.0) reply (some f))
       request_misses e =
           request_asks
@@ -277,7 +277,7 @@ module _ (t : State) (buffer : List ℕ) (number : FunctionalNumber) (delay cloc
   sending_at place e = rw (state_table t sound, state_right t sound) (ap (sendings true true) e)
 
   by_sending : (i : ℕ) → stored_in t i (record_in t i) ≡ t → is_number number.0 ≡ true
-      → sendings true true (At i) ≡ storing t i (visit_sending delay clock number buffer (record_in t i))
+      → sendings true true (Some i) ≡ storing t i (visit_sending delay clock number buffer (record_in t i))
   unfolding steps.sent
   by_sending i same isOne = rw isOne
       (chosen (storing t i) (ltb (length buffer) buffer_room) (refuses (refusal 1))
@@ -291,15 +291,15 @@ module _ (t : State) (buffer : List ℕ) (number : FunctionalNumber) (delay cloc
       refuses a = rw same
 
   -- the number is in row i: that row's record decides
-  pub sending_visits : (i : ℕ) → row_for t number.0 ≡ At i
+  pub sending_visits : (i : ℕ) → row_for t number.0 ≡ Some i
       → notices.sending_notice t buffer number delay clock ≡ storing t i (visit_sending delay clock number buffer (record_in t i))
   sending_visits i e =
-      sending_at (At i) e ∙ by_sending i (found_back t number.0 i sound e) (found_number t number.0 i sound e)
+      sending_at (Some i) e ∙ by_sending i (found_back t number.0 i sound e) (found_number t number.0 i sound e)
 
   -- the number is not in the table
-  pub sending_misses : row_for t number.0 ≡ Nothing → notices.sending_notice t buffer number delay clock ≡ leaving t (missed_sending buffer)
+  pub sending_misses : row_for t number.0 ≡ None → notices.sending_notice t buffer number delay clock ≡ leaving t (missed_sending buffer)
   sending_misses e =
-      sending_at Nothing e ∙ rw (or_right (not (is_number number.0)) true refl) (chosen (leaving t) (ltb (length buffer) buffer_room) refl refl)
+      sending_at None e ∙ rw (or_right (not (is_number number.0)) true refl) (chosen (leaving t) (ltb (length buffer) buffer_room) refl refl)
 
 -- ---- results
 
@@ -330,7 +330,7 @@ module _ (t : State) (number : FunctionalNumber) (kind clock : ℕ) (sound : sta
   returns i false false false h = refl
 
   by_result : (i : ℕ) → stored_in t i (record_in t i) ≡ t → is_number number.0 ≡ true
-      → results true true (At i) ≡ storing t i (visit_result kind clock (record_in t i))
+      → results true true (Some i) ≡ storing t i (visit_result kind clock (record_in t i))
   unfolding steps.resulted
   by_result i same isOne = rw isOne
       (ap (λ done. decide (refusing t [] (map (answering refusal) (result_checks kind it))) done)
@@ -341,13 +341,13 @@ module _ (t : State) (number : FunctionalNumber) (kind clock : ℕ) (sound : sta
       it = record_in t i
 
   -- the number is in row i: that row's record decides
-  pub result_visits : (i : ℕ) → row_for t number.0 ≡ At i → notices.taking_result t number kind clock ≡ storing t i (visit_result kind clock (record_in t i))
+  pub result_visits : (i : ℕ) → row_for t number.0 ≡ Some i → notices.taking_result t number kind clock ≡ storing t i (visit_result kind clock (record_in t i))
   result_visits i e =
-      result_at_lem (At i) e ∙ by_result i (found_back t number.0 i sound e) (found_number t number.0 i sound e)
+      result_at_lem (Some i) e ∙ by_result i (found_back t number.0 i sound e) (found_number t number.0 i sound e)
 
   -- the number is not in the table
-  pub result_misses : row_for t number.0 ≡ Nothing → notices.taking_result t number kind clock ≡ leaving t missed_result
-  result_misses e = result_at_lem Nothing e ∙ rw (or_right (not (is_number number.0)) true refl)
+  pub result_misses : row_for t number.0 ≡ None → notices.taking_result t number kind clock ≡ leaving t missed_result
+  result_misses e = result_at_lem None e ∙ rw (or_right (not (is_number number.0)) true refl)
 
 -- ---- the terminal
 
@@ -363,7 +363,7 @@ module _ (t : State) (reply : List ℕ) (number : FunctionalNumber) (holder : Ms
   two_left = rw (state_table t sound, state_right t sound)
 
   -- the number is in row i: that row's record decides
-  pub terminal_visits : (i : ℕ) → row_for t number.0 ≡ At i → terminal_erasure t reply number holder ≡ storing t i (visit_terminal number holder reply (record_in t i))
+  pub terminal_visits : (i : ℕ) → row_for t number.0 ≡ Some i → terminal_erasure t reply number holder ≡ storing t i (visit_terminal number holder reply (record_in t i))
   unfolding decided
   terminal_visits i e = two_left ∙ chosen (storing t i) (ltb (length reply) buffer_room) (rw same) (go (both_numbers number holder) refl)
     where
@@ -379,7 +379,7 @@ module _ (t : State) (reply : List ℕ) (number : FunctionalNumber) (holder : Ms
           ∙ replies t i same nobody reply Erase (Forced holder) number
 
   -- the number is not in the table
-  pub terminal_misses : row_for t number.0 ≡ Nothing → terminal_erasure t reply number holder ≡ leaving t (missed_terminal number holder reply)
+  pub terminal_misses : row_for t number.0 ≡ None → terminal_erasure t reply number holder ≡ leaving t (missed_terminal number holder reply)
   terminal_misses e =
       two_left
       ∙ chosen (leaving t) (ltb (length reply) buffer_room) refl
@@ -418,12 +418,12 @@ module _ (list : List ℕ) (delay : ℕ) (t : State) (sound : state_sound t ≡ 
   VisitsAt c i = single list delay c t ≡ ((visit list delay c (record_in t i)).reply, stored_in t i (visit list delay c (record_in t i)).next)
 
   bare_visits : (requester : Msisdn) (scheme : ℕ) (string reply : List ℕ) (k i : ℕ) → name_of list (request requester scheme string reply) ≡ some k
-      → row_for t k ≡ At i → VisitsAt (request requester scheme string reply) i
+      → row_for t k ≡ Some i → VisitsAt (request requester scheme string reply) i
   bare_visits requester scheme string reply k i n e =
       let x = naming list reply requester scheme string k n in
       ap replied (request_visits list reply requester scheme string t sound x.fields x.passed x.reads i (rw x.names e) ∙ rw x.reads)
 
-  pub single_visits : (c : Call) (k i : ℕ) → name_of list c ≡ some k → row_for t k ≡ At i → VisitsAt c i
+  pub single_visits : (c : Call) (k i : ℕ) → name_of list c ≡ some k → row_for t k ≡ Some i → VisitsAt c i
   single_visits (request requester scheme string reply) k i n e = bare_visits requester scheme string reply k i n e
   single_visits (framed requester message frame) k i n e = go (opened list frame message requester delay)
     where
@@ -441,12 +441,12 @@ module _ (list : List ℕ) (delay : ℕ) (t : State) (sound : state_sound t ≡ 
 
   -- it is not in the table
   bare_misses : (requester : Msisdn) (scheme : ℕ) (string reply : List ℕ) (k : ℕ) → name_of list (request requester scheme string reply) ≡ some k
-      → row_for t k ≡ Nothing → single list delay (request requester scheme string reply) t ≡ (missed list (request requester scheme string reply), t)
+      → row_for t k ≡ None → single list delay (request requester scheme string reply) t ≡ (missed list (request requester scheme string reply), t)
   bare_misses requester scheme string reply k n e =
       let x = naming list reply requester scheme string k n in
       ap replied (request_misses list reply requester scheme string t sound x.fields x.passed x.reads (rw x.names e) ∙ rw x.reads)
 
-  pub single_misses : (c : Call) (k : ℕ) → name_of list c ≡ some k → row_for t k ≡ Nothing → single list delay c t ≡ (missed list c, t)
+  pub single_misses : (c : Call) (k : ℕ) → name_of list c ≡ some k → row_for t k ≡ None → single list delay c t ≡ (missed list c, t)
   single_misses (request requester scheme string reply) k n e = bare_misses requester scheme string reply k n e
   single_misses (framed requester message frame) k n e = go (opened list frame message requester delay)
     where

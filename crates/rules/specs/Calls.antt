@@ -10,8 +10,8 @@ use Rattle.crews.specs.Crews.{is_in, crew_of}
 use Rattle.strings.specs.Text.{Request, text_of}
 use Rattle.strings.specs.Outcomes.{request_of}
 use Rattle.rows.specs.Rows.{row_words}
-use Rattle.tables.specs.declared.Found.{Found}
-use Rattle.tables.specs.declared.Found.TheVariants.{At, Nothing}
+use Rattle.tables.specs.Keys.{Found}
+use Rattle.std.specs.Prelude.{Some, None}
 use Rattle.tables.specs.Tables.{row_of, flags_of}
 use Rattle.states.specs.States.{State, counted}
 use Rattle.rules.specs.Answers.{Answer, Outcome}
@@ -166,8 +166,8 @@ steps list (c ∷ cs) = steps_of list c ++ steps list cs
 
 -- the row of a number alone; the empty table where it has none
 abbrev pub row_alone : List ℕ → Found → List ℕ
-row_alone table Nothing = []
-row_alone table (At i) = take row_words (drop (row_words * i) table)
+row_alone table None = []
+row_alone table (Some i) = take row_words (drop (row_words * i) table)
 
 -- M-103: "a number run alone from its own row's" figures
 abbrev pub alone : State → ℕ → State

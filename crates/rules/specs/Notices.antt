@@ -10,8 +10,8 @@ use Rattle.records.specs.declared.Notice.TheVariants.{Absent, Waiting}
 use Rattle.records.specs.declared.Record.{Record}
 use Rattle.records.specs.Steps.{most_sendings, last_kind, is_waiting, is_in_flight, is_due, sendings_done, launched, with_notice, cleared, delay_allowed}
 use Rattle.rows.specs.Rows.{number_at, record_at}
-use Rattle.tables.specs.declared.Found.{Found}
-use Rattle.tables.specs.declared.Found.TheVariants.{At, Nothing}
+use Rattle.tables.specs.Keys.{Found}
+use Rattle.std.specs.Prelude.{Some, None}
 use Rattle.tables.specs.Tables.{table_sound, rows_in}
 use Rattle.states.specs.States.{State, figures_right, row_for, record_for, record_in, stored_in}
 use Rattle.rules.specs.Answers.{Answer, refusal, sent_to, delivered, dropped, again, found, none_due, Outcome, made, buffer_room, packed_over, octet_count, refusing}
@@ -37,8 +37,8 @@ sending_checks sound_table right_figures buffer number r delay clock =
 
 -- "Then the phase grows by 1, the last word becomes 0, and the buffer holds packed `##214*` number `*88*` supervisor `*#`; the addressee and octet count are returned"
 abbrev pub sent_at : FunctionalNumber → Found → State → List ℕ → Outcome
-sent_at number Nothing state buffer = made (refusal 7) state buffer
-sent_at number (At i) state buffer =
+sent_at number None state buffer = made (refusal 7) state buffer
+sent_at number (Some i) state buffer =
     let r = record_in state i in
     let text = notice_text (notice_fields number r.supervisor) in
     made (sent_to r.addressee.0 (octet_count text)) (stored_in state i (with_notice (launched r.notice) r)) (packed_over text buffer)
@@ -73,8 +73,8 @@ abbrev pub after_result : ℕ → ℕ → Record → Record
 after_result kind clock r = cond (clears kind r.notice) (cleared r) (with_notice (Waiting (sendings_done r.notice) clock) r)
 
 abbrev pub result_at : ℕ → ℕ → Found → State → Outcome
-result_at kind clock Nothing state = made (refusal 7) state []
-result_at kind clock (At i) state =
+result_at kind clock None state = made (refusal 7) state []
+result_at kind clock (Some i) state =
     let r = record_in state i in
     made (returned kind r.notice) (stored_in state i (after_result kind clock r)) []
 

@@ -13,8 +13,8 @@ use Rattle.strings.specs.Text.{Request, coding_scheme}
 use Rattle.strings.specs.Outcomes.{request_of}
 use Rattle.records.specs.declared.Record.{Record}
 use Rattle.records.specs.Steps.{same, is_own, may_erase, held_by, forced_off, is_absent}
-use Rattle.tables.specs.declared.Found.{Found}
-use Rattle.tables.specs.declared.Found.TheVariants.{At, Nothing}
+use Rattle.tables.specs.Keys.{Found}
+use Rattle.std.specs.Prelude.{Some, None}
 use Rattle.tables.specs.Tables.{table_sound, list_sound, flags_of}
 use Rattle.states.specs.States.{State, figures_right, row_for, record_for, record_in, stored_in}
 use Rattle.rules.specs.Answers.{Answer, refusal, error, outcome, holder_is, Outcome, made, buffer_room, holder_text, packed_over, octet_count, refusing}
@@ -137,8 +137,8 @@ carried_out Erase erasing requester state i = comes_to (says 2) (stored_in state
 carried_out Interrogate erasing requester state i = comes_to (tells (record_in state i).holder.0) state
 
 abbrev pub carried_out_at : Request → Found → Msisdn → State → Stepping
-carried_out_at f Nothing requester state = comes_to (says 41) state
-carried_out_at f (At i) requester state = carried_out f.operation f.erasing requester state i
+carried_out_at f None requester state = comes_to (says 41) state
+carried_out_at f (Some i) requester state = carried_out f.operation f.erasing requester state i
 
 unfoldable pub step : State → Msisdn → Request → Stepping
 step state requester f =

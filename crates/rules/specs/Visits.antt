@@ -14,14 +14,14 @@ use Rattle.strings.specs.Notices.{notice_text, notice_fields}
 use Rattle.strings.specs.Outcomes.{request_of}
 use Rattle.frames.specs.Messages.{unread_message}
 use Rattle.records.specs.declared.Record.{Record}
-use Rattle.records.specs.declared.Step.{Step}
-use Rattle.records.specs.declared.Step.TheVariants as step
-use Rattle.records.specs.declared.Holder.{Holder}
-use Rattle.records.specs.declared.Holder.TheVariants as holds
-use Rattle.records.specs.declared.Sending.{Sending}
-use Rattle.records.specs.declared.Sending.TheVariants as launches
-use Rattle.records.specs.declared.Resulted.{Resulted}
-use Rattle.records.specs.declared.Resulted.TheVariants.{Refused, Delivered, Dropped, Again}
+use Rattle.records.specs.Step.{Step}
+use Rattle.records.specs.Step as step
+use Rattle.records.specs.Holder.{Holder}
+use Rattle.records.specs.Holder as holds
+use Rattle.records.specs.Sending.{Sending}
+use Rattle.records.specs.Sending as launches
+use Rattle.records.specs.Resulted.{Resulted}
+use Rattle.records.specs.Resulted.{Refused, Delivered, Dropped, Again}
 use Rattle.records.specs.Steps as steps
 use Rattle.tables.specs.Tables.{flags_of}
 use Rattle.states.specs.States.{State, beside, record_in, stored_in}

@@ -6,7 +6,11 @@ use Prim.Native.Nat.{ℕ, zero, suc, ◌+◌, ◌-◌, ◌≤◌, ◌<◌}
 use native.Mathlib.Omega.{arith}
 use lib.ListN.{length}
 use borrow.Author.Tests.{eq-eqb}
+use Rattle.std.specs.Prelude.{Result, Ok, Err}
 use Rattle.answers.specs.Checks.{decide}
+use Rattle.answers.specs.Numbers.{refusal_number}
+use Rattle.answers.specs.declared.Refusal.{Refusal}
+use Rattle.answers.specs.declared.Refusal.TheVariants as refusal
 use Rattle.answers.proofs.Tests.{and_left, and_right, and_both}
 use Rattle.numbers.specs.Numbers.{is_nobody}
 use Rattle.records.specs.declared.Record.{Record}
@@ -19,7 +23,7 @@ use Rattle.tables.proofs.Sound.{table_few, table_row}
 use Rattle.tables.proofs.Stored.{table_stored, rows_stored}
 use Rattle.tables.proofs.Counts.{one_most, many_most, many_has, many_changed, row_waits, row_flies}
 use Rattle.states.proofs.Words.{words_same, other_length}
-use Rattle.states.specs.States.{State, beside, counted, same_words, figures_right, state_sound, refusal_of, record_in, counts_of, more, less, Among, Room, moved, stored_in}
+use Rattle.states.specs.States.{State, beside, counted, same_words, figures_right, state_sound, said_check, refusal_of, record_in, counts_of, more, less, Among, Room, moved, stored_in}
 
 -- ---- right figures
 
@@ -68,6 +72,33 @@ same_state s u a b e =
 
 -- ---- refusals 2 and 10
 
+-- no refusal has the number 0
+pub refusal_some : (r : Refusal) → refusal_number r ≡ 0 → ⊥
+refusal_some refusal.NoRoom e = omega arith
+refusal_some refusal.UnsoundTable e = omega arith
+refusal_some refusal.UnknownKind e = omega arith
+refusal_some refusal.NotInPhase e = omega arith
+refusal_some refusal.NotDue e = omega arith
+refusal_some refusal.WrongDelay e = omega arith
+refusal_some refusal.NoNumber e = omega arith
+refusal_some refusal.UnsoundList e = omega arith
+refusal_some refusal.Unfit e = omega arith
+refusal_some refusal.WrongFigures e = omega arith
+refusal_some refusal.NoMessage e = omega arith
+refusal_some refusal.RadioFull e = omega arith
+refusal_some refusal.NoNotice e = omega arith
+refusal_some refusal.NoQuestion e = omega arith
+refusal_some refusal.NotStorable e = omega arith
+refusal_some refusal.UnsoundRadio e = omega arith
+refusal_some refusal.ImageTooShort e = omega arith
+refusal_some refusal.WrongDistance e = omega arith
+refusal_some refusal.TooManyRows e = omega arith
+refusal_some refusal.NoRoomForImage e = omega arith
+refusal_some refusal.WrongLength e = omega arith
+refusal_some refusal.TableFull e = omega arith
+refusal_some refusal.AlreadyThere e = omega arith
+refusal_some refusal.NotThere e = omega arith
+
 module _ (s : State) (n : ℕ) (said : n ≡ refusal_of s) where
   pub state_passes : n ≡ 0 → state_sound s ≡ true
   state_passes z = go (table_sound s.table) (figures_right s) (sym said ∙ z)
@@ -87,11 +118,18 @@ module _ (s : State) (n : ℕ) (said : n ≡ refusal_of s) where
       go true false e = ap make e
       go true true e = absurd (refused e)
 
+-- the check of a call's table and figures: it answers by a refusal, or they are right
+module _ (s : State) (answer : Result Unit Refusal) (said : said_check answer ≡ refusal_of s) where
+  pub check_passes : {done : Unit} → answer ≡ Ok done → state_sound s ≡ true
+  check_passes is = state_passes s (said_check answer) said (ap said_check is)
+
+  -- what comes of it, whatever a refusal comes to and whatever else is done
+  pub check_refuses : {A : Type 0} (make : ℕ → A) (done : A) (r : Refusal) → answer ≡ Err r
+      → make (refusal_number r) ≡ decide ((not (table_sound s.table), make 2) ∷ (not (figures_right s), make 10) ∷ []) done
+  check_refuses make done r is = state_refuses s (refusal_number r) (sym (ap said_check is) ∙ said) make done (refusal_some r)
+
 -- what the recount said of the table, beside the figures
 module _ (t figures : List ℕ) where
-  pub refuses_table : table_sound t ≡ false → ◌≡◌ {A = ℕ} 2 (refusal_of (beside t figures))
-  refuses_table e = rw e refl
-
   module _ (words : List ℕ) (said : (table_sound t ≡ true) × (recount t ≡ words)) where
     pub refuses_figures : same_words figures words ≡ false → ◌≡◌ {A = ℕ} 10 (refusal_of (beside t figures))
     unfolding figures_right

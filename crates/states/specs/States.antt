@@ -1,12 +1,14 @@
 -- Document 02, M-103: "Store the three counts beside the table": table and figures together, as every call takes and leaves them. Assumes nothing.
-use Rattle.std.specs.Prelude.{ℕ, ◌+◌, ◌-◌, ◌^◌, ◌≤◌, ◌<◌, Bool, true, false, not, ◌&&◌, List, [], ◌∷◌, get_or, eqb}
+use Rattle.std.specs.Prelude.{ℕ, ◌+◌, ◌-◌, ◌^◌, ◌≤◌, ◌<◌, Bool, true, false, not, ◌&&◌, List, [], ◌∷◌, get_or, eqb, Result, Ok, Err}
 use Rattle.std.proofs.Math.Option.{Option}
 use Rattle.answers.specs.Checks.{decide}
+use Rattle.answers.specs.Numbers.{refusal_number}
+use Rattle.answers.specs.declared.Refusal.{Refusal}
 use Rattle.numbers.specs.Numbers.{is_nobody}
 use Rattle.records.specs.declared.Record.{Record}
 use Rattle.records.specs.Steps.{is_waiting, is_in_flight}
 use Rattle.rows.specs.Rows.{record_at, stored, one}
-use Rattle.tables.specs.declared.Found.{Found}
+use Rattle.tables.specs.Keys.{Found}
 use Rattle.tables.specs.Tables.{table_sound, row_of, record_found, record_of}
 use Rattle.tables.specs.Figures.{recount}
 
@@ -45,6 +47,11 @@ state_checks s = (not (table_sound s.table), 2) ∷ (not (figures_right s), 10) 
 -- what is wrong with them, 0 for neither
 abbrev pub refusal_of : State → ℕ
 refusal_of s = decide (state_checks s) 0
+
+-- which of them an answer is
+abbrev pub said_check : Result Unit Refusal → ℕ
+said_check (Ok _) = 0
+said_check (Err refusal) = refusal_number refusal
 
 -- ---- what is found in the table
 

@@ -1,14 +1,15 @@
--- A round that begins, entry by entry, and a gap that is closed, place by place. Assumes nothing.
+-- A round that begins, entry by entry, and a gap that is closed. Assumes nothing.
 use mathlib.Core.Path.{◌≡◌, refl, sym, ap, ◌∙◌}
 use mathlib.Core.Bool.{Bool}
-use mathlib.Core.List.{List, [], ◌∷◌, ◌++◌}
-use Prim.Native.Nat.{ℕ, suc, ◌+◌, ◌≤◌, ◌<◌}
+use mathlib.Core.List.{List, [], ◌∷◌, ◌++◌, append_assoc}
+use Prim.Native.Nat.{ℕ, suc, ◌+◌, ◌-◌, ◌<◌}
 use native.Mathlib.Numerals.{add-one}
 use native.Mathlib.Omega.{arith}
-use lib.ListN.{length, get_or, set, take, drop, drop_of_length-le}
-use lib.Seq.{length-take-le, take-suc, drop-cons, append_snoc, set_at, get_or_at, set_split, take-suc-set, drop-set-lt}
+use lib.ListN.{length, get_or, set, take, drop, drop_of_length-le, length-append, length-drop}
+use lib.Seq.{length-take-le, take-suc, drop-cons, append_snoc, set_at, get_or_at, take_all}
 use Rattle.stores.specs.declared.Entry.{Entry}
-use Rattle.stores.specs.Stores.{blank, entry_of, begun, flag_of}
+use Rattle.stores.specs.Stores.{most_stored, blank, entry_of, begun, flag_of}
+use Rattle.std.specs.List.{copy_within}
 use Rattle.stores.specs.Places.{closed_up}
 
 module _ (due : ℕ → Bool) where
@@ -36,18 +37,14 @@ module _ (due : ℕ → Bool) where
       rw (split, get_or_at front (get_or xs i blank) (drop (suc i) xs) blank i size, set_at front (get_or xs i blank) (drop (suc i) xs) (anew (get_or xs i blank)) i size, add-one i, take-suc xs i blank h, begun_append (take i xs) (get_or xs i blank))
       (sym (append_snoc front (anew (get_or xs i blank)) (drop (suc i) xs)))
 
-module _ (l : List Entry) (i : ℕ) where
-  pub moves : i + 1 < length l → closed_up l i ≡ closed_up (set l i (get_or l (i + 1) blank)) (i + 1)
-  unfolding closed_up
-  moves h =
-      let k : suc i < length l = omega arith in
-      let k' : i < length l = omega arith in
-      let d : i < suc (suc i) = omega arith in
-      rw (add-one, take-suc-set, drop-set-lt, append_snoc, drop-cons l (suc i) blank)
-
-  pub last : length l ≡ i + 1 → closed_up l i ≡ set l i blank
-  unfolding closed_up
-  last h =
-      let k : i < length l = omega arith in
-      let d : length l ≤ suc i = omega arith in
-      rw (set_split, drop_of_length-le)
+-- those behind a place are copied one down, and a blank comes last
+pub closing : (es : List Entry) (at : ℕ) → length es ≡ most_stored → at < most_stored → set (copy_within es (at + 1) most_stored at) 15 blank ≡ closed_up es at
+unfolding closed_up
+closing es at full h =
+    let behind = drop (suc at) es in
+    let size : length (take at es ++ behind) ≡ 15 = omega (arith, length-append (take at es) behind, length-take-le at es (omega arith), length-drop (suc at) es) in
+    let all : take (most_stored - suc at) behind ≡ behind = take_all (most_stored - suc at) behind (omega (arith, length-drop (suc at) es)) in
+    let end : at + (most_stored - suc at) ≡ 15 = omega arith in
+    let last : drop 15 es ≡ get_or es 15 blank ∷ [] = drop-cons es 15 blank (omega arith) ∙ ap (λ (r : List Entry). get_or es 15 blank ∷ r) (drop_of_length-le es {i = 16} (omega arith)) in
+    rw (add-one at, all, end, last, set_at (take at es ++ behind) (get_or es 15 blank) [] blank 15 size)
+    (append_assoc (take at es) behind (blank ∷ []))

@@ -1,85 +1,62 @@
--- Entries one after the other, as the loops pass over them: what is known of those from a place on. Assumes nothing.
-use mathlib.Core.Path.{◌≡◌, refl, ◌∙◌}
-use mathlib.Core.Bool.{Bool, true, false, not, ◌&&◌, ◌||◌}
+-- The library's tests and searches are the words of the specs, and what a place says of the entries from there on. Assumes nothing.
+use mathlib.Core.Path.{◌≡◌, refl, ap}
+use mathlib.Core.Bool.{Bool, true, false, cond, not, ◌&&◌, ◌||◌}
 use mathlib.Core.List.{List, [], ◌∷◌}
-use Prim.Native.Nat.{ℕ, ◌+◌, ◌≤◌, ◌<◌}
+use Prim.Native.Nat.{ℕ, suc, ◌+◌, ◌≤◌, ◌<◌}
 use native.Mathlib.Numerals.{add-one}
 use native.Mathlib.Omega.{arith}
-use lib.ListN.{length, get_or, take, drop, drop_of_length-le}
-use lib.Seq.{slice-cons, length-take-le}
-use borrow.Author.Tests.{eq-eqb, ne_eqb}
+use lib.Dec.{eqb}
+use lib.ListN.{length, get_or, drop}
+use lib.Seq.{drop-cons}
+use borrow.Author.Tests.{eq-eqb}
+use Rattle.std.specs.List.{list_all, list_any, position_or_len}
+use Rattle.std.proofs.lemmas.List.Recursion.{is_position_or_len, or_at}
 use Rattle.answers.proofs.Tests.{and_no}
 use Rattle.stores.specs.declared.Entry.{Entry}
-use Rattle.stores.specs.Stores.{entry_sound, blank, every, has, none_twice}
+use Rattle.stores.specs.Stores.{is_to_ask, entry_sound, blank, every, has, none_twice}
 use Rattle.stores.specs.Places.{first_to_ask}
 
-module _ (es : List Entry) (n i : ℕ) where
-  -- the entry at a place, and those behind it
-  pub at_place : n ≤ length es → i < n → drop i (take n es) ≡ get_or es i blank ∷ drop (i + 1) (take n es)
-  at_place l h = slice-cons i n es blank h l ∙ rw (add-one i)
+pub every_all : (test : Entry → Bool) (es : List Entry) → list_all test es ≡ every test es
+unfolding every
+every_all test [] = refl
+every_all test (e ∷ es) = ap (λ (b : Bool). test e && b) (every_all test es)
 
-  pub behind_all : n ≤ length es → n ≤ i → drop i (take n es) ≡ []
-  behind_all l h = drop_of_length-le (take n es) {i = i} (omega (arith, length-take-le n es l))
+pub has_any : (number : ℕ) (es : List Entry) → list_any (λ (e : Entry). eqb e.number number) es ≡ has number es
+unfolding has
+has_any number [] = refl
+has_any number (e ∷ es) = ap (λ (b : Bool). eqb e.number number || b) (has_any number es)
 
-  -- a test of every entry
-  module _ (test : Entry → Bool) {b : Bool} (known : b ≡ every test (drop i (take n es))) (l : n ≤ length es) where
-    pub every_stops : i < n → test (get_or es i blank) ≡ false → b ≡ false
-    unfolding every
-    every_stops h e = known ∙ rw (at_place l h, e)
+pub first_position : (es : List Entry) → first_to_ask es ≡ position_or_len is_to_ask es
+unfolding first_to_ask
+first_position = is_position_or_len first_to_ask is_to_ask refl (λ e es. ap (λ (n : ℕ). cond (is_to_ask e) 0 n) (one_more es))
+  where
+    one_more : (es : List Entry) → suc (first_to_ask es) ≡ 1 + first_to_ask es
+    one_more es = omega arith
 
-    pub every_goes_on : i < n → test (get_or es i blank) ≡ true → b ≡ every test (drop (i + 1) (take n es))
-    unfolding every
-    every_goes_on h e = known ∙ rw (at_place l h, e)
+pub first_within : (es : List Entry) → first_to_ask es ≤ length es
+unfolding first_to_ask
+first_within [] = omega arith
+first_within (e ∷ es) = go (is_to_ask e) (first_within es)
+  where
+    go : (b : Bool) → first_to_ask es ≤ length es → cond b 0 (suc (first_to_ask es)) ≤ suc (length es)
+    go true h = omega arith
+    go false h = omega arith
 
-    pub every_ends : n ≤ i → b ≡ true
-    unfolding every
-    every_ends h = known ∙ rw (behind_all l h)
+-- the number of an entry is among them
+pub has_own : (es : List Entry) (i : ℕ) → i < length es → has (get_or es i blank).number es ≡ true
+unfolding has
+has_own es i h = or_at (has (get_or es i blank).number) (λ (e : Entry). eqb e.number (get_or es i blank).number) refl (λ _ _. refl) es i blank h (eq-eqb _ _ refl)
 
-  -- each is sound and comes but once
-  module _ {b : Bool} (known : b ≡ (every entry_sound (drop i (take n es)) && none_twice (drop i (take n es)))) (l : n ≤ length es) (h : i < n) where
-    pub sound_stops : entry_sound (get_or es i blank) ≡ false → b ≡ false
-    unfolding every none_twice
-    sound_stops e = known ∙ rw (at_place l h, e)
-
-    pub sound_twice : has (get_or es i blank).number (drop (i + 1) (take n es)) ≡ true → b ≡ false
-    unfolding every none_twice
-    sound_twice e = known ∙ rw (at_place l h, e) (and_no (every entry_sound (get_or es i blank ∷ drop (i + 1) (take n es))) false refl)
-
-    pub sound_goes_on : entry_sound (get_or es i blank) ≡ true → has (get_or es i blank).number (drop (i + 1) (take n es)) ≡ false
-        → b ≡ (every entry_sound (drop (i + 1) (take n es)) && none_twice (drop (i + 1) (take n es)))
-    unfolding every none_twice
-    sound_goes_on e t = known ∙ rw (at_place l h, e, t)
-
-  -- a number among them
-  module _ (number : ℕ) {b : Bool} (known : b ≡ has number (drop i (take n es))) (l : n ≤ length es) where
-    pub has_here : i < n → (get_or es i blank).number ≡ number → b ≡ true
-    unfolding has
-    has_here h e = known ∙ rw (at_place l h, eq-eqb _ _ e)
-
-    pub has_later : i < n → ((get_or es i blank).number ≡ number → ⊥) → b ≡ has number (drop (i + 1) (take n es))
-    unfolding has
-    has_later h e = known ∙ rw (at_place l h, ne_eqb _ _ e)
-
-    pub has_none : n ≤ i → b ≡ false
-    unfolding has
-    has_none h = known ∙ rw (behind_all l h)
-
-  -- the first number still to be asked
-  module _ {k : ℕ} (known : k ≡ i + first_to_ask (drop i (take n es))) (l : n ≤ length es) where
-    pub first_here : i < n → (get_or es i blank).to_ask ≡ 1 → k ≡ i
-    unfolding first_to_ask
-    first_here h e = known ∙ rw (at_place l h, eq-eqb _ _ e) (omega arith)
-
-    pub first_later : i < n → ((get_or es i blank).to_ask ≡ 1 → ⊥) → k ≡ i + 1 + first_to_ask (drop (i + 1) (take n es))
-    unfolding first_to_ask
-    first_later h e = known ∙ rw (at_place l h, ne_eqb _ _ e) (omega arith)
-
-    pub first_none : n ≤ i → k ≡ i
-    unfolding first_to_ask
-    first_none h = known ∙ rw (behind_all l h) (omega arith)
-
--- "a, so b" by what the code tests
-pub so : (a b : Bool) → (not a || b) ≡ not (a && not b)
-so true true = refl
-so true false = refl
-so false b = refl
+-- each is sound and comes but once, from a place on
+pub sound_at : (es : List Entry) (i : ℕ) → i < length es
+    → (every entry_sound (drop i es) && none_twice (drop i es))
+    ≡ cond (not (entry_sound (get_or es i blank)) || has (get_or es i blank).number (drop (i + 1) es)) false (every entry_sound (drop (i + 1) es) && none_twice (drop (i + 1) es))
+unfolding every none_twice
+sound_at es i h =
+    rw (add-one i, drop-cons es i blank h)
+    (go (entry_sound (get_or es i blank)) (has (get_or es i blank).number (drop (suc i) es)) (every entry_sound (drop (suc i) es)) (none_twice (drop (suc i) es)))
+  where
+    go : (a b c d : Bool) → ((a && c) && (not b && d)) ≡ cond (not a || b) false (c && d)
+    go true true c d = and_no c false refl
+    go true false c d = refl
+    go false b c d = refl

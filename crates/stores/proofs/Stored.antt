@@ -1,18 +1,24 @@
 -- What a new number, a notice and an answer keep of the entries: each is as sound as it was; a notice and an answer leave no more than there were. Assumes nothing.
-use mathlib.Core.Path.{◌≡◌, refl, ap}
-use mathlib.Core.Bool.{Bool, true, false, cond, ◌&&◌}
+use mathlib.Core.Path.{◌≡◌, refl, sym, ap, ◌∙◌}
+use mathlib.Core.Logic.{⊎_elim}
+use mathlib.Core.Bool.{Bool, true, false, not, cond, ◌&&◌}
 use mathlib.Core.List.{List, [], ◌∷◌, ◌++◌}
 use Prim.Native.Nat.{ℕ, zero, suc, ◌-◌, ◌≤◌}
 use native.Mathlib.Omega.{arith}
 use lib.ListN.{length, replicate}
 use lib.Seq.{take-append_seam}
 use Rattle.numbers.specs.Numbers.{is_number}
-use Rattle.answers.proofs.Tests.{and_left, and_right, and_both, and_three}
+use lib.Dec.{eqb}
+use borrow.Author.Tests.{eqb-true, eq-eqb, ne_eqb}
+use Rattle.std.specs.Prelude.{Option, Some, None}
+use Rattle.std.specs.Option.{IfSome, is_some}
+use Rattle.answers.proofs.Tests.{no_path, and_left, and_right, and_both, and_three, or_cases}
 use Rattle.stores.specs.declared.Entry.{Entry}
 use Rattle.stores.specs.declared.Radio.{Radio}
 use Rattle.stores.specs.declared.Verdict.{Verdict}
 use Rattle.stores.specs.declared.Verdict.TheVariants.{Keeps, Drops, Unsure}
-use Rattle.stores.specs.Stores.{most_stored, entries_in, is_to_ask, is_flag, entry_sound, blank, is_blank, every, open_of, holding, entry_of, with_new, begun, answered, settled}
+use Rattle.stores.specs.Places.{said_open}
+use Rattle.stores.specs.Stores.{most_stored, entries_in, is_to_ask, is_flag, entry_sound, blank, is_blank, every, has, open_of, holding, entry_of, with_new, begun, answered, settled}
 
 -- ---- every entry is sound
 
@@ -70,6 +76,28 @@ open_number (e ∷ es) h some = go (is_to_ask e) some (open_number es (and_right
     go : (b : Bool) → (cond b e.number (open_of es) ≡ 0 → ⊥) → ((open_of es ≡ 0 → ⊥) → is_number (open_of es) ≡ true) → is_number (cond b e.number (open_of es)) ≡ true
     go true some rest = (and_three (is_number e.number) (is_flag e.unsure) (is_flag e.to_ask) (and_left (entry_sound e) (every entry_sound es) h)).0
     go false some rest = rest some
+
+-- a number is not 0, the word that stands for none
+pub number_not_0 : (n : ℕ) → is_number n ≡ true → n ≡ 0 → ⊥
+unfolding is_number
+number_not_0 n h e = no_path (rw e at h)
+
+pub has_sound : (n : ℕ) (es : List Entry) → every entry_sound es ≡ true → has n es ≡ true → is_number n ≡ true
+unfolding every has
+has_sound n [] h e = no_path e
+has_sound n (x ∷ es) h e =
+    ⊎_elim
+    (λ p. rw (eqb-true x.number n p) at (and_three (is_number x.number) (is_flag x.unsure) (is_flag x.to_ask) (and_left (entry_sound x) (every entry_sound es) h)).0)
+    (λ p. has_sound n es (and_right (entry_sound x) (every entry_sound es) h) p) (or_cases (eqb x.number n) (has n es) e)
+
+-- what the code answers tells whether a question is open
+pub open_some : (n : ℕ) (es : List Entry) → every entry_sound es ≡ true → n ≡ open_of es → has n es ≡ true → open_of es ≡ 0 → ⊥
+open_some n es h e i z = number_not_0 n (has_sound n es h i) (e ∙ z)
+
+pub open_known : (o : Option ℕ) (es : List Entry) → every entry_sound es ≡ true → said_open o ≡ open_of es → IfSome o (λ n. has n es ≡ true)
+    → is_some o ≡ not (eqb (open_of es) 0)
+open_known None es h e i = rw (eq-eqb (open_of es) 0 (sym e))
+open_known (Some n) es h e i = rw (ne_eqb (open_of es) 0 (open_some n es h e i))
 
 -- ---- how many are stored
 

@@ -1,16 +1,17 @@
 // What a radio stores: the state that the cab's main software lends, when it is sound, and what becomes of it.
 #![tactic(auto)]
 
-ghost use Rattle.std.specs.Prelude.{◌≡◌, true, ◌&&◌, ◌++◌, ◌<◌, ◌≤◌, take, drop};
+ghost use Rattle.std.specs.Prelude.{◌≡◌, true, ◌&&◌, ◌++◌, ◌<◌, ◌≤◌, length, take, drop, IfSome, is_some, nat_lt};
 ghost use Rattle.stores.specs.Stores.{most_stored, entries_in, entry_sound, is_blank, every, has, none_twice, open_of, radio_sound, holding, with_new, is_due, begun, settled, is_of, flag_of, due_by};
-ghost use Rattle.stores.specs.Places.{first_to_ask, closed_up, kept_at, dropped_at};
+ghost use Rattle.stores.specs.Places.{first_to_ask, said_place, said_open, closed_up, kept_at, dropped_at};
 
 // It stores at most so many numbers.
 pub const MOST_STORED: usize = 16;
 
 // A stored number, with its mark and whether it is still to be asked in this round: each 0 or 1.
+// Kept: C lends this struct (include/ffn_radio.h), so its flags are octets that a call tests.
 #[repr(C)]
-#[derive(Clone, Copy)]
+#[derive(Clone, Copy, Debug, PartialEq, Eq)]
 pub struct Entry {
     pub number: u64,
     pub unsure: u8,
@@ -18,8 +19,9 @@ pub struct Entry {
 }
 
 // A radio: its own MSISDN, the stored numbers in the order in which they were stored, whether it is a hand-held, and the invoke number of its last question.
+// Kept: C lends this struct, so a count stands beside the places; `entries_in` makes a slice of them.
 #[repr(C)]
-#[derive(Clone, Copy)]
+#[derive(Clone, Copy, Debug, PartialEq, Eq)]
 pub struct Radio {
     pub own: u64,
     pub count: usize,
@@ -29,55 +31,53 @@ pub struct Radio {
 }
 
 // What an answer says of the number that was asked.
-#[derive(Clone, Copy)]
+#[derive(Clone, Copy, Debug, PartialEq, Eq)]
 pub enum Verdict {
     Keeps,
     Drops,
     Unsure,
 }
 
-// Whether the number is among the entries from a place on.
-pub fn has_from(entries: [Entry; MOST_STORED], from: usize, count: usize, number: u64) -> bool
-    requires { count ≤ most_stored }
-    ensures { result ≡ has number (drop from (take count entries)) }
-{
-    let mut i = from;
-    while i < count {
-        let entry = entries[i];
-        if entry.number == number {
-            return true;
-        }
-        i += 1;
+// A place behind the stored numbers.
+const BLANK: Entry = Entry {
+    number: 0,
+    unsure: 0,
+    to_ask: 0,
+};
+
+impl Radio {
+    // The stored numbers.
+    pub fn entries_in(&self) -> &[Entry]
+        requires { self.now.count ≤ most_stored }
+        ensures { result.now ≡ entries_in self.now }
+    {
+        &self.entries[..self.count]
     }
-    false
 }
 
-// The place of the open question; `count` where there is none.
-pub fn first_to_ask(entries: [Entry; MOST_STORED], count: usize) -> usize
-    requires { count ≤ most_stored }
-    ensures { result ≡ first_to_ask (take count entries) }
+// Whether the number is among the entries.
+pub fn has(entries: &[Entry], number: u64) -> bool
+    ensures { result ≡ has number entries.now }
 {
-    let mut i = 0;
-    while i < count {
-        let entry = entries[i];
-        if entry.to_ask == 1 {
-            return i;
-        }
-        i += 1;
-    }
-    count
+    entries.iter().any(|entry| entry.number == number)
 }
 
-// The open question's number; 0 where there is none.
-pub fn open_number(entries: [Entry; MOST_STORED], count: usize) -> u64
-    requires { count ≤ most_stored }
-    ensures { result ≡ open_of (take count entries) }
+// The place of the open question.
+pub fn first_to_ask(entries: &[Entry]) -> Option<usize>
+    ensures place { said_place (length entries.now) result ≡ first_to_ask entries.now }
+    ensures within { IfSome result (λ at. at < length entries.now) }
 {
-    let at = first_to_ask(entries, count);
-    if count <= at {
-        return 0;
-    }
-    entries[at].number
+    entries.iter().position(|entry| entry.to_ask == 1)
+}
+
+// The open question's number.
+pub fn open_number(entries: &[Entry]) -> Option<u64>
+    ensures number { said_open result ≡ open_of entries.now }
+    ensures stored { IfSome result (λ number. has number entries.now ≡ true) }
+    ensures open { is_some result ≡ nat_lt (first_to_ask entries.now) (length entries.now) }
+{
+    let at = first_to_ask(entries)?;
+    Some(entries[at].number)
 }
 
 fn entry_sound(entry: Entry) -> bool
@@ -89,79 +89,56 @@ fn entry_sound(entry: Entry) -> bool
 fn is_blank(entry: Entry) -> bool
     ensures { result ≡ is_blank entry }
 {
-    (entry.number == 0) & (entry.unsure == 0) & (entry.to_ask == 0)
+    entry == BLANK
 }
 
 // Whether each stored number is sound and comes but once.
-fn entries_sound(entries: [Entry; MOST_STORED], count: usize) -> bool
-    requires { count ≤ most_stored }
-    ensures { result ≡ (every entry_sound (take count entries) && none_twice (take count entries)) }
+fn entries_sound(entries: &[Entry]) -> bool
+    ensures { result ≡ (every entry_sound entries.now && none_twice entries.now) }
 {
-    let mut i = 0;
-    while i < count {
-        let entry = entries[i];
-        if !entry_sound(entry) {
+    for (i, entry) in entries.iter().enumerate() {
+        if !entry_sound(*entry) | has(&entries[i + 1..], entry.number) {
             return false;
         }
-        if has_from(entries, i + 1, count, entry.number) {
-            return false;
-        }
-        i += 1;
     }
     true
 }
 
 // Whether nothing lies behind the stored numbers.
-fn rest_blank(entries: [Entry; MOST_STORED], count: usize) -> bool
-    ensures { result ≡ every is_blank (drop count entries) }
+fn rest_blank(rest: &[Entry]) -> bool
+    ensures { result ≡ every is_blank rest.now }
 {
-    let mut i = count;
-    while i < MOST_STORED {
-        let entry = entries[i];
-        if !is_blank(entry) {
-            return false;
-        }
-        i += 1;
-    }
-    true
+    rest.iter().all(|entry| is_blank(*entry))
 }
 
 // Whether all numbers still to be asked have this root.
-fn of_root(entries: [Entry; MOST_STORED], count: usize, root: u64) -> bool
-    requires { count ≤ most_stored }
-    ensures { result ≡ every (is_of root) (take count entries) }
+fn of_root(entries: &[Entry], root: u64) -> bool
+    ensures { result ≡ every (is_of root) entries.now }
 {
-    let mut i = 0;
-    while i < count {
-        let entry = entries[i];
-        if (entry.to_ask == 1) & (entry.number / 100 != root) {
-            return false;
-        }
-        i += 1;
-    }
-    true
+    entries
+        .iter()
+        .all(|entry| (entry.to_ask != 1) | (entry.number / 100 == root))
 }
 
 // Whether a radio is sound.
 pub fn sound(radio: Radio) -> bool
     ensures { result ≡ radio_sound radio }
 {
-    let count = radio.count;
-    let entries = radio.entries;
-    if MOST_STORED < count {
+    if MOST_STORED < radio.count {
         return false;
     }
     if !(numbers::is_number(radio.own) & (radio.hand_held <= 1)) {
         return false;
     }
-    if !entries_sound(entries, count) {
+    let entries = radio.entries_in();
+    if !entries_sound(entries) {
         return false;
     }
-    if !rest_blank(entries, count) {
+    if !rest_blank(&radio.entries[radio.count..]) {
         return false;
     }
-    let root = open_number(entries, count) / 100;
-    (radio.hand_held == 1) | of_root(entries, count, root)
+    let root = open_number(entries).unwrap_or(0) / 100;
+    (radio.hand_held == 1) | of_root(entries, root)
 }
 
 // A new number goes last.
@@ -171,13 +148,8 @@ pub fn with_new(radio: Radio, number: u64) -> Radio
     ensures { result ≡ holding radio radio.invoke (with_new number (entries_in radio)) }
 {
     let mut next = radio;
-    let count = radio.count;
-    next.entries[count] = Entry {
-        number,
-        unsure: 0,
-        to_ask: 0,
-    };
-    next.count = count + 1;
+    next.entries[radio.count] = Entry { number, ..BLANK };
+    next.count += 1;
     next
 }
 
@@ -185,47 +157,23 @@ pub fn with_new(radio: Radio, number: u64) -> Radio
 fn due_flag(hand_held: u8, about: u64, number: u64) -> u8
     ensures { result ≡ flag_of (due_by hand_held about number) }
 {
-    if (hand_held == 1) | (number / 100 == about / 100) {
-        return 1;
-    }
-    0
+    u8::from((hand_held == 1) | (number / 100 == about / 100))
 }
 
-// The entries with those to be asked that are due, and no others.
-fn begun_entries(
-    entries: [Entry; MOST_STORED],
-    count: usize,
-    hand_held: u8,
-    about: u64,
-) -> [Entry; MOST_STORED]
-    requires { count ≤ most_stored }
-    ensures { result ≡ begun (due_by hand_held about) (take count entries) ++ drop count entries }
-{
-    let mut all = entries;
-    let mut i = 0;
-    while i < count {
-        let entry = all[i];
-        let to_ask = due_flag(hand_held, about, entry.number);
-        all[i] = Entry {
-            number: entry.number,
-            unsure: entry.unsure,
-            to_ask,
-        };
-        i += 1;
-    }
-    all
-}
-
-// A round begins.
+// A round begins: to be asked are those entries that are due, and no others.
 pub fn begin(radio: Radio, about: u64) -> Radio
     requires { radio_sound radio ≡ true }
     ensures { result ≡ holding radio radio.invoke (begun (is_due radio about) (entries_in radio)) }
 {
-    let mut next = radio;
-    let entries = radio.entries;
-    let entries = begun_entries(entries, radio.count, radio.hand_held, about);
-    next.entries = entries;
-    next
+    let mut entries = radio.entries;
+    for i in 0..radio.count {
+        let to_ask = due_flag(radio.hand_held, about, entries[i].number);
+        entries[i] = Entry {
+            to_ask,
+            ..entries[i]
+        };
+    }
+    Radio { entries, ..radio }
 }
 
 // The places behind one move down by one.
@@ -234,17 +182,8 @@ fn closed(entries: [Entry; MOST_STORED], at: usize) -> [Entry; MOST_STORED]
     ensures { result ≡ closed_up entries at }
 {
     let mut all = entries;
-    let mut i = at;
-    while i < MOST_STORED - 1 {
-        let next = all[i + 1];
-        all[i] = next;
-        i += 1;
-    }
-    all[i] = Entry {
-        number: 0,
-        unsure: 0,
-        to_ask: 0,
-    };
+    all.copy_within(at + 1.., at);
+    all[MOST_STORED - 1] = BLANK;
     all
 }
 
@@ -255,9 +194,9 @@ fn kept(radio: Radio, at: usize, mark: u8) -> Radio
 {
     let mut next = radio;
     next.entries[at] = Entry {
-        number: radio.entries[at].number,
         unsure: mark,
         to_ask: 0,
+        ..radio.entries[at]
     };
     next
 }
@@ -267,12 +206,11 @@ fn dropped(radio: Radio, at: usize) -> Radio
     requires { (at < most_stored) × (0 < radio.count) }
     ensures { result ≡ dropped_at radio at }
 {
-    let mut next = radio;
-    let entries = radio.entries;
-    let entries = closed(entries, at);
-    next.entries = entries;
-    next.count = radio.count - 1;
-    next
+    Radio {
+        count: radio.count - 1,
+        entries: closed(radio.entries, at),
+        ..radio
+    }
 }
 
 // The open question is answered.
@@ -281,8 +219,9 @@ pub fn settle(radio: Radio, verdict: Verdict) -> Radio
     requires fact { open_of (entries_in radio) ≡ 0 → ⊥ }
     ensures { result ≡ holding radio radio.invoke (settled verdict (entries_in radio)) }
 {
-    let entries = radio.entries;
-    let at = first_to_ask(entries, radio.count);
+    let Some(at) = first_to_ask(radio.entries_in()) else {
+        unreachable!()
+    };
     match verdict {
         Verdict::Keeps => kept(radio, at, 0),
         Verdict::Drops => dropped(radio, at),

@@ -2,86 +2,63 @@
 #![tactic(auto)]
 
 ghost use Rattle.std.specs.Prelude.{◌≡◌, ◌≤◌, length};
-ghost use Rattle.streams.specs.Counts.{IsPrefixLen};
 
+use std::fmt::Display;
 use std::io::{Input, Read};
 
-// Room for the input of a program, 64 KiB; the length is what lending it needs.
-pub fn large_buffer() -> [u8; 65_536]
-    ensures { 65536 ≡ length result }
+// Room for the input of a program.
+pub const INPUT_ROOM: usize = 65_536;
+
+// Memory of a fixed size, each item the same: a caller needs only its length.
+pub fn filled<T: Copy, const N: usize>(item: T) -> [T; N]
+    ensures { N ≡ length result }
 {
-    [0; 65_536]
+    [item; N]
 }
 
-// A count, or the octets that there are where these are fewer.
-pub fn within(count: usize, octets: &[u8]) -> usize
-    ensures { IsPrefixLen result octets.now }
-{
-    if count < octets.len() {
-        return count;
-    }
-    octets.len()
-}
-
-// Octets on standard error: as the text that they are, or else with what is no character written out.
-fn put_error(rt: &impl Eprint, octets: &[u8]) {
-    let written = match str::from_utf8(octets) {
-        Ok(text) => rt.eprint(text),
-        Err(_) => rt.eprint(octets.escape_ascii()),
-    };
-    // There is no other place to say it.
-    let _ = written;
-}
-
-// Says what a program lost.
-pub fn say(rt: &impl Eprint, program: &[u8], lost: &[u8]) {
-    put_error(rt, program);
-    put_error(rt, lost);
+// Says what a program lost. There is no other place to say that this was lost too.
+pub fn say(rt: &impl Eprint, program: &str, lost: &str) {
+    let _ = eprint!(rt; "{program}{lost}");
 }
 
 // Reads until the input ends or the buffer is full; how many octets there are.
-fn read_all(rt: &(impl Input + Eprint), program: &[u8], buffer: &mut [u8]) -> usize {
+fn read_all(rt: &(impl Input + Eprint), program: &str, buffer: &mut [u8]) -> usize
+    ensures { result ≤ length buffer.new }
+{
     let mut input = rt.reader();
     let mut count = 0;
+    // Kept: a `for` is no plainer, since `read` says how far it came, and nothing is counted one by one.
     while count < buffer.len() {
-        let rest = &mut buffer[count..];
-        let Ok(more) = input.read(rest) else {
-            say(rt, program, b": input lost\n");
-            return count;
-        };
-        if more == 0 {
-            return count;
+        match input.read(&mut buffer[count..]) {
+            Ok(0) => return count,
+            Ok(more) => count += more,
+            Err(_) => {
+                say(rt, program, ": input lost\n");
+                return count;
+            }
         }
-        count += more;
     }
     count
 }
 
 // Standard input, as much of it as the buffer holds.
-pub fn read_input(rt: &(impl Input + Eprint), program: &[u8], buffer: &mut [u8]) -> usize
-    ensures { IsPrefixLen result buffer.new }
+pub fn read_input<'a>(rt: &(impl Input + Eprint), program: &str, buffer: &'a mut [u8]) -> &'a [u8]
+    ensures { length result.now ≤ length buffer.old }
 {
     let count = read_all(rt, program, buffer);
-    within(count, buffer)
+    &buffer[..count]
 }
 
-// Standard output, whole or said to be lost.
-pub fn write_output(rt: &(impl Print + Eprint), program: &[u8], octets: &[u8]) {
+// Octets on standard output, all of them or said to be lost.
+pub fn write_output(rt: &(impl Print + Eprint), program: &str, octets: &[u8]) {
     if rt.write_all(octets).is_err() {
-        say(rt, program, b": output lost\n");
+        say(rt, program, ": output lost\n");
     }
 }
 
-// A number in decimal.
-pub fn write_number(rt: &(impl Print + Eprint), program: &[u8], n: u64) {
-    if rt.print(n).is_err() {
-        say(rt, program, b": output lost\n");
-    }
-}
-
-// An octet as two hexadecimal digits.
-pub fn write_hex(rt: &(impl Print + Eprint), program: &[u8], octet: u8) {
-    if print!(rt; "{octet:02x}").is_err() {
-        say(rt, program, b": output lost\n");
+// The same of what has a text.
+pub fn print_output(rt: &(impl Print + Eprint), program: &str, text: &(impl Display + Drop)) {
+    if rt.print(text).is_err() {
+        say(rt, program, ": output lost\n");
     }
 }

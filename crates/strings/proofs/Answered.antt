@@ -1,4 +1,8 @@
 -- What is told of a text fixes the additional field's place in it, and the reader's answer on packed octets. Assumes nothing.
+use Rattle.std.specs.Prelude as core
+use Rattle.std.specs.Prelude.{Some, None, Ok, Err}
+use Rattle.answers.specs.declared.Refusal.{Refusal}
+use Rattle.answers.specs.declared.Refusal.TheVariants.{NoRoom, Unfit}
 use mathlib.Core.Path.{◌≡◌, refl, sym, ap, ◌∙◌}
 use mathlib.Core.Bool.{true, false, not}
 use mathlib.Core.Option.{Option, none, some}
@@ -9,15 +13,11 @@ use lib.ListN.{length, drop, length-append, length-take, length-drop}
 use lib.Seq.{take-append-le, drop-append-le}
 use borrow.Author.Tests.{le-ltb}
 use Rattle.answers.specs.Writing.{made_write, Stands}
-use Rattle.answers.specs.declared.Written.TheVariants.{Count, TooShort, Unfit}
-use Rattle.answers.specs.declared.Written.{Written}
 use Rattle.answers.proofs.Writing.{wrote_count, no_room, not_fit, all_good, done_good, Counted, arm_count}
 use Rattle.crews.specs.Crews.{count_of}
 use Rattle.crews.specs.declared.Crew.{Crew}
 use Rattle.packing.specs.Packing.{packed, readable, unpacked}
 use Rattle.strings.specs.declared.Fields.{Fields}
-use Rattle.strings.specs.declared.Reading.{Reading}
-use Rattle.strings.specs.declared.Reading.TheVariants.{Read, Unreadable}
 use Rattle.strings.specs.declared.ReadRequest.{ReadRequest}
 use Rattle.strings.specs.Text.{Request, request_sound, text_of}
 use Rattle.strings.specs.Reader.{fields_of}
@@ -35,7 +35,7 @@ not_error f n crew m e = absurd (let z : ◌≡◌ {A = ℕ} 0 1 = cc in omega a
 
 -- what is told of a text s, at the front of another: where its additional field ends, before the last character
 pub told_place :
-    (text s : List ℕ) (f : Fields) (g : Request) → s ≡ text_of g → length s ≤ length text → told (Read f) text ≡ tell s (some g)
+    (text s : List ℕ) (f : Fields) (g : Request) → s ≡ text_of g → length s ≤ length text → told (Some f) text ≡ tell s (some g)
     → length s ≡ f.start + f.count + 1
 told_place text s f g t h e =
     let same : request_in text f ≡ g = cc in
@@ -43,29 +43,29 @@ told_place text s f g t h e =
     let count = ap (λ (q : Request). length q.additional) same in
     omega (arith, text_behind g, ap length t, length-take f.count (drop f.start text), length-drop f.start text)
 
-told_end : (s : List ℕ) (f : Fields) → told (Read f) s ≡ tell s (fields_of s) → length s ≡ f.start + f.count + 1
+told_end : (s : List ℕ) (f : Fields) → told (Some f) s ≡ tell s (fields_of s) → length s ≡ f.start + f.count + 1
 told_end s f e = go (fields_of s) refl e
   where
-    go : (r : Option Request) → fields_of s ≡ r → told (Read f) s ≡ tell s r → length s ≡ f.start + f.count + 1
+    go : (r : Option Request) → fields_of s ≡ r → told (Some f) s ≡ tell s r → length s ≡ f.start + f.count + 1
     go none r d = not_error _ _ _ _ d
     go (some g) r d = told_place s s f g (read_only s r).1 (omega arith) d
 
 -- what stands behind the text does not matter
-pub told_front : (s more : List ℕ) (r : Reading) → told r s ≡ tell s (fields_of s) → told r (s ++ more) ≡ told r s
-told_front s more (Read f) e =
+pub told_front : (s more : List ℕ) (r : core.Option Fields) → told r s ≡ tell s (fields_of s) → told r (s ++ more) ≡ told r s
+told_front s more (Some f) e =
     let end = told_end s f e in
     let l = length-drop f.start s in
     rw (drop-append-le f.start s more (omega arith), take-append-le f.count (drop f.start s) more (omega arith))
-told_front s more Unreadable e = refl
+told_front s more None e = refl
 
 -- ---- the answer on packed octets
 
-pub unread : (os text : List ℕ) → request_of os ≡ none → text ≡ text_beside os → made_read (record { reading = Unreadable; text = text }) ≡ reading os
+pub unread : (os text : List ℕ) → request_of os ≡ none → text ≡ text_beside os → made_read (record { reading = None; text = text }) ≡ reading os
 unfolding reading
 unread os text e t = rw (e, t)
 
 pub read :
-    (os text more : List ℕ) (r : Reading) → readable os ≡ true → told r (unpacked os) ≡ tell (unpacked os) (fields_of (unpacked os))
+    (os text more : List ℕ) (r : core.Option Fields) → readable os ≡ true → told r (unpacked os) ≡ tell (unpacked os) (fields_of (unpacked os))
     → text ≡ unpacked os ++ more → text ≡ text_beside os → made_read (record { reading = r; text = text }) ≡ reading os
 unfolding reading request_of
 read os text more r e d t b =
@@ -83,11 +83,11 @@ tell_some text none f start crew e = not_error _ _ _ _ e
 tell_some text (some g) f start crew e = let same : g ≡ f = cc in let said : crew ≡ count_of g.additional = cc in (ap some same, said ∙ ap (λ (r : Request). count_of r.additional) same)
 
 module _ (os : List ℕ) (r : ReadRequest) (done : made_read r ≡ reading os) where
-  pub not_read : r.reading ≡ Unreadable → request_of os ≡ none
+  pub not_read : r.reading ≡ None → request_of os ≡ none
   unfolding reading
   not_read e = tell_none _ (request_of os) (rw e at (ap (λ (o : ReadOutcome). o.answer) done))
 
-  module _ (f : Fields) (e : r.reading ≡ Read f) where
+  module _ (f : Fields) (e : r.reading ≡ Some f) where
     pub told_so : fields (request_in r.text f) f.start f.crew ≡ tell (unpacked os) (request_of os)
     unfolding reading
     told_so = rw e at (ap (λ (o : ReadOutcome). o.answer) done)
@@ -101,27 +101,27 @@ module _ (os : List ℕ) (r : ReadRequest) (done : made_read r ≡ reading os) w
 -- ---- the writer's answer
 
 module _ (f : Request) (out : List ℕ) where
-  pub short : length out < writer_room → made_write TooShort out ≡ writing_request f out
+  pub short : length out < writer_room → made_write (Err NoRoom) out ≡ writing_request f out
   unfolding writing_request
   short h = sym (no_room writer_room (request_sound f) (packed (text_of f)) out h)
 
-  pub unsound : writer_room ≤ length out → request_sound f ≡ false → made_write Unfit out ≡ writing_request f out
+  pub unsound : writer_room ≤ length out → request_sound f ≡ false → made_write (Err Unfit) out ≡ writing_request f out
   unfolding writing_request
   unsound h u = sym (not_fit writer_room (request_sound f) (packed (text_of f)) out h u)
 
   pub written :
       {n : ℕ} {new : List ℕ} → writer_room ≤ length out → request_sound f ≡ true → Stands (packed (text_of f)) out n new
-      → made_write (Count n) new ≡ writing_request f out
+      → made_write (Ok n) new ≡ writing_request f out
   unfolding writing_request
   written {n} {new} h s w =
       wrote_count (packed (text_of f)) out new n (sym w.count) w.buffer ∙ sym (all_good writer_room (request_sound f) (packed (text_of f)) out h s)
 
 -- what it tells its caller
-module _ (f : Request) (out : List ℕ) (r : Written) (new : List ℕ) (done : made_write r new ≡ writing_request f out) where
-  pub string_written : writer_room ≤ length out → request_sound f ≡ true → r ≡ Count (length (packed (text_of f)))
+module _ (f : Request) (out : List ℕ) (r : core.Result ℕ Refusal) (new : List ℕ) (done : made_write r new ≡ writing_request f out) where
+  pub string_written : writer_room ≤ length out → request_sound f ≡ true → r ≡ Ok (length (packed (text_of f)))
   unfolding writing_request
   string_written room sound = (done_good _ _ (packed (text_of f)) out r new done (le-ltb _ _ room) (ap not sound)).0
 
-  pub string_counted : (n : ℕ) → r ≡ Count n → Counted writer_room (request_sound f) (packed (text_of f)) out new n
+  pub string_counted : (n : ℕ) → r ≡ Ok n → Counted writer_room (request_sound f) (packed (text_of f)) out new n
   unfolding writing_request
   string_counted n e = arm_count writer_room (request_sound f) (packed (text_of f)) out r new done n e

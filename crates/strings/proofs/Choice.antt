@@ -1,4 +1,6 @@
 -- `read_request` leaves no choice: two answers that its contract allows for one string are equal. Assumes nothing.
+use Rattle.std.specs.Prelude as core
+use Rattle.std.specs.Prelude.{Some, None, Ok, Err}
 use mathlib.Core.Path.{◌≡◌, refl, sym, ap, ◌∙◌}
 use mathlib.Core.Logic.{⊎_elim}
 use mathlib.Core.Option.{Option, none, some}
@@ -12,8 +14,6 @@ use Rattle.answers.proofs.Checks.{not_some}
 use Rattle.packing.specs.Packing.{chars_in, unpacked}
 use Rattle.packing.proofs.Outcomes.{unpacking_good}
 use Rattle.strings.specs.declared.Fields.{Fields}
-use Rattle.strings.specs.declared.Reading.{Reading}
-use Rattle.strings.specs.declared.Reading.TheVariants.{Read, Unreadable}
 use Rattle.strings.specs.declared.ReadRequest.{ReadRequest}
 use Rattle.strings.specs.Text.{Request, text_of, most_characters}
 use Rattle.strings.specs.Outcomes.{request_of, request_in, told, ReadOutcome, made_read, tell, text_beside, reading}
@@ -44,19 +44,19 @@ fields_one f h text e s c k = λ i. record {
 }
 
 told_one :
-    (text s : List ℕ) (o : Option Request) → ((g : Request) → o ≡ some g → (s ≡ text_of g) × (length s ≤ length text)) → (a b : Reading)
+    (text s : List ℕ) (o : Option Request) → ((g : Request) → o ≡ some g → (s ≡ text_of g) × (length s ≤ length text)) → (a b : core.Option Fields)
     → told a text ≡ tell s o → told b text ≡ tell s o → a ≡ b
-told_one text s none known (Read f) b p q = not_error _ _ _ _ p
-told_one text s none known Unreadable (Read h) p q = not_error _ _ _ _ q
-told_one text s none known Unreadable Unreadable p q = refl
-told_one text s (some g) known (Read f) (Read h) p q =
+told_one text s none known (Some f) b p q = not_error _ _ _ _ p
+told_one text s none known None (Some h) p q = not_error _ _ _ _ q
+told_one text s none known None None p q = refl
+told_one text s (some g) known (Some f) (Some h) p q =
     let k = known g refl in
     let d = told_place text s f g k.0 k.1 p in
     let e = told_place text s h g k.0 k.1 q in
     let start : f.start ≡ h.start = cc in
-    ap Read (fields_one f h text (cc) start (omega arith) (cc))
-told_one text s (some g) known (Read f) Unreadable p q = not_error _ _ _ _ (sym q)
-told_one text s (some g) known Unreadable b p q = not_error _ _ _ _ (sym p)
+    ap Some (fields_one f h text (cc) start (omega arith) (cc))
+told_one text s (some g) known (Some f) None p q = not_error _ _ _ _ (sym q)
+told_one text s (some g) known None b p q = not_error _ _ _ _ (sym p)
 
 pub read_request_one : (os : List ℕ) (a b : ReadRequest) → made_read a ≡ reading os → made_read b ≡ reading os → a ≡ b
 unfolding reading

@@ -1,4 +1,5 @@
 -- The fields one behind the other in a text, each read from the rest of it, and the additional field's place. Assumes nothing.
+use Rattle.std.specs.Prelude.{Some, None}
 use mathlib.Core.Path.{◌≡◌, ap, ◌∙◌}
 use mathlib.Core.Bool.{true, false}
 use mathlib.Core.Option.{Option, none, some}
@@ -18,7 +19,6 @@ use Rattle.strings.specs.declared.Operation.TheVariants.{Erase}
 use Rattle.strings.specs.declared.Erasing.{Erasing}
 use Rattle.strings.specs.declared.Erasing.TheVariants.{Forced}
 use Rattle.strings.specs.declared.Fields.{Fields}
-use Rattle.strings.specs.declared.Reading.TheVariants.{Read, Unreadable}
 use Rattle.strings.specs.Text.{request_from, crew_allowed, crew_kept}
 use Rattle.strings.specs.Reader.{Field, operation_at, service_at, number_field_at, erasing_at, additional_at, fields_of}
 use Rattle.strings.specs.Outcomes.{request_in, told, tell}
@@ -44,7 +44,7 @@ served_at s at n h k =
 -- ---- the first field that cannot be read ends the reading
 
 -- error 36
-pub ended : (s : List ℕ) → fields_of s ≡ none → told Unreadable s ≡ tell s (fields_of s)
+pub ended : (s : List ℕ) → fields_of s ≡ none → told None s ≡ tell s (fields_of s)
 ended s e = rw e
 
 module _ (s : List ℕ) where
@@ -121,7 +121,7 @@ module _ (s : List ℕ) where
 -- the additional field stands before the last character
 pub told_read :
     (text : List ℕ) (f : Fields) → fields_of text ≡ some (request_in text f) → length text ≡ f.start + f.count + 1
-    → f.crew ≡ count_of (request_in text f).additional → told (Read f) text ≡ tell text (fields_of text)
+    → f.crew ≡ count_of (request_in text f).additional → told (Some f) text ≡ tell text (fields_of text)
 told_read text f e l k =
     let rest = drop f.start text in
     let c = length-take-le f.count rest (omega (arith, length-drop f.start text)) in

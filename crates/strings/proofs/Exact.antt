@@ -1,23 +1,22 @@
 -- Each field's reader reads exactly the texts of its field, whatever stands behind them. Assumes nothing.
+use Rattle.std.specs.Prelude as core
+use Rattle.std.specs.Prelude.{Some, None, Ok, Err}
 use mathlib.Core.Path.{◌≡◌, refl, sym, ap, ◌∙◌}
 use mathlib.Core.Logic.{◌⊎◌, inl, inr, ⊎_elim}
 use mathlib.Core.Bool.{Bool, true, false}
 use mathlib.Core.Option.{Option, none, some, some-injective}
-use mathlib.Core.List.{List, [], ◌∷◌, ◌++◌, append_assoc}
+use mathlib.Core.List.{List, ◌∷◌, ◌++◌, append_assoc}
 use Prim.Native.Nat.{ℕ}
 use lib.ListN.{drop}
 use lib.Seq.{drop-append_seam}
 use lib.Dec.{eqb}
-use borrow.Author.Tests.{eqb-true}
 use Rattle.answers.specs.Begins.{begins, behind}
 use Rattle.answers.specs.Ascii.{ascii}
 use Rattle.answers.specs.Checks.{only_if}
 use Rattle.answers.specs.Leading.{leading}
-use Rattle.answers.proofs.Tests.{and_left, and_right, and_both, or_cases, or_right}
+use Rattle.answers.proofs.Tests.{and_left, and_right, and_both, or_right}
 use Rattle.answers.proofs.Checks.{not_some, bind_some, only_if_some}
-use Rattle.numbers.specs.Numbers.{is_digit, is_number, number_or_nobody, digits_up_to, digits_of, leading_number}
-use Rattle.numbers.specs.declared.NumberRead.{NumberRead}
-use Rattle.numbers.specs.declared.NumberRead.TheVariants.{Number, Unreadable}
+use Rattle.numbers.specs.Numbers.{is_digit, is_number, number_or_nobody, digits_of, leading_number}
 use Rattle.numbers.proofs.Lengths.{no_digits, nobody_or_number}
 use Rattle.numbers.proofs.Reading.{number_read_before, read_from}
 use Rattle.strings.specs.declared.Operation.{Operation}
@@ -91,14 +90,14 @@ number_exact = record { back = back; only = only }
     only : (s : List ℕ) {f : Field ℕ} → number_field_at s ≡ some f → (is_number f.got ≡ true) × (s ≡ starred f.got ++ f.rest)
     only s {f} e = go (leading_number s) refl e
       where
-        go : (r : NumberRead) → leading_number s ≡ r → starred_number s r ≡ some f → (is_number f.got ≡ true) × (s ≡ starred f.got ++ f.rest)
-        go (Number w n) r d =
-            let k = field_only w star (drop n s) d in
-            let m = read_from s w n r in (
+        go : (r : core.Option (ℕ × ℕ)) → leading_number s ≡ r → starred_number s r ≡ some f → (is_number f.got ≡ true) × (s ≡ starred f.got ++ f.rest)
+        go (Some read) r d =
+            let k = field_only read.0 star (drop read.1 s) d in
+            let m = read_from s read.0 read.1 r in (
               ap is_number (sym k.0) ∙ m.number,
               rw (append_assoc (digits_of f.got) star f.rest, ← k.0, ← k.1) m.front,
             )
-        go Unreadable r d = not_some d
+        go None r d = not_some d
 
 -- a star is no number's
 pub number_not : (s : List ℕ) → number_field_at (star ++ s) ≡ none

@@ -1,4 +1,6 @@
 -- Document 01's examples of strings, a string of each class of document 02, M-100, and M-111's notices, computed from the definitions. Assumes nothing.
+use Rattle.std.specs.Prelude as core
+use Rattle.std.specs.Prelude.{Some, None, Ok, Err}
 use mathlib.Core.Path.{◌≡◌, refl}
 use mathlib.Core.Bool.{false}
 use mathlib.Core.List.{List, [], ◌++◌}
@@ -9,11 +11,10 @@ use Rattle.answers.specs.Leading.{each, leading}
 use Rattle.answers.specs.Ascii.{ascii}
 use Rattle.numbers.specs.Numbers.{is_digit, pushed, stored_form, is_number, nobody, digits_up_to, digits_of, leading_number}
 use Rattle.numbers.specs.declared.FunctionalNumber.{FunctionalNumber}
+use Rattle.numbers.specs.declared.Msisdn.{Msisdn}
 use Rattle.crews.specs.Crews.{is_code, is_in, distinct, codes_sound, codes_in, codes_at, sound_codes_at, spaced_codes_at, counted_codes_at, crew_of, count_of}
 use Rattle.crews.specs.declared.Crew.TheVariants.{Single, Codes}
 use Rattle.packing.specs.Packing.{value_of, digits, octets_for, chars_in, padded, packed, characters, readable, filled, kept, unpacked}
-use Rattle.strings.specs.declared.NoticeReading.{NoticeReading}
-use Rattle.strings.specs.declared.NoticeReading.TheVariants.{Notice, Unreadable}
 use Rattle.strings.specs.declared.Operation.TheVariants.{Register, Erase}
 use Rattle.strings.specs.declared.Erasing.TheVariants.{Empty, Forced}
 use Rattle.strings.specs.Text.{Request, request_from, request_sound, is_additional, text_of}
@@ -97,7 +98,7 @@ not_a_lead = refl
 -- ---- notices
 
 -- what a text reads as, as a notice, once it is packed
-unfoldable pub notice_told_of : List ℕ → NoticeReading
+unfoldable pub notice_told_of : List ℕ → core.Option (FunctionalNumber × Msisdn)
 unfolding begins number_field_at leading additional_at supervisor_field_at notice_string_at notice_string_of is_additional is_digit pushed stored_form leading_number value_of digits octets_for chars_in padded packed characters readable filled kept unpacked
 notice_told_of text = notice_read (notice_string_of (packed text))
 
@@ -109,7 +110,7 @@ pub blank_written : notice_text (notice_fields number nobody) ≡ ascii "##214*0
 unfolding notice_text notice_fields digits_up_to digits_of
 blank_written = refl
 
-pub blank_reads : (notice_told_of (ascii "##214*0492123401*88**#") ≡ Notice number nobody) × (told_of (ascii "##214*0492123401*88**#") ≡ error 36)
+pub blank_reads : (notice_told_of (ascii "##214*0492123401*88**#") ≡ Some (number, nobody)) × (told_of (ascii "##214*0492123401*88**#") ≡ error 36)
 unfolding notice_told_of told_of
 blank_reads = (refl, refl)
 
@@ -118,17 +119,17 @@ pub blank_not_written : request_sound (request_from Erase number (Forced nobody)
 unfolding request_sound is_number
 blank_not_written = refl
 
-pub supervisor_reads : notice_told_of (ascii "##214*0492123401*88*4915100002*#") ≡ Notice number (record { 0 = 14915100002 })
+pub supervisor_reads : notice_told_of (ascii "##214*0492123401*88*4915100002*#") ≡ Some (number, record { 0 = 14915100002 })
 unfolding notice_told_of
 supervisor_reads = refl
 
 -- the blank form too may have an additional field of up to 30 characters, and no crew
 pub blank_thirty :
-    (notice_told_of (ascii "##214*0492123401*88**" ++ replicate 30 65 ++ ascii "#") ≡ Notice number nobody)
-    × (notice_told_of (ascii "##214*0492123401*88**" ++ replicate 31 65 ++ ascii "#") ≡ Unreadable)
+    (notice_told_of (ascii "##214*0492123401*88**" ++ replicate 30 65 ++ ascii "#") ≡ Some (number, nobody))
+    × (notice_told_of (ascii "##214*0492123401*88**" ++ replicate 31 65 ++ ascii "#") ≡ None)
 unfolding notice_told_of
 blank_thirty = (refl, refl)
 
-pub blank_no_crew : notice_told_of (ascii "##214*0492123401*88**BULK0#") ≡ Unreadable
+pub blank_no_crew : notice_told_of (ascii "##214*0492123401*88**BULK0#") ≡ None
 unfolding notice_told_of
 blank_no_crew = refl

@@ -1,27 +1,26 @@
 -- Packed texts: octets read exactly if they are the packed text of something sound, and then they are at most 63; requests are one case. Assumes nothing.
+use Rattle.std.specs.Prelude as core
+use Rattle.std.specs.Prelude.{Some, None, Ok, Err}
+use Rattle.answers.specs.declared.Refusal.{Refusal}
 use mathlib.Core.Path.{◌≡◌, refl, sym, ap, ◌∙◌}
 use mathlib.Core.Logic.{⊎_elim}
 use mathlib.Core.Bool.{Bool, true, false, cond}
 use mathlib.Core.Option.{Option, none, some}
-use mathlib.Core.List.{List, [], ◌∷◌}
+use mathlib.Core.List.{List}
 use Prim.Native.Nat.{ℕ, ◌-◌, ◌%◌, ◌≤◌, ◌<◌}
 use native.Mathlib.Omega.{arith}
 use lib.ListN.{length, get_or, replicate}
 use lib.Dec.{eqb}
-use types.Run.{OneOf, miss}
-use denote.Enum.Declared.{tag_of}
 use borrow.Author.Tests.{eqb-true}
 use Rattle.answers.specs.Writing.{made_write}
-use Rattle.answers.specs.declared.Written.{Written}
-use Rattle.answers.specs.declared.Written.TheVariants.{Count, TooShort, Unfit}
-use Rattle.answers.specs.contracts.Written.{the_type}
 use Rattle.answers.proofs.Tests.{less_or_not, and_left}
 use Rattle.answers.proofs.Checks.{not_some}
 use Rattle.packing.specs.Packing.{chars_in, takes, packed, readable, filled, characters, unpacked}
 use Rattle.packing.specs.Outcomes.{unpacking}
 use Rattle.bases.proofs.Digits.{Below}
 use Rattle.packing.proofs.Laws.{chars_count, length_unpacked, kept_less, kept_all}
-use Rattle.packing.proofs.Outcomes.{unpack_short, unpack_unfit}
+use Rattle.packing.proofs.Outcomes.{unpacking_good}
+use Rattle.answers.proofs.Writing.{made_one}
 use Rattle.packing.proofs.RoundTrip.{packed_reads, unpacked_packed, packed_unpacked}
 use Rattle.strings.specs.Text.{Request, request_sound, text_of, most_characters, most_octets}
 use Rattle.strings.specs.Reader.{unpacked_by, fields_of}
@@ -86,13 +85,17 @@ module _ {X : Type 0} {reader : List ℕ → Option X} {text : X → List ℕ} {
           let t = k.only (unpacked os) (bits_read reader os e).1 in
           absurd (omega (arith, unpacked_least os h, ap length t.1, k.short x t.0))
 
-  -- where the unpacker gives no count, there are too many characters, or unreadable bits
+  -- where the unpacker refuses, there are too many characters, or unreadable bits
   pub uncounted :
-      (os new : List ℕ) (r : Written) → made_write r new ≡ unpacking os (replicate most_characters 0) → OneOf (1 ∷ 2 ∷ []) (tag_of the_type r)
+      (os new : List ℕ) (r : core.Result ℕ Refusal) (e : Refusal) → made_write r new ≡ unpacking os (replicate most_characters 0) → r ≡ Err e
       → unpacked_by reader os ≡ none
-  uncounted os new (Count n) done t = absurd (miss (1 ∷ 2 ∷ []) 0 tt t)
-  uncounted os new TooShort done t = octets_long os (unpack_short os _ TooShort new done refl).0
-  uncounted os new Unfit done t = bits_bad reader os (unpack_unfit os _ Unfit new done refl).1
+  uncounted os new r e done refused = ⊎_elim (octets_long os) (λ h. go (readable os) refl h) (less_or_not most_characters (chars_in (length os)))
+    where
+      go : (b : Bool) → readable os ≡ b → chars_in (length os) ≤ most_characters → unpacked_by reader os ≡ none
+      go false bad h = bits_bad reader os bad
+      go true good h =
+          let counted = (made_one r (Ok (length (unpacked os))) new _ (done ∙ unpacking_good os (replicate most_characters 0) h good) refl).0 in
+          absurd (let z : ◌≡◌ {A = ℕ} 0 1 = cc in omega arith)
 
 -- ---- requests
 

@@ -1,4 +1,6 @@
 -- What a number's field, a notice's supervisor and the fields of an erasure come to, by the tests in their order. Assumes nothing.
+use Rattle.std.specs.Prelude as core
+use Rattle.std.specs.Prelude.{Some, None, Ok, Err}
 use mathlib.Core.Path.{◌≡◌}
 use mathlib.Core.Bool.{true, false}
 use mathlib.Core.Option.{none}
@@ -10,24 +12,21 @@ use lib.Seq.{drop-drop}
 use Rattle.answers.specs.Begins.{begins}
 use Rattle.answers.specs.Ascii.{ascii}
 use Rattle.numbers.specs.Numbers.{leading_number}
-use Rattle.numbers.specs.declared.NumberRead.TheVariants.{Number, Unreadable}
-use Rattle.strings.specs.declared.NumberFieldRead.{NumberFieldRead}
-use Rattle.strings.specs.declared.NumberFieldRead.TheVariants.{Read as NumberField, Unreadable as NoNumber}
 use Rattle.strings.specs.declared.Operation.{Operation}
 use Rattle.strings.specs.declared.Erasing.TheVariants.{Empty, Forced}
 use Rattle.strings.specs.Text.{may_force, star}
 use Rattle.strings.specs.Reader.{number_field_at, forced_at, erasing_at}
 use Rattle.strings.specs.Notices.{supervisor_field_at}
-use Rattle.strings.specs.Found.{Found, NumberFieldIs}
+use Rattle.strings.specs.Found.{Found, FieldIs}
 use Rattle.answers.proofs.Begins.{begins_within}
 
 -- ---- a number and its star
 
-pub number_none : (s : List ℕ) → leading_number s ≡ Unreadable → number_field_at s ≡ none
+pub number_none : (s : List ℕ) → leading_number s ≡ None → number_field_at s ≡ none
 unfolding number_field_at
 number_none s e = rw e
 
-module _ (s : List ℕ) (w n : ℕ) (read : leading_number s ≡ Number w n) where
+module _ (s : List ℕ) (w n : ℕ) (read : leading_number s ≡ Some (w, n)) where
   pub number_open : begins star (drop n s) ≡ false → number_field_at s ≡ none
   unfolding number_field_at
   number_open e = rw (read, e)
@@ -43,10 +42,10 @@ module _ (s : List ℕ) where
   unfolding supervisor_field_at
   supervisor_blank e = record { within = begins_within star s e; found = rw e }
 
-  pub supervisor_named : (r : NumberFieldRead) → begins star s ≡ false → NumberFieldIs number_field_at r s → NumberFieldIs supervisor_field_at r s
+  pub supervisor_named : (r : core.Option (ℕ × ℕ)) → begins star s ≡ false → FieldIs number_field_at r s → FieldIs supervisor_field_at r s
   unfolding supervisor_field_at
-  supervisor_named (NumberField w n) e k = record { within = k.within; found = rw e k.found }
-  supervisor_named NoNumber e k = rw e k
+  supervisor_named (Some read) e k = record { within = k.within; found = rw e k.found }
+  supervisor_named None e k = rw e k
 
 -- ---- supervisor field and MSISDN to erase, each with its star
 

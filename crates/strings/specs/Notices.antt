@@ -1,5 +1,6 @@
 -- Document 01, "Notices", and document 02, M-111: the text of a notice, and how it is read back; a forced erasure's is one case (proofs/Notices). Assumes nothing.
-use Rattle.std.specs.Prelude.{ℕ, Bool, not, cond, ◌&&◌, List, [], ◌∷◌, length, leb}
+use Rattle.std.specs.Prelude as core
+use Rattle.std.specs.Prelude.{ℕ, Bool, not, cond, ◌&&◌, List, [], ◌∷◌, length, leb, Some, None}
 use Rattle.std.proofs.Math.Option.{Option, none, some}
 use Rattle.answers.specs.Ascii.{ascii}
 use Rattle.answers.specs.Begins.{behind}
@@ -9,8 +10,6 @@ use Rattle.numbers.specs.Numbers.{is_number, is_nobody, number_or_nobody, digits
 use Rattle.numbers.specs.declared.FunctionalNumber.{FunctionalNumber}
 use Rattle.numbers.specs.declared.Msisdn.{Msisdn}
 use Rattle.crews.specs.Crews.{is_bulk}
-use Rattle.strings.specs.declared.NoticeReading.{NoticeReading}
-use Rattle.strings.specs.declared.NoticeReading.TheVariants.{Notice, Unreadable}
 use Rattle.strings.specs.Text.{are_additional, most_additional, star, hash}
 use Rattle.strings.specs.Reader.{unpacked_by, Field, field_at, or_else, number_field_at, additional_at}
 
@@ -71,6 +70,6 @@ unfoldable pub notice_string_of : List ℕ → Option NoticeString
 notice_string_of os = unpacked_by notice_string_at os
 
 -- what the reader answers: the number and the supervisor
-abbrev pub notice_read : Option NoticeString → NoticeReading
-notice_read none = Unreadable
-notice_read (some n) = Notice n.number n.supervisor
+abbrev pub notice_read : Option NoticeString → core.Option (FunctionalNumber × Msisdn)
+notice_read none = None
+notice_read (some n) = Some (n.number, n.supervisor)

@@ -1,5 +1,6 @@
 -- What the reader and the writer of the packed request string answer and leave, for every input. Assumes nothing.
-use Rattle.std.specs.Prelude.{ℕ, ◌-◌, not, List, length, take, drop, replicate, ltb}
+use Rattle.std.specs.Prelude as core
+use Rattle.std.specs.Prelude.{ℕ, ◌-◌, not, List, length, take, drop, replicate, ltb, Some, None}
 use Rattle.std.proofs.Math.Option.{Option, none, some}
 use Rattle.answers.specs.Writing.{WriteOutcome, writing}
 use Rattle.crews.specs.Crews.{count_of}
@@ -7,8 +8,6 @@ use Rattle.crews.specs.declared.Crew.{Crew}
 use Rattle.packing.specs.Packing.{packed, unpacked}
 use Rattle.packing.specs.Outcomes.{unpacking}
 use Rattle.strings.specs.declared.Fields.{Fields}
-use Rattle.strings.specs.declared.Reading.{Reading}
-use Rattle.strings.specs.declared.Reading.TheVariants.{Read, Unreadable}
 use Rattle.strings.specs.declared.ReadRequest.{ReadRequest}
 use Rattle.strings.specs.Text.{Request, request_sound, text_of, most_characters}
 use Rattle.strings.specs.Reader.{unpacked_by, fields_of}
@@ -32,9 +31,9 @@ request_in text f = record {
 }
 
 -- the paper's class, number and values for each case of the answer
-abbrev pub told : Reading → List ℕ → Told
-told (Read f) text = fields (request_in text f) f.start f.crew
-told Unreadable text = error 36
+abbrev pub told : core.Option Fields → List ℕ → Told
+told (Some f) text = fields (request_in text f) f.start f.crew
+told None text = error 36
 
 -- what was told, and the text beside it
 pub record ReadOutcome : Type 0 where

@@ -1,5 +1,6 @@
 -- Document 01, "Request string": how the fields are read from a text. "Each field is read from the remaining part of the string; the first field that cannot be read ends the reading with error 36." Assumes nothing.
-use Rattle.std.specs.Prelude.{ℕ, ◌+◌, cond, ◌&&◌, List, ◌++◌, length, take, drop, leb, eqb}
+use Rattle.std.specs.Prelude as core
+use Rattle.std.specs.Prelude.{ℕ, ◌+◌, cond, ◌&&◌, List, ◌++◌, length, take, drop, leb, eqb, Some, None}
 use Rattle.std.proofs.Math.Option.{Option, none, some}
 use Rattle.answers.specs.Ascii.{ascii}
 use Rattle.answers.specs.Begins.{begins, behind}
@@ -7,8 +8,6 @@ use Rattle.answers.specs.Leading.{leading}
 use Rattle.answers.specs.Checks.{◌>>=◌, only_if}
 use Rattle.packing.specs.Packing.{readable, unpacked}
 use Rattle.numbers.specs.Numbers.{leading_number}
-use Rattle.numbers.specs.declared.NumberRead.{NumberRead}
-use Rattle.numbers.specs.declared.NumberRead.TheVariants.{Number, Unreadable}
 use Rattle.strings.specs.declared.Operation.{Operation}
 use Rattle.strings.specs.declared.Operation.TheVariants.{Register, Erase, Interrogate}
 use Rattle.strings.specs.declared.Erasing.{Erasing}
@@ -44,9 +43,9 @@ unfoldable pub service_at : List ℕ → Option (List ℕ)
 service_at s = behind (service_text ++ star) s
 
 -- a number in stored form, read from s, and the star behind it
-abbrev pub starred_number : List ℕ → NumberRead → Option (Field ℕ)
-starred_number s (Number w n) = field_at w star (drop n s)
-starred_number s Unreadable = none
+abbrev pub starred_number : List ℕ → core.Option (ℕ × ℕ) → Option (Field ℕ)
+starred_number s (Some read) = field_at read.0 star (drop read.1 s)
+starred_number s None = none
 
 unfoldable pub number_field_at : List ℕ → Option (Field ℕ)
 number_field_at s = starred_number s (leading_number s)

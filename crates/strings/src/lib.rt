@@ -3,14 +3,14 @@
 
 ghost use Rattle.std.specs.Prelude.{◌≡◌, true, ◌+◌, ◌<◌};
 ghost use Rattle.strings.specs.Text.{is_additional, may_force, may_carry, crew_allowed};
-ghost use Rattle.strings.specs.Reader.{number_field_at, leading_additional, fields_of};
-ghost use Rattle.strings.specs.Found.{OperationIs, ServiceIs, NumberFieldIs, ErasingIs, AdditionalIs};
+ghost use Rattle.strings.specs.Reader.{operation_at, number_field_at, erasing_at, leading_additional, fields_of};
+ghost use Rattle.strings.specs.Found.{FieldIs, ServiceIs, AdditionalIs};
 ghost use Rattle.strings.specs.Outcomes.{told, tell, made_read, reading};
 ghost use Rattle.strings.specs.Notices.{supervisor_field_at, notice_string_at, notice_string_of, notice_read};
 
-use answers::{Written, begins_with, begins_with_three, begins_with_two, stands_at};
+use answers::{begins_with, stands_at};
 use crews::{Crew, LEAD_CODE};
-use numbers::{FunctionalNumber, Msisdn, NumberRead};
+use numbers::{FunctionalNumber, Msisdn};
 
 // An additional field has at most so many characters.
 pub const MOST_ADDITIONAL: usize = 30;
@@ -22,7 +22,7 @@ pub const MOST_CHARACTERS: usize = 72;
 pub const CODING_SCHEME: u8 = 0x0F;
 
 // What is asked for: `**`, `##` or `*#`.
-#[derive(Clone, Copy)]
+#[derive(Clone, Copy, Debug, PartialEq, Eq)]
 pub enum Operation {
     Register,
     Erase,
@@ -30,14 +30,15 @@ pub enum Operation {
 }
 
 // The supervisor field and the MSISDN to erase: both empty, or `88` and the holder that a forced erasure names.
-#[derive(Clone, Copy)]
+// Kept: an `Option<Msisdn>` is no plainer, since the paper has these two cases of two fields, and the definitions and theorems name them.
+#[derive(Clone, Copy, Debug, PartialEq, Eq)]
 pub enum Erasing {
     Empty,
     Forced(Msisdn),
 }
 
 // The fields of a request; the additional field by its start and its count of characters in the unpacked text, and what it says of a crew.
-#[derive(Clone, Copy)]
+#[derive(Clone, Copy, Debug, PartialEq, Eq)]
 pub struct Fields {
     pub operation: Operation,
     pub number: FunctionalNumber,
@@ -47,177 +48,114 @@ pub struct Fields {
     pub crew: Crew,
 }
 
-// The fields, or error 36.
-#[derive(Clone, Copy)]
-pub enum Reading {
-    Read(Fields),
-    Unreadable,
-}
-
-// What was read, beside the unpacked text in which the additional field stands.
-#[derive(Clone, Copy)]
+// The fields, or none for error 36, beside the unpacked text in which the additional field stands.
+#[derive(Clone, Copy, Debug, PartialEq, Eq)]
 pub struct ReadRequest {
-    pub reading: Reading,
+    pub reading: Option<Fields>,
     pub text: [u8; MOST_CHARACTERS],
 }
 
-// A notice's number and its supervisor, 0 where the MSISDN is blank; or octets that are no notice's.
-#[derive(Clone, Copy)]
-pub enum NoticeReading {
-    Notice(FunctionalNumber, Msisdn),
-    Unreadable,
-}
-
-// What a field's reader answers: the field at the front of a part and how far it reaches, or that it cannot be read.
-#[derive(Clone, Copy)]
-enum OperationRead {
-    Read(Operation, usize),
-    Unreadable,
-}
-
-#[derive(Clone, Copy)]
-enum ServiceRead {
-    Read(usize),
-    Unreadable,
-}
-
-#[derive(Clone, Copy)]
-enum NumberFieldRead {
-    Read(u64, usize),
-    Unreadable,
-}
-
-#[derive(Clone, Copy)]
-enum ErasingRead {
-    Read(Erasing, usize),
-    Unreadable,
-}
-
-#[derive(Clone, Copy)]
-enum AdditionalRead {
-    Read(usize, Crew),
-    Unreadable,
-}
-
 // The operation.
-fn read_operation(part: &[u8]) -> OperationRead
-    ensures { OperationIs result part.now }
+fn read_operation(part: &[u8]) -> Option<(Operation, usize)>
+    ensures { FieldIs operation_at result part.now }
 {
-    if begins_with_two(part, b'*', b'*') {
-        return OperationRead::Read(Operation::Register, 2);
+    if begins_with(part, b"**") {
+        return Some((Operation::Register, 2));
     }
-    if begins_with_two(part, b'#', b'#') {
-        return OperationRead::Read(Operation::Erase, 2);
+    if begins_with(part, b"##") {
+        return Some((Operation::Erase, 2));
     }
-    if begins_with_two(part, b'*', b'#') {
-        return OperationRead::Read(Operation::Interrogate, 2);
+    if begins_with(part, b"*#") {
+        return Some((Operation::Interrogate, 2));
     }
-    OperationRead::Unreadable
+    None
 }
 
 // `214` and its star.
-fn read_service(part: &[u8]) -> ServiceRead
+fn read_service(part: &[u8]) -> Option<usize>
     ensures { ServiceIs result part.now }
 {
     if begins_with(part, b"214*") {
-        return ServiceRead::Read(4);
+        return Some(4);
     }
-    ServiceRead::Unreadable
+    None
 }
 
 // A number and its star.
-fn read_number_field(part: &[u8]) -> NumberFieldRead
-    ensures { NumberFieldIs number_field_at result part.now }
+fn read_number_field(part: &[u8]) -> Option<(u64, usize)>
+    ensures { FieldIs number_field_at result part.now }
 {
-    let NumberRead::Number(word, n) = numbers::read_number(part) else {
-        return NumberFieldRead::Unreadable;
+    let Some((word, n)) = numbers::read_number(part) else {
+        return None;
     };
     if !stands_at(part, n, b'*') {
-        return NumberFieldRead::Unreadable;
+        return None;
     }
-    NumberFieldRead::Read(word, n + 1)
+    Some((word, n + 1))
 }
 
 // Whether the operation may be a forced one: with `##` only.
 pub fn may_force(operation: Operation) -> bool
     ensures { result ≡ may_force operation }
 {
-    match operation {
-        Operation::Register => false,
-        Operation::Erase => true,
-        Operation::Interrogate => false,
-    }
+    operation == Operation::Erase
 }
 
 // Supervisor field and MSISDN to erase, each with its star: both empty, or `88` and a number.
-fn read_erasing(operation: Operation, part: &[u8]) -> ErasingRead
-    ensures { ErasingIs operation result part.now }
+fn read_erasing(operation: Operation, part: &[u8]) -> Option<(Erasing, usize)>
+    ensures { FieldIs (erasing_at operation) result part.now }
 {
-    if begins_with_two(part, b'*', b'*') {
-        return ErasingRead::Read(Erasing::Empty, 2);
+    if begins_with(part, b"**") {
+        return Some((Erasing::Empty, 2));
     }
     if !may_force(operation) {
-        return ErasingRead::Unreadable;
+        return None;
     }
-    if !begins_with_three(part, b'8', b'8', b'*') {
-        return ErasingRead::Unreadable;
+    if !begins_with(part, b"88*") {
+        return None;
     }
-    let NumberFieldRead::Read(word, n) = read_number_field(&part[3..]) else {
-        return ErasingRead::Unreadable;
+    let Some((word, n)) = read_number_field(&part[3..]) else {
+        return None;
     };
-    ErasingRead::Read(Erasing::Forced(Msisdn(word)), 3 + n)
+    Some((Erasing::Forced(Msisdn(word)), 3 + n))
 }
 
 // Whether a character may stand in an additional field: a digit, a letter A–Z or a space.
 fn is_additional(c: u8) -> bool
     ensures { result ≡ is_additional c }
 {
-    (b'0' <= c) & (c <= b'9') | (b'A' <= c) & (c <= b'Z') | (c == b' ')
+    c.is_ascii_digit() | c.is_ascii_uppercase() | (c == b' ')
 }
 
 // How many characters at the front of a part may stand in an additional field.
 pub fn leading_additional(part: &[u8]) -> usize
     ensures { result ≡ leading_additional part.now }
 {
-    let mut n = 0;
-    while n < part.len() {
-        if !is_additional(part[n]) {
-            return n;
-        }
-        n += 1;
-    }
-    n
+    part.iter().take_while(|c| is_additional(**c)).count()
 }
 
 // The additional field and what it says of a crew, and `#` as last character.
-fn read_additional(part: &[u8]) -> AdditionalRead
+fn read_additional(part: &[u8]) -> Option<(usize, Crew)>
     ensures { AdditionalIs result part.now }
 {
     let n = leading_additional(part);
     if MOST_ADDITIONAL < n {
-        return AdditionalRead::Unreadable;
+        return None;
     }
     if !stands_at(part, n, b'#') {
-        return AdditionalRead::Unreadable;
+        return None;
     }
     if part.len() != n + 1 {
-        return AdditionalRead::Unreadable;
+        return None;
     }
-    AdditionalRead::Read(n, crews::read_crew(&part[..n]))
+    Some((n, crews::read_crew(&part[..n])))
 }
 
 // Whether a request may carry a crew: with register and plain erase only.
 fn may_carry(operation: Operation, erasing: Erasing) -> bool
     ensures { result ≡ may_carry operation erasing }
 {
-    let Erasing::Empty = erasing else {
-        return false;
-    };
-    match operation {
-        Operation::Register => true,
-        Operation::Erase => true,
-        Operation::Interrogate => false,
-    }
+    erasing == Erasing::Empty && operation != Operation::Interrogate
 }
 
 // Whether what an additional field says of a crew may stand beside the other fields.
@@ -237,32 +175,33 @@ pub fn crew_allowed(
 }
 
 // The fields of a text, each read from the rest of it; the first that cannot be read ends the reading.
-fn read_fields(text: &[u8]) -> Reading
+// Kept: `let .. else` on each field's answer in place of `?`, a form that the project was given (docs/DECISIONS.md, "Forms").
+fn read_fields(text: &[u8]) -> Option<Fields>
     ensures { told result text.now ≡ tell text.now (fields_of text.now) }
 {
-    let OperationRead::Read(operation, cursor) = read_operation(text) else {
-        return Reading::Unreadable;
+    let Some((operation, cursor)) = read_operation(text) else {
+        return None;
     };
-    let ServiceRead::Read(n) = read_service(&text[cursor..]) else {
-        return Reading::Unreadable;
-    };
-    let cursor = cursor + n;
-    let NumberFieldRead::Read(word, n) = read_number_field(&text[cursor..]) else {
-        return Reading::Unreadable;
+    let Some(n) = read_service(&text[cursor..]) else {
+        return None;
     };
     let cursor = cursor + n;
-    let ErasingRead::Read(erasing, n) = read_erasing(operation, &text[cursor..]) else {
-        return Reading::Unreadable;
+    let Some((word, n)) = read_number_field(&text[cursor..]) else {
+        return None;
+    };
+    let cursor = cursor + n;
+    let Some((erasing, n)) = read_erasing(operation, &text[cursor..]) else {
+        return None;
     };
     let start = cursor + n;
-    let AdditionalRead::Read(count, crew) = read_additional(&text[start..]) else {
-        return Reading::Unreadable;
+    let Some((count, crew)) = read_additional(&text[start..]) else {
+        return None;
     };
     let number = FunctionalNumber(word);
     if !crew_allowed(operation, number, erasing, crew) {
-        return Reading::Unreadable;
+        return None;
     }
-    Reading::Read(Fields {
+    Some(Fields {
         operation,
         number,
         erasing,
@@ -277,9 +216,9 @@ pub fn read_request(octets: &[u8]) -> ReadRequest
     ensures { made_read result ≡ reading octets.now }
 {
     let mut text = [0u8; MOST_CHARACTERS];
-    let Written::Count(n) = packing::unpack(octets, &mut text) else {
+    let Ok(n) = packing::unpack(octets, &mut text) else {
         return ReadRequest {
-            reading: Reading::Unreadable,
+            reading: None,
             text,
         };
     };
@@ -288,51 +227,51 @@ pub fn read_request(octets: &[u8]) -> ReadRequest
 }
 
 // A notice's supervisor: a number and its star, or the star alone.
-fn read_supervisor(part: &[u8]) -> NumberFieldRead
-    ensures { NumberFieldIs supervisor_field_at result part.now }
+fn read_supervisor(part: &[u8]) -> Option<(u64, usize)>
+    ensures { FieldIs supervisor_field_at result part.now }
 {
     if stands_at(part, 0, b'*') {
-        return NumberFieldRead::Read(0, 1);
+        return Some((0, 1));
     }
     read_number_field(part)
 }
 
 // The fields of a notice's text, each read from the rest of it.
-fn read_notice_fields(text: &[u8]) -> NoticeReading
+fn read_notice_fields(text: &[u8]) -> Option<(FunctionalNumber, Msisdn)>
     ensures { result ≡ notice_read (notice_string_at text.now) }
 {
     if !begins_with(text, b"##214*") {
-        return NoticeReading::Unreadable;
+        return None;
     }
-    let NumberFieldRead::Read(word, n) = read_number_field(&text[6..]) else {
-        return NoticeReading::Unreadable;
+    let Some((word, n)) = read_number_field(&text[6..]) else {
+        return None;
     };
     let number = FunctionalNumber(word);
     let cursor = 6 + n;
-    if !begins_with_three(&text[cursor..], b'8', b'8', b'*') {
-        return NoticeReading::Unreadable;
+    if !begins_with(&text[cursor..], b"88*") {
+        return None;
     }
     let cursor = cursor + 3;
-    let NumberFieldRead::Read(word, n) = read_supervisor(&text[cursor..]) else {
-        return NoticeReading::Unreadable;
+    let Some((word, n)) = read_supervisor(&text[cursor..]) else {
+        return None;
     };
     let supervisor = Msisdn(word);
-    let AdditionalRead::Read(_, crew) = read_additional(&text[cursor + n..]) else {
-        return NoticeReading::Unreadable;
+    let Some((_, crew)) = read_additional(&text[cursor + n..]) else {
+        return None;
     };
     if !crew_allowed(Operation::Erase, number, Erasing::Forced(supervisor), crew) {
-        return NoticeReading::Unreadable;
+        return None;
     }
-    NoticeReading::Notice(number, supervisor)
+    Some((number, supervisor))
 }
 
 // Reads a packed notice; octets of too many characters for any, or with unreadable bits, are no notice's.
-pub fn read_notice(octets: &[u8]) -> NoticeReading
+pub fn read_notice(octets: &[u8]) -> Option<(FunctionalNumber, Msisdn)>
     ensures { result ≡ notice_read (notice_string_of octets.now) }
 {
     let mut text = [0u8; MOST_CHARACTERS];
-    let Written::Count(n) = packing::unpack(octets, &mut text) else {
-        return NoticeReading::Unreadable;
+    let Ok(n) = packing::unpack(octets, &mut text) else {
+        return None;
     };
     read_notice_fields(&text[..n])
 }

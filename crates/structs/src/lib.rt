@@ -2,19 +2,21 @@
 #![tactic(auto)]
 
 ghost use Rattle.std.specs.Prelude.{◌≡◌};
+ghost use Rattle.answers.specs.Numbers.{refusal_number};
 ghost use Rattle.answers.specs.Writing.{said};
+ghost use Rattle.rules.specs.Answers.{refusal_class};
 ghost use Rattle.tables.specs.Figures.{said_recount};
-ghost use Rattle.image.specs.Images.{said_write, said_read};
+ghost use Rattle.image.specs.Images.{said_read};
 ghost use Rattle.timetable.specs.Timetable.{said_close, said_compact, said_add};
 ghost use Rattle.structs.specs.Numbers.{of_said, struct_of};
 ghost use Rattle.structs.specs.Figures.{of_figures};
 ghost use Rattle.structs.specs.Images.{of_image};
 ghost use Rattle.structs.specs.Changes.{of_change};
 
-use answers::Written;
-use image::{ImageRead, ImageWritten};
-use tables::Recounted;
-use timetable::{Added, Closed, Compacted};
+use answers::Refusal;
+use image::ImageRows;
+use tables::Figures;
+use timetable::Compacted;
 
 // The classes of an answer.
 const WRITTEN: u32 = 0;
@@ -35,13 +37,10 @@ const CLOSED: u32 = 12;
 
 const ROWS: u32 = 13;
 
-// The refusal of an unsound table.
-const UNSOUND_TABLE: u32 = 2;
-
 // What a function answers: the class; the number of a refusal, an error, an outcome or a result; the count of octets or characters;
 // the holder's MSISDN, the notice's addressee or the number found.
 #[repr(C)]
-#[derive(Clone, Copy)]
+#[derive(Clone, Copy, Debug, PartialEq, Eq)]
 pub struct Answer {
     pub class: u32,
     pub number: u32,
@@ -51,7 +50,7 @@ pub struct Answer {
 
 // What a recount answers: the class; the number of a refusal; the numbers held, the notices waiting and the notices in flight.
 #[repr(C)]
-#[derive(Clone, Copy)]
+#[derive(Clone, Copy, Debug, PartialEq, Eq)]
 pub struct FiguresRead {
     pub class: u32,
     pub number: u32,
@@ -62,7 +61,7 @@ pub struct FiguresRead {
 
 // What an image's reader answers: the class; the number of a refusal; how many rows of the table and of the list it has.
 #[repr(C)]
-#[derive(Clone, Copy)]
+#[derive(Clone, Copy, Debug, PartialEq, Eq)]
 pub struct ImageCounts {
     pub class: u32,
     pub number: u32,
@@ -82,115 +81,108 @@ pub fn numbered(class: u32, number: u32) -> Answer
     }
 }
 
-// A writer's answer.
-pub fn of_written(written: Written) -> Answer
+// The paper's number of a refusal.
+fn number_of(refusal: Refusal) -> u32
+    ensures { result ≡ refusal_number refusal }
+{
+    u32::from(u8::from(refusal))
+}
+
+// A refusal.
+pub fn refused(refusal: Refusal) -> Answer
+    ensures { result ≡ struct_of refusal_class (refusal_number refusal) 0 0 }
+{
+    numbered(REFUSAL, number_of(refusal))
+}
+
+// A writer's answer: how many octets or characters, also of an image, or a refusal.
+pub fn of_written(written: Result<usize, Refusal>) -> Answer
     ensures { result ≡ of_said (said written) }
 {
     match written {
-        Written::Count(count) => Answer {
-            class: WRITTEN,
-            number: 0,
+        Ok(count) => Answer {
             count,
-            value: 0,
+            ..numbered(WRITTEN, 0)
         },
-        Written::TooShort => numbered(REFUSAL, 1),
-        Written::Unfit => numbered(REFUSAL, 9),
+        Err(refusal) => refused(refusal),
     }
 }
 
 // A recount's answer.
-pub fn of_recount(recounted: Recounted) -> FiguresRead
+pub fn of_recount(recounted: Result<Figures, Refusal>) -> FiguresRead
     ensures { result ≡ of_figures (said_recount recounted) }
 {
     match recounted {
-        Recounted::Unsound => FiguresRead {
-            class: REFUSAL,
-            number: UNSOUND_TABLE,
-            held: 0,
-            waiting: 0,
-            in_flight: 0,
-        },
-        Recounted::Counted(figures) => FiguresRead {
+        Ok(figures) => FiguresRead {
             class: COUNTED,
             number: 0,
             held: figures.held,
             waiting: figures.waiting,
             in_flight: figures.flying,
         },
-    }
-}
-
-// An image's size, or a refusal.
-pub fn of_image_written(written: ImageWritten) -> Answer
-    ensures { result ≡ of_said (said_write written) }
-{
-    match written {
-        ImageWritten::Refused(n) => numbered(REFUSAL, n as u32),
-        ImageWritten::Octets(count) => Answer {
-            class: WRITTEN,
-            number: 0,
-            count,
-            value: 0,
+        Err(_) => FiguresRead {
+            class: REFUSAL,
+            number: number_of(Refusal::UnsoundTable),
+            held: 0,
+            waiting: 0,
+            in_flight: 0,
         },
     }
 }
 
 // The rows that an image had, or a refusal.
-pub fn of_image_read(read: ImageRead) -> ImageCounts
+pub fn of_image_read(read: Result<ImageRows, Refusal>) -> ImageCounts
     ensures { result ≡ of_image (said_read read) }
 {
     match read {
-        ImageRead::Refused(n) => ImageCounts {
-            class: REFUSAL,
-            number: n as u32,
-            numbers: 0,
-            subscribers: 0,
-        },
-        ImageRead::Rows(numbers, subscribers) => ImageCounts {
+        Ok(rows) => ImageCounts {
             class: READ,
             number: 0,
-            numbers,
-            subscribers,
+            numbers: rows.numbers,
+            subscribers: rows.subscribers,
+        },
+        Err(refusal) => ImageCounts {
+            class: REFUSAL,
+            number: number_of(refusal),
+            numbers: 0,
+            subscribers: 0,
         },
     }
 }
 
 // A number closed, or a refusal.
-pub fn of_closed(closed: Closed) -> Answer
+pub fn of_closed(closed: Result<(), Refusal>) -> Answer
     ensures { result ≡ of_change (said_close closed) }
 {
     match closed {
-        Closed::Refused(n) => numbered(REFUSAL, n as u32),
-        Closed::Done => numbered(CLOSED, 0),
+        Ok(()) => numbered(CLOSED, 0),
+        Err(refusal) => refused(refusal),
     }
 }
 
 // The rows now in use and how many went, or a refusal.
-pub fn of_compacted(compacted: Compacted) -> Answer
+pub fn of_compacted(compacted: Result<Compacted, Refusal>) -> Answer
     ensures { result ≡ of_change (said_compact compacted) }
 {
     match compacted {
-        Compacted::Refused(n) => numbered(REFUSAL, n as u32),
-        Compacted::Rows(gone, used) => Answer {
-            class: ROWS,
-            number: 0,
-            count: used,
-            value: gone as u64,
+        Ok(rows) => Answer {
+            count: rows.used,
+            value: rows.gone as u64,
+            ..numbered(ROWS, 0)
         },
+        Err(refusal) => refused(refusal),
     }
 }
 
 // The rows now in use, or a refusal.
-pub fn of_added(added: Added) -> Answer
+pub fn of_added(added: Result<usize, Refusal>) -> Answer
     ensures { result ≡ of_change (said_add added) }
 {
     match added {
-        Added::Refused(n) => numbered(REFUSAL, n as u32),
-        Added::Rows(used) => Answer {
-            class: ROWS,
-            number: 0,
+        Ok(used) => Answer {
             count: used,
-            value: 0,
+            ..numbered(ROWS, 0)
         },
+        Err(refusal) => refused(refusal),
     }
 }

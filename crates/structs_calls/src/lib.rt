@@ -4,17 +4,19 @@
 ghost use Rattle.std.specs.Prelude.{◌≡◌};
 ghost use Rattle.visits.specs.Said.{said_request, said_sending, said_result, said_finding};
 ghost use Rattle.exchange.specs.Said.{said_framed};
-ghost use Rattle.rules.specs.Answers.{routed_to};
+ghost use Rattle.rules.specs.Answers.{holder_is, routed_to};
 ghost use Rattle.routes.specs.Said.{octets_in, said_routing};
 ghost use Rattle.structs.specs.Numbers.{struct_of};
 ghost use Rattle.structs_calls.specs.Answers.{of_answer};
 ghost use Rattle.structs_calls.specs.Routes.{no_octets, of_route};
 
-use exchange::FramedAnswer;
-use numbers::Msisdn;
+use answers::{Failure, Refusal};
+use exchange::Framed;
+use numbers::{FunctionalNumber, Msisdn};
+use records::Fate;
 use routes::{RoutingAnswer, Subaddress};
 use structs::{Answer, ERROR, REFUSAL, REJECT, RETURN_ERROR};
-use visits::{FindingAnswer, RequestAnswer, ResultAnswer, SendingAnswer};
+use visits::{Reply, Sent};
 
 // The classes of an answer that `structs` has not.
 const OUTCOME: u32 = 3;
@@ -33,8 +35,9 @@ const ROUTED: u32 = 15;
 
 // What a routing answers: the class; the number of a refusal, an error or an outcome; the MSISDN; the three characters of another network's code; the octets of the
 // subaddress, and how many there are. What an answer does not have is 0.
+// Kept: C gets this struct (include/ffn.h), so its class is a number and its octets have a count beside them.
 #[repr(C)]
-#[derive(Clone, Copy)]
+#[derive(Clone, Copy, Debug, PartialEq, Eq)]
 pub struct Route {
     pub class: u32,
     pub number: u32,
@@ -44,98 +47,93 @@ pub struct Route {
     pub subaddress_octets: u8,
 }
 
+// The holder has this number among the outcomes.
+const HOLDER_IS: u8 = 3;
+
+// What no octets stand in.
+const NO_OCTETS: [u8; 3] = [0, 0, 0];
+
 // An answer that is a number of its class and the octets that say so.
 fn counted(class: u32, number: u8, octets: usize) -> Answer
     ensures { result ≡ struct_of class number octets 0 }
 {
     Answer {
-        class,
-        number: number as u32,
         count: octets,
-        value: 0,
+        ..structs::numbered(class, u32::from(number))
+    }
+}
+
+// The holder, and the octets that say so.
+fn held(msisdn: Msisdn, octets: usize) -> Answer
+    ensures { result ≡ of_answer (holder_is msisdn.0 octets) }
+{
+    Answer {
+        value: msisdn.0,
+        ..counted(OUTCOME, HOLDER_IS, octets)
     }
 }
 
 // A request's answer.
-pub fn of_request(answer: RequestAnswer) -> Answer
+pub fn of_request(answer: Result<Reply, Failure>) -> Answer
     ensures { result ≡ of_answer (said_request answer) }
 {
     match answer {
-        RequestAnswer::Refused(n) => structs::numbered(REFUSAL, n as u32),
-        RequestAnswer::Error(n) => structs::numbered(ERROR, n as u32),
-        RequestAnswer::Outcome(n, octets) => Answer {
-            class: OUTCOME,
-            number: n as u32,
-            count: octets,
-            value: 0,
-        },
-        RequestAnswer::Held(msisdn, octets) => Answer {
-            class: OUTCOME,
-            number: 3,
-            count: octets,
-            value: msisdn.0,
-        },
+        Ok(Reply::Outcome(outcome, octets)) => counted(OUTCOME, u8::from(outcome), octets),
+        Ok(Reply::Held(msisdn, octets)) => held(msisdn, octets),
+        Err(Failure::Refused(refusal)) => structs::refused(refusal),
+        Err(Failure::Error(error)) => counted(ERROR, u8::from(error), 0),
     }
 }
 
 // A sending's answer.
-pub fn of_sending(answer: SendingAnswer) -> Answer
+pub fn of_sending(answer: Result<Sent, Refusal>) -> Answer
     ensures { result ≡ of_answer (said_sending answer) }
 {
     match answer {
-        SendingAnswer::Refused(n) => structs::numbered(REFUSAL, n as u32),
-        SendingAnswer::Sent(addressee, octets) => Answer {
-            class: SENT,
-            number: 0,
-            count: octets,
-            value: addressee.0,
+        Ok(sent) => Answer {
+            value: sent.addressee.0,
+            ..counted(SENT, 0, sent.octets)
         },
+        Err(refusal) => structs::refused(refusal),
     }
 }
 
 // A result's answer.
-pub fn of_result(answer: ResultAnswer) -> Answer
+pub fn of_result(answer: Result<Fate, Refusal>) -> Answer
     ensures { result ≡ of_answer (said_result answer) }
 {
     match answer {
-        ResultAnswer::Refused(n) => structs::numbered(REFUSAL, n as u32),
-        ResultAnswer::Delivered => structs::numbered(RESULT, 0),
-        ResultAnswer::Dropped => structs::numbered(RESULT, 1),
-        ResultAnswer::Again => structs::numbered(RESULT, 2),
+        Ok(Fate::Delivered) => structs::numbered(RESULT, 0),
+        Ok(Fate::Dropped) => structs::numbered(RESULT, 1),
+        Ok(Fate::Again) => structs::numbered(RESULT, 2),
+        Err(refusal) => structs::refused(refusal),
     }
 }
 
 // A finding's answer.
-pub fn of_finding(answer: FindingAnswer) -> Answer
+pub fn of_finding(answer: Result<Option<FunctionalNumber>, Refusal>) -> Answer
     ensures { result ≡ of_answer (said_finding answer) }
 {
     match answer {
-        FindingAnswer::Refused(n) => structs::numbered(REFUSAL, n as u32),
-        FindingAnswer::Due(number) => Answer {
-            class: FOUND,
-            number: 0,
-            count: 0,
+        Ok(Some(number)) => Answer {
             value: number.0,
+            ..structs::numbered(FOUND, 0)
         },
-        FindingAnswer::NoneDue => structs::numbered(NONE_DUE, 0),
+        Ok(None) => structs::numbered(NONE_DUE, 0),
+        Err(refusal) => structs::refused(refusal),
     }
 }
 
 // A framed request's answer.
-pub fn of_framed(answer: FramedAnswer) -> Answer
+pub fn of_framed(answer: Result<Framed, Refusal>) -> Answer
     ensures { result ≡ of_answer (said_framed answer) }
 {
     match answer {
-        FramedAnswer::Refused(n) => structs::numbered(REFUSAL, n as u32),
-        FramedAnswer::Outcome(n, octets) => counted(OUTCOME, n, octets),
-        FramedAnswer::Held(holder, octets) => Answer {
-            class: OUTCOME,
-            number: 3,
-            count: octets,
-            value: holder.0,
-        },
-        FramedAnswer::Error(n, octets) => counted(RETURN_ERROR, n, octets),
-        FramedAnswer::Reject(n, octets) => counted(REJECT, n, octets),
+        Ok(Framed::Outcome(outcome, octets)) => counted(OUTCOME, u8::from(outcome), octets),
+        Ok(Framed::Held(holder, octets)) => held(holder, octets),
+        Ok(Framed::Error(error, octets)) => counted(RETURN_ERROR, u8::from(error), octets),
+        Ok(Framed::Reject(problem, octets)) => counted(REJECT, u8::from(problem), octets),
+        Err(refusal) => structs::refused(refusal),
     }
 }
 
@@ -145,54 +143,44 @@ fn plain_route(class: u32, number: u8) -> Route
 {
     Route {
         class,
-        number: number as u32,
+        number: u32::from(number),
         msisdn: 0,
-        code: [0, 0, 0],
-        subaddress: [0, 0, 0],
+        code: NO_OCTETS,
+        subaddress: NO_OCTETS,
         subaddress_octets: 0,
     }
 }
 
 // Where a text message goes: the MSISDN and its subaddress.
-fn routed(msisdn: Msisdn, subaddress: Subaddress) -> Route
+fn routed(msisdn: Msisdn, subaddress: Option<Subaddress>) -> Route
     ensures { result ≡ of_route (routed_to msisdn.0 (octets_in subaddress)) }
 {
+    let plain = Route {
+        msisdn: msisdn.0,
+        ..plain_route(ROUTED, 0)
+    };
     match subaddress {
-        Subaddress::Absent => Route {
-            class: ROUTED,
-            number: 0,
-            msisdn: msisdn.0,
-            code: [0, 0, 0],
-            subaddress: [0, 0, 0],
-            subaddress_octets: 0,
-        },
-        Subaddress::Octets(kind, format, branch) => Route {
-            class: ROUTED,
-            number: 0,
-            msisdn: msisdn.0,
-            code: [0, 0, 0],
-            subaddress: [kind, format, branch],
+        None => plain,
+        Some(octets) => Route {
+            subaddress: [octets.kind, octets.format, octets.branch],
             subaddress_octets: 3,
+            ..plain
         },
     }
 }
 
 // A routing's answer.
-pub fn of_routing(answer: RoutingAnswer) -> Route
+pub fn of_routing(answer: Result<RoutingAnswer, Failure>) -> Route
     ensures { result ≡ of_route (said_routing answer) }
 {
     match answer {
-        RoutingAnswer::Refused(n) => plain_route(REFUSAL, n),
-        RoutingAnswer::Error(n) => plain_route(ERROR, n),
-        RoutingAnswer::Outcome(n) => plain_route(OUTCOME, n),
-        RoutingAnswer::AskNetwork(first, second, third) => Route {
-            class: ASK_NETWORK,
-            number: 0,
-            msisdn: 0,
-            code: [first, second, third],
-            subaddress: [0, 0, 0],
-            subaddress_octets: 0,
+        Ok(RoutingAnswer::Outcome(outcome)) => plain_route(OUTCOME, u8::from(outcome)),
+        Ok(RoutingAnswer::AskNetwork(code)) => Route {
+            code,
+            ..plain_route(ASK_NETWORK, 0)
         },
-        RoutingAnswer::Routed(msisdn, subaddress) => routed(msisdn, subaddress),
+        Ok(RoutingAnswer::Routed(msisdn, subaddress)) => routed(msisdn, subaddress),
+        Err(Failure::Refused(refusal)) => plain_route(REFUSAL, u8::from(refusal)),
+        Err(Failure::Error(error)) => plain_route(ERROR, u8::from(error)),
     }
 }

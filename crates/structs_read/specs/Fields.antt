@@ -1,5 +1,5 @@
 -- The numbers of the struct that the request's reader returns, and numbers as fields. Assumes nothing.
-use Rattle.std.specs.Prelude.{ℕ, cond, length, eqb}
+use Rattle.std.specs.Prelude.{ℕ, cond, length, eqb, Option, Some, None}
 use Rattle.rules.specs.Answers as rules
 use Rattle.numbers.specs.declared.FunctionalNumber.{FunctionalNumber}
 use Rattle.crews.specs.declared.Crew.{Crew}
@@ -9,8 +9,6 @@ use Rattle.strings.specs.declared.Operation.TheVariants.{Register, Erase, Interr
 use Rattle.strings.specs.declared.Erasing.{Erasing}
 use Rattle.strings.specs.declared.Erasing.TheVariants.{Empty, Forced}
 use Rattle.strings.specs.Outcomes as reading
-use Rattle.structs_read.specs.declared.Operating.{Operating}
-use Rattle.structs_read.specs.declared.Operating.TheVariants.{Known, Unknown}
 use Rattle.structs_read.specs.declared.RequestRead.{RequestRead}
 use Rattle.structs.specs.Numbers.{read_class}
 
@@ -66,8 +64,8 @@ of_told (reading.error n) = record {
 }
 
 -- an operation by its number; no other number is one
-abbrev pub operation_of : ℕ → Operating
-operation_of n = cond (eqb n 0) (Known Register) (cond (eqb n 1) (Known Erase) (cond (eqb n 2) (Known Interrogate) Unknown))
+abbrev pub operation_of : ℕ → Option Operation
+operation_of n = cond (eqb n 0) (Some Register) (cond (eqb n 1) (Some Erase) (cond (eqb n 2) (Some Interrogate) None))
 
 -- supervisor field and MSISDN: both empty for 0, of a forced erasure for any other word
 abbrev pub erasing_of : ℕ → Erasing

@@ -3,23 +3,21 @@
 
 ghost use Rattle.std.specs.Prelude.{◌≡◌};
 ghost use Rattle.frames.specs.Messages.{register_of, release_of};
-ghost use Rattle.frames.specs.Read.{told_register, told_release};
+ghost use Rattle.frames.specs.Read.{or_unread, told_register, told_release};
 ghost use Rattle.structs_read.specs.Fields.{of_operation, of_erasing, of_crew, code_count, of_fields, operation_of, erasing_of};
 ghost use Rattle.structs_read.specs.Frames.{stringless, string_at, of_register, of_release};
 
+use answers::Refusal;
 use crews::Crew;
-use frames::{Body, RegisterRead, ReleaseRead, VERSION};
+use frames::{Answer, Register, Release, VERSION};
 use numbers::Msisdn;
 use strings::{CODING_SCHEME, Erasing, Fields, Operation};
 use structs::{READ, REFUSAL, REJECT, RETURN_ERROR};
 
-// The refusal of a message.
-const WRONG_MESSAGE: u8 = 11;
-
 // What the request's reader answers: the class; the number of an error; the operation, whether it is of a crew, the functional number, the
 // MSISDN that a forced erasure names, or 0; the start and the length of the additional field in the text, and how many codes it ends in.
 #[repr(C)]
-#[derive(Clone, Copy)]
+#[derive(Clone, Copy, Debug, PartialEq, Eq)]
 pub struct RequestRead {
     pub class: u32,
     pub number: u32,
@@ -35,7 +33,7 @@ pub struct RequestRead {
 // What a message's reader answers: the class; the number of a refusal, of an error or of a Reject; the first octet and the invoke number;
 // the string by its coding scheme, its start in the message and its length.
 #[repr(C)]
-#[derive(Clone, Copy)]
+#[derive(Clone, Copy, Debug, PartialEq, Eq)]
 pub struct FrameRead {
     pub class: u32,
     pub number: u32,
@@ -46,26 +44,20 @@ pub struct FrameRead {
     pub length: usize,
 }
 
-// The operation that a number stands for.
-#[derive(Clone, Copy)]
-pub enum Operating {
-    Known(Operation),
-    Unknown,
-}
-
-// The operation of a number.
-pub fn operation_of(n: u32) -> Operating
+// The operation of a number, where it stands for one.
+pub fn operation_of(n: u32) -> Option<Operation>
     ensures { result ≡ operation_of n }
 {
     match n {
-        0 => Operating::Known(Operation::Register),
-        1 => Operating::Known(Operation::Erase),
-        2 => Operating::Known(Operation::Interrogate),
-        _ => Operating::Unknown,
+        0 => Some(Operation::Register),
+        1 => Some(Operation::Erase),
+        2 => Some(Operation::Interrogate),
+        _ => None,
     }
 }
 
 // The number of an operation.
+// Kept: no `From`, since the number is C's, and this crate has neither the type nor u32.
 fn of_operation(operation: Operation) -> u32
     ensures { result ≡ of_operation operation }
 {
@@ -122,20 +114,16 @@ fn codes_of(crew: Crew) -> usize
 pub fn of_fields(fields: Fields) -> RequestRead
     ensures { result ≡ of_fields fields.operation fields.number fields.erasing fields.start fields.count fields.crew }
 {
-    let operation = fields.operation;
-    let erasing = fields.erasing;
-    let number = fields.number;
-    let crew = fields.crew;
     RequestRead {
         class: READ,
         number: 0,
-        operation: of_operation(operation),
-        crew: of_crew(crew),
-        functional_number: number.0,
-        msisdn: of_erasing(erasing),
+        operation: of_operation(fields.operation),
+        crew: of_crew(fields.crew),
+        functional_number: fields.number.0,
+        msisdn: of_erasing(fields.erasing),
         start: fields.start,
         length: fields.count,
-        codes: codes_of(crew),
+        codes: codes_of(fields.crew),
     }
 }
 
@@ -145,9 +133,9 @@ fn no_string(class: u32, number: u8, first: u8, invoke: u8) -> FrameRead
 {
     FrameRead {
         class,
-        number: number as u32,
-        first: first as u32,
-        invoke: invoke as u32,
+        number: u32::from(number),
+        first: u32::from(first),
+        invoke: u32::from(invoke),
         scheme: 0,
         start: 0,
         length: 0,
@@ -159,44 +147,51 @@ fn string_at(first: u8, invoke: u8, scheme: u8, start: usize, length: usize) -> 
     ensures { result ≡ string_at first invoke scheme start length }
 {
     FrameRead {
-        class: READ,
-        number: 0,
-        first: first as u32,
-        invoke: invoke as u32,
-        scheme: scheme as u32,
+        scheme: u32::from(scheme),
         start,
         length,
+        ..no_string(READ, 0, first, invoke)
     }
 }
 
 // The Register that was read in a message.
-pub fn of_register(message: &[u8], read: RegisterRead) -> FrameRead
-    requires { told_register read message.now ≡ register_of message.now }
+pub fn of_register(message: &[u8], read: Result<Register, Refusal>) -> FrameRead
+    requires { told_register read message.now ≡ or_unread (register_of message.now) }
     ensures { result ≡ of_register message.now (register_of message.now) }
 {
-    let RegisterRead::Numbered(first, invoke, body) = read else {
-        return no_string(REFUSAL, WRONG_MESSAGE, 0, 0);
-    };
-    match body {
-        Body::Wrong(problem) => no_string(REJECT, problem, first, invoke),
-        Body::Asks(scheme, count) => {
-            let end = message.len() - VERSION.len();
-            string_at(first, invoke, scheme, end - count, count)
-        }
+    match read {
+        Err(refusal) => no_string(REFUSAL, u8::from(refusal), 0, 0),
+        Ok(register) => match register.body {
+            Err(problem) => {
+                no_string(REJECT, u8::from(problem), register.first, register.number)
+            }
+            Ok(asked) => {
+                let start = message.len() - VERSION.len() - asked.count;
+                string_at(
+                    register.first,
+                    register.number,
+                    asked.scheme,
+                    start,
+                    asked.count,
+                )
+            }
+        },
     }
 }
 
 // The Release Complete that was read in a message.
-pub fn of_release(message: &[u8], read: ReleaseRead) -> FrameRead
-    requires { told_release read message.now ≡ release_of message.now }
+pub fn of_release(message: &[u8], read: Result<Release, Refusal>) -> FrameRead
+    requires { told_release read message.now ≡ or_unread (release_of message.now) }
     ensures { result ≡ of_release message.now (release_of message.now) }
 {
     match read {
-        ReleaseRead::Result(first, invoke, count) => {
-            string_at(first, invoke, CODING_SCHEME, message.len() - count, count)
-        }
-        ReleaseRead::Error(first, invoke, code) => no_string(RETURN_ERROR, code, first, invoke),
-        ReleaseRead::Reject(first, invoke, problem) => no_string(REJECT, problem, first, invoke),
-        ReleaseRead::Refused => no_string(REFUSAL, WRONG_MESSAGE, 0, 0),
+        Err(refusal) => no_string(REFUSAL, u8::from(refusal), 0, 0),
+        Ok(Release { first, answer }) => match answer {
+            Answer::Result(invoke, count) => {
+                string_at(first, invoke, CODING_SCHEME, message.len() - count, count)
+            }
+            Answer::Error(invoke, code) => no_string(RETURN_ERROR, code, first, invoke),
+            Answer::Reject(invoke, problem) => no_string(REJECT, problem, first, invoke),
+        },
     }
 }

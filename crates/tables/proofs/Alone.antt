@@ -12,7 +12,7 @@ use borrow.Author.Tests.{eq-eqb, lt-ltb}
 use Rattle.numbers.proofs.Lengths.{number_some}
 use Rattle.rows.specs.Rows.{row_words, number_at, row_sound, record_at}
 use Rattle.rows.proofs.Rows.{SameWords, same_record, same_row, sound_row}
-use Rattle.tables.specs.declared.Found.TheVariants.{At}
+use Rattle.std.specs.Prelude.{Some}
 use Rattle.tables.specs.Keys.{place_of}
 use Rattle.tables.specs.Tables.{rows_in, table_up_to, table_sound, row_of, record_of}
 use Rattle.tables.proofs.Sound.{table_row}
@@ -52,12 +52,12 @@ module _ (t : List ℕ) (i : ℕ) where
         above : (n : ℕ) → (n ≡ 0 → ⊥) → 0 < n
         above n h = omega arith
 
-    pub alone_row : (number : ℕ) → number_at t i ≡ number → row_of (alone t i) number ≡ At 0
+    pub alone_row : (number : ℕ) → number_at t i ≡ number → row_of (alone t i) number ≡ Some 0
     unfolding row_of place_of
     alone_row number e = simp (alone_length, eq-eqb (number_at (alone t i) 0) number (alone_number ∙ e))
 
   -- the record of its number is the same
-  pub alone_own : (number : ℕ) → row_of t number ≡ At i → record_of (alone t i) number ≡ record_of t number
+  pub alone_own : (number : ℕ) → row_of t number ≡ Some i → record_of (alone t i) number ≡ record_of t number
   alone_own number e =
       let f = row_found t number i e in
       record_found_lem (alone t i) number 0 (alone_row f.0 number f.1) ∙ ap some alone_record ∙ sym (record_found_lem t number i e)

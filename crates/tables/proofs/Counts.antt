@@ -18,8 +18,9 @@ use Rattle.records.specs.Steps.{is_absent, is_waiting, is_in_flight}
 use Rattle.rows.specs.Rows.{phase_at, second_at, notice_of, record_at, one}
 use Rattle.rows.proofs.Notices.{by_phase}
 use Rattle.tables.specs.declared.Figures.{Figures}
-use Rattle.tables.specs.declared.Recounted.{Recounted}
-use Rattle.tables.specs.declared.Recounted.TheVariants.{Unsound, Counted}
+use Rattle.std.specs.Prelude.{Result, Ok, Err, IfErr}
+use Rattle.answers.specs.declared.Refusal.{Refusal}
+use Rattle.answers.specs.declared.Refusal.TheVariants.{UnsoundTable}
 use Rattle.tables.specs.Tables.{rows_in, table_sound}
 use Rattle.tables.specs.Figures.{is_held_at, waits_at, flies_at, is_free_at, has_notice_at, how_many, counts_to, recount, figure_words, Few, with_row, said_recount, recounted}
 
@@ -150,22 +151,23 @@ module _ (t : List ℕ) where
   unfolding recount
   all_counted words n s e q = rw (← s, e, q) refl
 
-  module _ (r : Recounted) (said : said_recount r ≡ recounted t) where
-    pub said_unsound : r ≡ Unsound → table_sound t ≡ false
-    said_unsound e = go (table_sound t) (sym (ap said_recount e) ∙ said)
+  module _ (r : Result Figures Refusal) (said : said_recount r ≡ recounted t) where
+    pub said_unsound : (e : Refusal) → r ≡ Err e → table_sound t ≡ false
+    said_unsound e is = go (table_sound t) (sym (ap said_recount is) ∙ said)
       where
         go : (sound : Bool) → none ≡ only_if sound (recount t) → sound ≡ false
         go true q = not_some q
         go false q = refl
 
-    pub said_counted : (f : Figures) → r ≡ Counted f → (table_sound t ≡ true) × (recount t ≡ figure_words f)
+    pub said_counted : (f : Figures) → r ≡ Ok f → (table_sound t ≡ true) × (recount t ≡ figure_words f)
     said_counted f e = only_if_some (table_sound t) (sym said ∙ ap said_recount e)
 
 -- two recounts that the contract allows are one
-pub recount_one : (v w : Recounted) (o : Option (List ℕ)) → said_recount v ≡ o → said_recount w ≡ o → v ≡ w
-recount_one Unsound Unsound o p q = refl
-recount_one Unsound (Counted f) o p q = not_some (p ∙ sym q)
-recount_one (Counted f) Unsound o p q = not_some (q ∙ sym p)
-recount_one (Counted f) (Counted g) o p q =
-    let e : figure_words f ≡ figure_words g = cc (p ∙ sym q) in
-    λ i. Counted (record { held = get_or (e i) 0 0; waiting = get_or (e i) 1 0; flying = get_or (e i) 2 0 })
+pub recount_one : (v w : Result Figures Refusal) (o : Option (List ℕ)) → said_recount v ≡ o → said_recount w ≡ o
+    → IfErr v (λ r. r ≡ UnsoundTable) → IfErr w (λ r. r ≡ UnsoundTable) → v ≡ w
+recount_one (Err r) (Err q) o p s h k = ap Err (h ∙ sym k)
+recount_one (Err r) (Ok f) o p s h k = not_some (p ∙ sym s)
+recount_one (Ok f) (Err r) o p s h k = not_some (s ∙ sym p)
+recount_one (Ok f) (Ok g) o p s h k =
+    let e : figure_words f ≡ figure_words g = cc (p ∙ sym s) in
+    λ i. Ok (record { held = get_or (e i) 0 0; waiting = get_or (e i) 1 0; flying = get_or (e i) 2 0 })

@@ -9,7 +9,7 @@ use native.Mathlib.Omega.{arith}
 use lib.Dec.{eqb, ltb}
 use borrow.Author.Tests.{eq-eqb, ne_eqb, eqb-true, ltb-true}
 use Rattle.answers.proofs.Tests.{and_left, and_right, and_no, less_or_not}
-use Rattle.tables.specs.declared.Found.TheVariants.{At, Nothing}
+use Rattle.std.specs.Prelude.{Some, None}
 use Rattle.tables.specs.Keys.{every, ascends, place_of}
 
 -- ---- every row below n
@@ -57,19 +57,19 @@ first_within width n i w l = lt_of_lt_of_le (mul-lt-mul_of_pos_left l w) (mul-di
 -- ---- where a key stands
 
 module _ (k : ℕ → ℕ) (wanted : ℕ) where
-  pub place_none : (n : ℕ) → ((i : ℕ) → i < n → k i ≡ wanted → ⊥) → Nothing ≡ place_of k wanted n
+  pub place_none : (n : ℕ) → ((i : ℕ) → i < n → k i ≡ wanted → ⊥) → None ≡ place_of k wanted n
   unfolding place_of
   place_none zero h = refl
   place_none (suc n) h = simp (ne_eqb _ _ (h n (omega arith))) (place_none n (λ i l. h i (omega arith)))
 
   -- what is found is a row below n, and has the key
-  pub place_found : (n i : ℕ) → place_of k wanted n ≡ At i → (i < n) × (k i ≡ wanted)
+  pub place_found : (n i : ℕ) → place_of k wanted n ≡ Some i → (i < n) × (k i ≡ wanted)
   unfolding place_of
   place_found zero i e = absurd (let z : ◌≡◌ {A = ℕ} 0 1 = cc in omega arith)
   place_found (suc n) i e = go (eqb (k n) wanted) refl (place_found n i)
     where
-      go : (b : Bool) → eqb (k n) wanted ≡ b → (place_of k wanted n ≡ At i → (i < n) × (k i ≡ wanted)) → (i < suc n) × (k i ≡ wanted)
-      go true q f = let h : n ≡ i = let a : At n ≡ At i = rw q at e in cc in (omega arith, rw (← h) (eqb-true (k n) wanted q))
+      go : (b : Bool) → eqb (k n) wanted ≡ b → (place_of k wanted n ≡ Some i → (i < n) × (k i ≡ wanted)) → (i < suc n) × (k i ≡ wanted)
+      go true q f = let h : n ≡ i = let a : Some n ≡ Some i = rw q at e in cc in (omega arith, rw (← h) (eqb-true (k n) wanted q))
       go false q f = let h = f (rw q at e) in let l = h.0 in (omega arith, h.1)
 
 -- the place depends on the keys below n alone
@@ -88,14 +88,14 @@ module _ (k : ℕ → ℕ) (n : ℕ) (sorted : every (ascends k) n ≡ true) whe
       ⊎_elim (λ x. rw x next) (λ x. let below = ascending p q x (omega arith) in omega arith) (eq-or-lt_of_le (le_of_suc-le-suc l))
 
   module _ (wanted : ℕ) where
-    pub place_at : (i : ℕ) → i < n → k i ≡ wanted → At i ≡ place_of k wanted n
+    pub place_at : (i : ℕ) → i < n → k i ≡ wanted → Some i ≡ place_of k wanted n
     unfolding place_of
     place_at i l q = go n (omega arith) l
       where
-        go : (m : ℕ) → m ≤ n → i < m → At i ≡ place_of k wanted m
+        go : (m : ℕ) → m ≤ n → i < m → Some i ≡ place_of k wanted m
         go zero b l = absurd (not-suc-le-zero l)
         go (suc m) b l =
-            ⊎_elim (λ x. let here : k m ≡ wanted = rw (← x) q in simp (eq-eqb _ _ here) (ap At x))
+            ⊎_elim (λ x. let here : k m ≡ wanted = rw (← x) q in simp (eq-eqb _ _ here) (ap Some x))
             (λ x.
             let above = ascending i m x (omega arith) in
             let other : k m ≡ wanted → ⊥ = λ y. omega arith in
@@ -120,7 +120,7 @@ bracket_all k n wanted = record {
 }
 
 module _ (k : ℕ → ℕ) (n wanted low high : ℕ) (b : Bracket k n wanted low high) where
-  pub bracket_none : high ≤ low → Nothing ≡ place_of k wanted n
+  pub bracket_none : high ≤ low → None ≡ place_of k wanted n
   bracket_none h =
       place_none k wanted n
       (λ i l q. ⊎_elim (λ x. let y = b.smaller i x in omega arith) (λ x. let y = b.larger i (omega arith) l in omega arith) (less_or_not i low))

@@ -8,3 +8,4 @@ pub mod Alone
 pub mod Counts
 pub mod Fits
 pub mod Old
+pub mod Passed

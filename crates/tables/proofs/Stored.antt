@@ -14,8 +14,8 @@ use Rattle.rows.specs.Rows.{row_words, number_at, row_sound, record_at, stored, 
 use Rattle.records.specs.declared.Record.{Record}
 use Rattle.rows.proofs.Rows as rows
 use Rattle.rows.proofs.Rows.{stored_length, stored_number, record_other, row_other, record_stored, same_words_lem}
-use Rattle.tables.specs.declared.Found.{Found}
-use Rattle.tables.specs.declared.Found.TheVariants.{At, Nothing}
+use Rattle.tables.specs.Keys.{Found}
+use Rattle.std.specs.Prelude.{Some, None}
 use Rattle.tables.specs.Keys.{ascends, place_of}
 use Rattle.tables.specs.Tables.{most_numbers, rows_in, number_key, row_stands, table_up_to, table_sound, row_of, record_found, record_of, most_flags, subscribers_in, msisdn_key, list_sound, flags_found, flags_of}
 use Rattle.tables.proofs.Keys.{every_at, every_from, ascends_same, place_same, place_found, place_at}
@@ -24,20 +24,20 @@ use Rattle.tables.proofs.Sound.{all_stand, table_whole, table_few, table_ascends
 -- ---- where a number stands
 
 module _ (t : List ℕ) where
-  pub row_found : (number i : ℕ) → row_of t number ≡ At i → (i < rows_in t) × (number_at t i ≡ number)
+  pub row_found : (number i : ℕ) → row_of t number ≡ Some i → (i < rows_in t) × (number_at t i ≡ number)
   unfolding row_of
   row_found number i e = place_found (number_key t) number (rows_in t) i e
 
   -- every row is found by its number
-  pub row_at : table_sound t ≡ true → (i : ℕ) → i < rows_in t → row_of t (number_at t i) ≡ At i
+  pub row_at : table_sound t ≡ true → (i : ℕ) → i < rows_in t → row_of t (number_at t i) ≡ Some i
   unfolding row_of
   row_at sound i l = sym (place_at (number_key t) (rows_in t) (table_ascends t sound) (number_at t i) i l refl)
 
-  pub record_found_lem : (number i : ℕ) → row_of t number ≡ At i → record_of t number ≡ some (record_at t i)
+  pub record_found_lem : (number i : ℕ) → row_of t number ≡ Some i → record_of t number ≡ some (record_at t i)
   unfolding record_of
   record_found_lem number i e = rw e
 
-  pub record_missing : (number : ℕ) → row_of t number ≡ Nothing → record_of t number ≡ none
+  pub record_missing : (number : ℕ) → row_of t number ≡ None → record_of t number ≡ none
   unfolding record_of
   record_missing number e = rw e
 
@@ -57,18 +57,18 @@ module _ (t : List ℕ) (i : ℕ) (r : Record) where
   row_stored number = rw rows_stored (place_same (number_key (stored t i r)) (number_key t) number (rows_in t) (λ j l. stored_number t i r j))
 
   -- the number's own record
-  pub own_record : (number : ℕ) → row_of t number ≡ At i → record_sound r ≡ true → record_of (stored t i r) number ≡ some r
+  pub own_record : (number : ℕ) → row_of t number ≡ Some i → record_sound r ≡ true → record_of (stored t i r) number ≡ some r
   own_record number e s =
       record_found_lem (stored t i r) number i (row_stored number ∙ e) ∙ ap some (record_stored t i r (row_found t number i e).0 s)
 
   -- "all other records stay"
-  pub other_record : (number : ℕ) → row_of t number ≡ At i → (other : ℕ) → (other ≡ number → ⊥) → record_of (stored t i r) other ≡ record_of t other
+  pub other_record : (number : ℕ) → row_of t number ≡ Some i → (other : ℕ) → (other ≡ number → ⊥) → record_of (stored t i r) other ≡ record_of t other
   unfolding record_of
   other_record number e other n = rw row_stored (go (row_of t other) refl)
     where
       go : (f : Found) → row_of t other ≡ f → record_found (stored t i r) f ≡ record_found t f
-      go Nothing q = refl
-      go (At j) q = ap some (record_other t i r j (λ x. n (sym (row_found t other j q).1 ∙ ap (number_at t) x ∙ (row_found t number i e).1)))
+      go None q = refl
+      go (Some j) q = ap some (record_other t i r j (λ x. n (sym (row_found t other j q).1 ∙ ap (number_at t) x ∙ (row_found t number i e).1)))
 
   -- a sound record keeps the table sound
   pub table_stored : table_sound t ≡ true → i < rows_in t → record_sound r ≡ true → table_sound (stored t i r) ≡ true
@@ -118,5 +118,5 @@ unfolding flags_of
 flags_small l sound msisdn = go (place_of (msisdn_key l) msisdn (subscribers_in l)) refl
   where
     go : (f : Found) → place_of (msisdn_key l) msisdn (subscribers_in l) ≡ f → flags_found l f ≤ most_flags
-    go Nothing q = omega arith
-    go (At i) q = subscriber_flags l sound i (place_found (msisdn_key l) msisdn (subscribers_in l) i q).0
+    go None q = omega arith
+    go (Some i) q = subscriber_flags l sound i (place_found (msisdn_key l) msisdn (subscribers_in l) i q).0

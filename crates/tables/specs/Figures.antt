@@ -1,11 +1,10 @@
 -- Document 02, M-103: "numbers held, notices waiting and notices in flight", counted over the words of a table. Assumes nothing.
-use Rattle.std.specs.Prelude.{ℕ, zero, suc, ◌+◌, ◌%◌, ◌≤◌, Bool, not, ◌&&◌, List, [], ◌∷◌, eqb}
+use Rattle.std.specs.Prelude.{ℕ, zero, suc, ◌+◌, ◌%◌, ◌≤◌, Bool, not, ◌&&◌, List, [], ◌∷◌, eqb, Result, Ok, Err}
 use Rattle.std.proofs.Math.Option.{Option, none, some}
 use Rattle.answers.specs.Checks.{only_if}
+use Rattle.answers.specs.declared.Refusal.{Refusal}
 use Rattle.rows.specs.Rows.{holder_at, phase_at, one}
 use Rattle.tables.specs.declared.Figures.{Figures}
-use Rattle.tables.specs.declared.Recounted.{Recounted}
-use Rattle.tables.specs.declared.Recounted.TheVariants.{Unsound, Counted}
 use Rattle.tables.specs.Tables.{rows_in, table_sound}
 
 -- row i has a holder; a notice that waits, "odd phase"; a notice in flight, "even phase above 0"
@@ -55,9 +54,9 @@ Few f n = (f.held ≤ n) × (f.waiting ≤ n) × (f.flying ≤ n)
 abbrev pub with_row : Figures → List ℕ → ℕ → Figures
 with_row f t i = record { held = f.held + one (is_held_at t i); waiting = f.waiting + one (waits_at t i); flying = f.flying + one (flies_at t i) }
 
-abbrev pub said_recount : Recounted → Option (List ℕ)
-said_recount Unsound = none
-said_recount (Counted f) = some (figure_words f)
+abbrev pub said_recount : Result Figures Refusal → Option (List ℕ)
+said_recount (Err r) = none
+said_recount (Ok f) = some (figure_words f)
 
 -- a sound table alone is counted
 abbrev pub recounted : List ℕ → Option (List ℕ)

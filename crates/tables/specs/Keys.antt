@@ -1,7 +1,5 @@
 -- Rows by their first words: that they ascend, and where a word stands among them. One definition for every width of row. Assumes nothing.
-use Rattle.std.specs.Prelude.{ℕ, zero, suc, ◌*◌, Bool, true, cond, ◌&&◌, List, get_or, eqb, ltb}
-use Rattle.tables.specs.declared.Found.{Found}
-use Rattle.tables.specs.declared.Found.TheVariants.{At, Nothing}
+use Rattle.std.specs.Prelude.{ℕ, zero, suc, ◌*◌, Bool, true, cond, ◌&&◌, List, get_or, eqb, ltb, Option, Some, None}
 
 -- the first word of row i, in rows of `width` words
 abbrev pub key : ℕ → List ℕ → ℕ → ℕ
@@ -17,7 +15,11 @@ abbrev pub ascends : (ℕ → ℕ) → ℕ → Bool
 ascends k zero = ltb 0 (k zero)
 ascends k (suc i) = ltb (k i) (k (suc i))
 
+-- where a key stands among the rows, or nowhere
+abbrev pub Found : Type 0
+Found = Option ℕ
+
 -- the row below n with the key
 unfoldable pub place_of : (ℕ → ℕ) → ℕ → ℕ → Found
-place_of k wanted zero = Nothing
-place_of k wanted (suc n) = cond (eqb (k n) wanted) (At n) (place_of k wanted n)
+place_of k wanted zero = None
+place_of k wanted (suc n) = cond (eqb (k n) wanted) (Some n) (place_of k wanted n)

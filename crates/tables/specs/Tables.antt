@@ -5,8 +5,8 @@ use Rattle.numbers.specs.Numbers.{is_number}
 use Rattle.records.specs.Steps.{most_sendings}
 use Rattle.rows.specs.Rows.{row_words, row_up_to, record_at}
 use Rattle.records.specs.declared.Record.{Record}
-use Rattle.tables.specs.declared.Found.{Found}
-use Rattle.tables.specs.declared.Found.TheVariants.{At, Nothing}
+use Rattle.tables.specs.Keys.{Found}
+use Rattle.std.specs.Prelude.{Some, None}
 use Rattle.tables.specs.Keys.{key, every, ascends, place_of}
 
 -- ---- the table
@@ -45,8 +45,8 @@ row_of t number = place_of (number_key t) number (rows_in t)
 
 -- the record of a functional number
 abbrev pub record_found : List ℕ → Found → Option Record
-record_found t Nothing = none
-record_found t (At i) = some (record_at t i)
+record_found t None = none
+record_found t (Some i) = some (record_at t i)
 
 unfoldable pub record_of : List ℕ → ℕ → Option Record
 record_of t number = record_found t (row_of t number)
@@ -80,8 +80,8 @@ list_sound l = eqb (length l % subscriber_words) 0 && leb (subscribers_in l) mos
 
 -- the flags of a subscriber; "requester absent from the list" has none
 abbrev pub flags_found : List ℕ → Found → ℕ
-flags_found l Nothing = 0
-flags_found l (At i) = flags_at l i
+flags_found l None = 0
+flags_found l (Some i) = flags_at l i
 
 unfoldable pub flags_of : List ℕ → ℕ → ℕ
 flags_of l msisdn = flags_found l (place_of (msisdn_key l) msisdn (subscribers_in l))

@@ -1,35 +1,23 @@
 // The lent table and the lent list: whether they are sound, what the figures of a table are, and where a number or a subscriber stands in them.
 #![tactic(auto)]
 
-ghost use Rattle.std.specs.Prelude.{◌≡◌, true, ◌*◌, ◌/◌, ◌^◌, ◌<◌, length, leb};
+ghost use Rattle.std.specs.Prelude.{◌≡◌, IfErr, true, ◌*◌, ◌/◌, ◌^◌, ◌<◌, length, leb};
+ghost use Rattle.answers.specs.declared.Refusal.TheVariants.{UnsoundTable};
 ghost use Rattle.tables.specs.Keys.{key, every, ascends, place_of};
 ghost use Rattle.tables.specs.Tables.{most_numbers, rows_in, table_sound, row_of, most_flags, list_sound, flags_of};
 ghost use Rattle.tables.specs.Ends.{end_for, within, pair_within};
 ghost use Rattle.tables.specs.Figures.{Few, with_row, said_recount, recounted};
 
+use answers::Refusal;
 use numbers::{FunctionalNumber, Msisdn, least_for};
 use rows::{HOLDER, PHASE, ROW_WORDS, holder_start, is_near, rest_sound};
 
-// Where a number stands among the rows.
-#[derive(Clone, Copy)]
-pub enum Found {
-    At(usize),
-    Nothing,
-}
-
 // M-103: "numbers held, notices waiting and notices in flight".
-#[derive(Clone, Copy)]
+#[derive(Clone, Copy, Debug, PartialEq, Eq)]
 pub struct Figures {
     pub held: u64,
     pub waiting: u64,
     pub flying: u64,
-}
-
-// What a recount finds: the three figures of a sound table.
-#[derive(Clone, Copy)]
-pub enum Recounted {
-    Unsound,
-    Counted(Figures),
 }
 
 // "at most 1,024 numbers".
@@ -67,40 +55,35 @@ fn count_row(figures: Figures, words: &[u64]) -> Figures
     requires few { Few figures most_numbers }
     ensures { result ≡ with_row figures words.now 0 }
 {
-    let held = figures.held + rows::one_if(words[HOLDER] != 0);
-    let waiting = figures.waiting;
-    let flying = figures.flying;
+    let held = figures.held + u64::from(words[HOLDER] != 0);
     let phase = words[PHASE];
     if phase == 0 {
-        return Figures {
-            held,
-            waiting,
-            flying,
-        };
+        return Figures { held, ..figures };
     }
     if phase % 2 == 1 {
         return Figures {
             held,
-            waiting: waiting + 1,
-            flying,
+            waiting: figures.waiting + 1,
+            ..figures
         };
     }
     Figures {
         held,
-        waiting,
-        flying: flying + 1,
+        flying: figures.flying + 1,
+        ..figures
     }
 }
 
 // The figures of a sound table: whole rows, few enough, each sound and above the one before it; tested and counted in one pass.
-pub fn recount(table: &[u64]) -> Recounted
-    ensures { said_recount result ≡ recounted table.now }
+pub fn recount(table: &[u64]) -> Result<Figures, Refusal>
+    ensures figures { said_recount result ≡ recounted table.now }
+    ensures refusal { IfErr result (λ refusal. refusal ≡ UnsoundTable) }
 {
     if table.len() % ROW_WORDS != 0 {
-        return Recounted::Unsound;
+        return Err(Refusal::UnsoundTable);
     }
     if MOST_NUMBERS < table.len() / ROW_WORDS {
-        return Recounted::Unsound;
+        return Err(Refusal::UnsoundTable);
     }
     let mut figures = Figures {
         held: 0,
@@ -110,35 +93,27 @@ pub fn recount(table: &[u64]) -> Recounted
     let mut before = 0;
     let mut end = 0;
     let mut near = 0;
-    let mut at = 0;
-    while at < table.len() {
-        let next = at + ROW_WORDS;
-        // A row by itself: its words stand at fixed places, and no index is multiplied.
-        let words = &table[at..next];
+    for words in table.chunks_exact(ROW_WORDS) {
         let number = words[0];
         if !((before < number) & ((number < end) & is_near(words, 0, near))) {
             end = end_for(number, end);
             near = holder_start(words, 0, near);
             let rest = rest_sound(words, 0, near);
             if !((before < number) & ((number < end) & rest)) {
-                return Recounted::Unsound;
+                return Err(Refusal::UnsoundTable);
             }
         }
         figures = count_row(figures, words);
         before = number;
-        at = next;
     }
-    Recounted::Counted(figures)
+    Ok(figures)
 }
 
 // Whether the table is sound.
 pub fn table_sound(table: &[u64]) -> bool
     ensures { result ≡ table_sound table.now }
 {
-    match recount(table) {
-        Recounted::Unsound => false,
-        Recounted::Counted(_) => true,
-    }
+    recount(table).is_ok()
 }
 
 // Whether a subscriber follows the one before her, below an end, with flags 0 to 3.
@@ -177,6 +152,7 @@ pub fn list_sound(list: &[u64]) -> bool
     let mut before = 0;
     let mut end = 0;
     let mut at = 0;
+    // Kept: the new form is no plainer: a pass takes two rows, or one where they do not follow, and no range or chunk has two strides.
     while at < list.len() {
         if pair_follows(list, at, before, end) {
             before = list[at + SUBSCRIBER_WORDS];
@@ -195,18 +171,19 @@ pub fn list_sound(list: &[u64]) -> bool
 }
 
 // Where a word stands among the first words of rows that ascend, by halving.
-fn place_of(words: &[u64], width: usize, wanted: u64) -> Found
+fn place_of(words: &[u64], width: usize, wanted: u64) -> Option<usize>
     requires width_nonzero { 0 < width }
     requires width_value { every (ascends (key width words.now)) (length words.now / width) ≡ true }
     ensures { result ≡ place_of (key width words.now) wanted (length words.now / width) }
 {
+    // Kept: the library's search is no plainer: it wants a slice of rows, and these are flat words, of one width in a table and of another in a list.
     let mut low = 0;
     let mut high = words.len() / width;
     while low < high {
         let middle = low + (high - low) / 2;
         let first = words[width * middle];
         if first == wanted {
-            return Found::At(middle);
+            return Some(middle);
         }
         if first < wanted {
             low = middle + 1;
@@ -214,11 +191,11 @@ fn place_of(words: &[u64], width: usize, wanted: u64) -> Found
             high = middle;
         }
     }
-    Found::Nothing
+    None
 }
 
 // The row of a functional number.
-pub fn row_of(table: &[u64], number: FunctionalNumber) -> Found
+pub fn row_of(table: &[u64], number: FunctionalNumber) -> Option<usize>
     requires { table_sound table.now ≡ true }
     ensures { result ≡ row_of table.now number.0 }
 {
@@ -226,12 +203,13 @@ pub fn row_of(table: &[u64], number: FunctionalNumber) -> Found
 }
 
 // The flags of a subscriber; 0 where the list does not have her.
+// Kept: an `Option` is no plainer, since who is not listed has no flag (`flags_of` of the rules).
 pub fn flags_of(list: &[u64], msisdn: Msisdn) -> u64
     requires { list_sound list.now ≡ true }
     ensures { result ≡ flags_of list.now msisdn.0 }
 {
     match place_of(list, SUBSCRIBER_WORDS, msisdn.0) {
-        Found::At(row) => list[SUBSCRIBER_WORDS * row + FLAGS],
-        Found::Nothing => 0,
+        Some(row) => list[SUBSCRIBER_WORDS * row + FLAGS],
+        None => 0,
     }
 }

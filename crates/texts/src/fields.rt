@@ -1,218 +1,104 @@
 // The fields of a line: a name, words in decimal, and perhaps a tail of characters or octets.
-ghost use Rattle.std.specs.Prelude.{◌≤◌};
+ghost use Rattle.std.specs.Prelude.{◌<◌, IfSome};
 
-use crate::wide;
+use crate::words::Words;
 
-// A line has at most so many words.
-pub const MOST_WORDS: usize = 24;
+// A line has less than so many words.
+pub const MOST_WORDS: usize = 25;
 
-// What stands before a tail of characters and before one of octets in hexadecimal.
-const TEXT: u8 = b'\'';
-
-const OCTETS: u8 = b'x';
-
-// The largest word, and the value that no digit has.
-const LARGEST: u64 = 18_446_744_073_709_551_615;
-
-const NO_DIGIT: u64 = 16;
-
-// The words of a line, and where its tail stands; the line's length where it has none. Not good: the line has another form.
-#[derive(Clone, Copy)]
-pub struct Fields {
-    pub good: bool,
-    pub words: [u64; MOST_WORDS],
-    pub count: usize,
-    pub tail: usize,
+// What ends a line behind its words: 'CHARACTERS or xOCTETS in hexadecimal.
+#[derive(Clone, Copy, Debug)]
+pub enum Tail<'a> {
+    Characters(&'a [u8]),
+    Octets(&'a [u8]),
 }
 
-// A word that was read, and what stands behind it.
-#[derive(Clone, Copy)]
-struct WordRead {
-    good: bool,
-    value: u64,
-    next: usize,
+#[derive(Clone, Copy, Debug)]
+pub struct Fields<'a> {
+    pub name: &'a [u8],
+    pub words: Words<MOST_WORDS>,
+    pub tail: Option<Tail<'a>>,
 }
 
-// How many octets were read.
-#[derive(Clone, Copy)]
-pub struct OctetsRead {
-    pub good: bool,
-    pub count: usize,
+fn read_word(digits: &[u8]) -> Option<u64> {
+    if digits.is_empty() {
+        return None;
+    }
+    let mut word: u64 = 0;
+    for digit in digits {
+        if !digit.is_ascii_digit() {
+            return None;
+        }
+        word = word.checked_mul(10)?.checked_add(u64::from(*digit - b'0'))?;
+    }
+    Some(word)
 }
 
-// The value of a hexadecimal digit.
-fn digit_of(character: u8) -> u64
-    ensures { result ≤ 16 }
+// The fields of a line, one space apart; none where a word is no number, or there are too many.
+pub fn read_fields(line: &[u8]) -> Option<Fields<'_>> {
+    let (head, tail) = split_tail(line);
+    let mut parts = head.split(|octet| *octet == b' ');
+    let name = parts.next()?;
+    let mut words = Words::new();
+    for part in parts {
+        words.push(read_word(part)?);
+    }
+    if words.is_full() {
+        return None;
+    }
+    Some(Fields { name, words, tail })
+}
+
+// What stands before the tail and its space, and the tail.
+fn split_tail(line: &[u8]) -> (&[u8], Option<Tail<'_>>) {
+    let mark = line
+        .array_windows::<2>()
+        .position(|pair| matches!(pair, [b' ', b'\'' | b'x']));
+    let Some(space) = mark else {
+        return (line, None);
+    };
+    let (head, tail) = line.split_at(space);
+    match tail {
+        [_, b'\'', characters @ ..] => (head, Some(Tail::Characters(characters))),
+        [_, _, octets @ ..] => (head, Some(Tail::Octets(octets))),
+        _ => (head, None),
+    }
+}
+
+fn read_digit(character: u8) -> Option<u8>
+    ensures { IfSome result (λ digit. digit < 16) }
 {
     match character {
-        b'0'..=b'9' => wide(character - b'0'),
-        b'a'..=b'f' => wide(character - b'a') + 10,
-        _ => NO_DIGIT,
+        b'0'..=b'9' => Some(character - b'0'),
+        b'a'..=b'f' => Some(character - b'a' + 10),
+        _ => None,
     }
 }
 
-fn is_at(line: &[u8], at: usize, character: u8) -> bool {
-    if line.len() <= at {
-        return false;
+// Octets of two hexadecimal digits each.
+fn read_octets<'a>(digits: &[u8], out: &'a mut [u8]) -> Option<&'a [u8]> {
+    let (pairs, rest) = digits.as_chunks::<2>();
+    if !rest.is_empty() {
+        return None;
     }
-    line[at] == character
+    let out = out.get_mut(..pairs.len())?;
+    for (octet, [high, low]) in out.iter_mut().zip(pairs) {
+        *octet = 16 * read_digit(*high)? + read_digit(*low)?;
+    }
+    Some(out)
 }
 
-// Which of several names, each before a space, a line has up to an index; how many there are where it has none of them.
-pub fn name_of(line: &[u8], end: usize, names: &[u8]) -> usize {
-    let mut place = 0;
-    let mut i = 0;
-    let mut same = true;
-    let mut at = 0;
-    while at < names.len() {
-        let character = names[at];
-        at += 1;
-        if character != b' ' {
-            same = same & is_at(line, i, character);
-            i += 1;
-        } else {
-            if same & (i == end) {
-                return place;
+impl<'a> Tail<'a> {
+    // The octets or the characters, which leave room in the memory that is lent.
+    pub fn read(self, memory: &'a mut [u8]) -> Option<&'a [u8]> {
+        match self {
+            Tail::Characters(characters) => {
+                if memory.len() <= characters.len() {
+                    return None;
+                }
+                Some(characters)
             }
-            place += 1;
-            i = 0;
-            same = true;
+            Tail::Octets(digits) => read_octets(digits, memory),
         }
     }
-    place
-}
-
-// The word from an index on, up to a space or the end of the line.
-fn read_word(line: &[u8], from: usize) -> WordRead
-    ensures { from ≤ result.next }
-{
-    let mut value: u64 = 0;
-    let mut at = from;
-    while at < line.len() {
-        let digit = digit_of(line[at]);
-        if 9 < digit {
-            let good = (line[at] == b' ') & (from < at);
-            return WordRead {
-                good,
-                value,
-                next: at,
-            };
-        }
-        if (LARGEST - digit) / 10 < value {
-            return WordRead {
-                good: false,
-                value,
-                next: at,
-            };
-        }
-        value = 10 * value + digit;
-        at += 1;
-    }
-    let good = from < at;
-    WordRead {
-        good,
-        value,
-        next: at,
-    }
-}
-
-// The fields of a line behind its name, each behind a space: words, and perhaps a tail.
-pub fn read_fields(line: &[u8], name: usize) -> Fields {
-    let mut words = [0u64; MOST_WORDS];
-    let mut count = 0;
-    let mut at = name;
-    while at < line.len() {
-        let from = at + 1;
-        if is_at(line, from, TEXT) | is_at(line, from, OCTETS) {
-            return Fields {
-                good: true,
-                words,
-                count,
-                tail: from,
-            };
-        }
-        let read = read_word(line, from);
-        if !read.good {
-            return Fields {
-                good: false,
-                words,
-                count,
-                tail: from,
-            };
-        }
-        if MOST_WORDS <= count {
-            return Fields {
-                good: false,
-                words,
-                count,
-                tail: from,
-            };
-        }
-        words[count] = read.value;
-        count += 1;
-        at = read.next;
-    }
-    Fields {
-        good: true,
-        words,
-        count,
-        tail: at,
-    }
-}
-
-// Whether the tail at an index is of characters.
-pub fn is_text(line: &[u8], tail: usize) -> bool {
-    is_at(line, tail, TEXT)
-}
-
-// Reads hexadecimal digits, two an octet, from an index to the end of the line.
-fn read_octets(line: &[u8], from: usize, out: &mut [u8]) -> OctetsRead {
-    let mut count = 0;
-    let mut at = from;
-    while at < line.len() {
-        let next = at + 1;
-        if line.len() <= next {
-            return OctetsRead { good: false, count };
-        }
-        let high = digit_of(line[at]);
-        let low = digit_of(line[next]);
-        if 15 < high {
-            return OctetsRead { good: false, count };
-        }
-        if 15 < low {
-            return OctetsRead { good: false, count };
-        }
-        if out.len() <= count {
-            return OctetsRead { good: false, count };
-        }
-        out[count] = (16 * high + low) as u8;
-        count += 1;
-        at = next + 1;
-    }
-    OctetsRead { good: true, count }
-}
-
-// Reads the characters from an index to the end of the line, which leave room.
-fn read_characters(line: &[u8], from: usize, out: &mut [u8]) -> OctetsRead {
-    let mut count = 0;
-    let mut at = from;
-    while at < line.len() {
-        if out.len() <= count {
-            return OctetsRead { good: false, count };
-        }
-        out[count] = line[at];
-        count += 1;
-        at += 1;
-    }
-    let good = count < out.len();
-    OctetsRead { good, count }
-}
-
-// Reads the octets or the characters of a tail; no tail is none.
-pub fn read_tail(line: &[u8], tail: usize, out: &mut [u8]) -> OctetsRead {
-    let from = std::num::wrapping_add_usize(tail, 1);
-    if is_text(line, tail) {
-        return read_characters(line, from, out);
-    }
-    read_octets(line, from, out)
 }

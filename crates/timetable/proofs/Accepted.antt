@@ -11,8 +11,8 @@ use borrow.Author.Tests.{not-false, ltb-false, le-leb}
 use Rattle.answers.proofs.Tests.{no_path, and_both, or_left, or_right}
 use Rattle.answers.proofs.Decide.{all_passed, decide_all}
 use Rattle.numbers.specs.Numbers.{is_number}
-use Rattle.tables.specs.declared.Found.{Found}
-use Rattle.tables.specs.declared.Found.TheVariants.{At, Nothing}
+use Rattle.tables.specs.Keys.{Found}
+use Rattle.std.specs.Prelude.{Some, None}
 use Rattle.tables.specs.Tables.{most_numbers, rows_in, table_sound, row_of, record_of}
 use Rattle.tables.proofs.Stored.{record_missing}
 use Rattle.states.specs.States.{State, beside, figures_right, state_sound}
@@ -64,8 +64,8 @@ closing_keeps s number sound = go (is_number number) refl (row_of s.table number
 
     go : (b : Bool) → is_number number ≡ b → (f : Found) → row_of s.table number ≡ f → Keeps (closing_number s number)
     go false e f q = subst Keeps (closing_malformed s number sound e) sound
-    go true e Nothing q = subst Keeps (closing_missing s number sound e q) sound
-    go true e (At i) q = subst Keeps (sym (closing_done s number sound e i q)) (closed_state s number i sound q)
+    go true e None q = subst Keeps (closing_missing s number sound e q) sound
+    go true e (Some i) q = subst Keeps (sym (closing_done s number sound e i q)) (closed_state s number i sound q)
 
 module _ (words : List ℕ) (used : ℕ) (figures : List ℕ) (within : used ≤ rows_in words) (sound : state_sound (beside (in_use words used) figures) ≡ true) where
   pub compacting_keeps : SoundAfter used figures (compacting words used figures)
@@ -76,8 +76,8 @@ module _ (words : List ℕ) (used : ℕ) (figures : List ℕ) (within : used ≤
     missing e = go (row_of (in_use words used) number) refl e
       where
         go : (f : Found) → row_of (in_use words used) number ≡ f → is_there f ≡ false → record_of (in_use words used) number ≡ none
-        go Nothing q h = record_missing (in_use words used) number q
-        go (At i) q h = no_path (sym h)
+        go None q h = record_missing (in_use words used) number q
+        go (Some i) q h = no_path (sym h)
 
     pub adding_keeps : SoundAfter used figures (adding words used figures number)
     adding_keeps = go (is_number number) refl (is_there (row_of (in_use words used) number)) refl (leb most_numbers used || leb (rows_in words) used) refl
@@ -107,7 +107,7 @@ pub record ClosedBy (s : State) (number : ℕ) : Type 0 where
   pub sound : state_sound s ≡ true
   pub form : is_number number ≡ true
   pub row : ℕ
-  pub here : row_of s.table number ≡ At row
+  pub here : row_of s.table number ≡ Some row
 
 pub closed_accepted : (s : State) (number : ℕ) → (closing_number s number).answer ≡ shut → ClosedBy s number
 unfolding closing_number
@@ -118,8 +118,8 @@ closed_accepted s number e =
     go (row_of s.table number) refl (and_both (table_sound s.table) (figures_right s) (not-false _ c.0) (not-false _ c.1.0)) (not-false _ c.1.1.0) (not-false _ c.1.1.1.0)
   where
     go : (f : Found) → row_of s.table number ≡ f → state_sound s ≡ true → is_number number ≡ true → is_there f ≡ true → ClosedBy s number
-    go Nothing q a b h = no_path h
-    go (At i) q a b h = record { sound = a; form = b; row = i; here = q }
+    go None q a b h = no_path h
+    go (Some i) q a b h = record { sound = a; form = b; row = i; here = q }
 
 pub record CompactedBy (words : List ℕ) (used : ℕ) (figures : List ℕ) (gone left : ℕ) : Type 0 where
   pub within : used ≤ rows_in words

@@ -19,8 +19,8 @@ use Rattle.numbers.proofs.Lengths.{number_some}
 use Rattle.records.specs.declared.Record.{Record}
 use Rattle.records.specs.Steps.{free_record, has_run_out}
 use Rattle.rows.specs.Rows.{row_words, notice_up_to, notice_of, row_up_to, row_sound, record_at, one, row}
-use Rattle.tables.specs.declared.Found.{Found}
-use Rattle.tables.specs.declared.Found.TheVariants.{At, Nothing}
+use Rattle.tables.specs.Keys.{Found}
+use Rattle.std.specs.Prelude.{Some, None}
 use Rattle.tables.specs.Tables.{most_numbers, rows_in, table_sound, row_of, record_of}
 use Rattle.tables.specs.Figures.{is_held_at, waits_at, flies_at, recount}
 use Rattle.tables.proofs.Sound.{table_few}
@@ -222,8 +222,8 @@ pub nowhere : (t : List ℕ) (number : ℕ) → record_of t number ≡ none → 
 nowhere t number e = go (row_of t number) refl
   where
     go : (f : Found) → row_of t number ≡ f → is_there f ≡ false
-    go Nothing q = refl
-    go (At i) q = not_some (sym e ∙ record_found_lem t number i q)
+    go None q = refl
+    go (Some i) q = not_some (sym e ∙ record_found_lem t number i q)
 
 module _ (words : List ℕ) (used : ℕ) (figures : List ℕ) (within : used ≤ rows_in words) (sound : state_sound (beside (in_use words used) figures) ≡ true) where
   module _ (number : ℕ) (form : is_number number ≡ true) where

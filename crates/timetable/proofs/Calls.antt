@@ -10,7 +10,7 @@ use Rattle.answers.proofs.Tests.{or_neither}
 use Rattle.numbers.specs.Numbers.{is_number}
 use Rattle.records.specs.Steps.{closing}
 use Rattle.rows.specs.Rows.{record_at, stored}
-use Rattle.tables.specs.declared.Found.TheVariants.{At, Nothing}
+use Rattle.std.specs.Prelude.{Some, None}
 use Rattle.tables.specs.Tables.{most_numbers, rows_in, row_of}
 use Rattle.states.specs.States.{State, beside, state_sound, refusal_of}
 use Rattle.states.proofs.States.{state_table, state_right, state_refuses}
@@ -31,11 +31,11 @@ module _ (s : State) (number : ℕ) where
     closing_malformed e = rw (state_table s sound, state_right s sound, e)
 
     module _ (form : is_number number ≡ true) where
-      pub closing_missing : row_of s.table number ≡ Nothing → leaving (refusal 52) s.table ≡ closing_number s number
+      pub closing_missing : row_of s.table number ≡ None → leaving (refusal 52) s.table ≡ closing_number s number
       unfolding closing_number
       closing_missing e = rw (state_table s sound, state_right s sound, form, e)
 
-      pub closing_done : (i : ℕ) → row_of s.table number ≡ At i → closing_number s number ≡ leaving shut (stored s.table i (closing (record_at s.table i)))
+      pub closing_done : (i : ℕ) → row_of s.table number ≡ Some i → closing_number s number ≡ leaving shut (stored s.table i (closing (record_at s.table i)))
       unfolding closing_number
       closing_done i e = rw (state_table s sound, state_right s sound, form, e)
 

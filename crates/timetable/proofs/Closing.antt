@@ -9,7 +9,7 @@ use Rattle.records.specs.declared.Record.{Record}
 use Rattle.records.specs.Steps.{closing}
 use Rattle.rows.specs.Rows.{stored, record_sound}
 use Rattle.rows.proofs.Rows.{sound_record, record_is_sound, record_sound_lem, words_stored}
-use Rattle.tables.specs.declared.Found.TheVariants.{At}
+use Rattle.std.specs.Prelude.{Some}
 use Rattle.tables.specs.Tables.{rows_in, row_of, record_of}
 use Rattle.tables.proofs.Stored.{row_found, record_found_lem, own_record, other_record}
 use Rattle.states.specs.States.{State, beside, state_sound, record_in, moved}
@@ -24,7 +24,7 @@ closing_sound r s = let w = sound_record r s in record_is_sound (closing r) (rec
 pub closing_closed : (r : Record) → r.closed ≡ true → closing r ≡ r
 closing_closed r e = rw (← e) refl
 
-module _ (s : State) (number i : ℕ) (sound : state_sound s ≡ true) (here : row_of s.table number ≡ At i) where
+module _ (s : State) (number i : ℕ) (sound : state_sound s ≡ true) (here : row_of s.table number ≡ Some i) where
   within : i < rows_in s.table
   within = (row_found s.table number i here).0
 

@@ -14,7 +14,7 @@ use Rattle.answers.proofs.Tests.{and_left, and_right, and_both}
 use Rattle.answers.proofs.Checks.{not_some}
 use Rattle.records.specs.declared.Record.{Record}
 use Rattle.rows.specs.Rows.{row_words, row_sound, record_at, one, row}
-use Rattle.tables.specs.declared.Found.TheVariants.{At}
+use Rattle.std.specs.Prelude.{Some}
 use Rattle.tables.specs.Keys.{every, ascends, place_of}
 use Rattle.tables.specs.Tables.{most_numbers, rows_in, number_key, row_stands, table_up_to, table_sound, row_of, record_found, record_of}
 use Rattle.tables.specs.Figures.{is_held_at, waits_at, flies_at, how_many, recount}
@@ -145,7 +145,7 @@ found_rows m (suc n) t h = go (eqb (number_key t n) m) refl (λ a. found_rows m 
     below = and_left (ascend 0 (rows_of n t)) _ (sym (ascend_append 0 (rows_of n t) (row t n ∷ [])) ∙ h)
 
     go : (b : Bool) → eqb (number_key t n) m ≡ b → (ascend 0 (rows_of n t) ≡ true → record_of_row (found m (rows_of n t)) ≡ record_found t (place_of (number_key t) m n))
-        → record_of_row (found m (rows_of n t ++ (row t n ∷ []))) ≡ record_found t (cond b (At n) (place_of (number_key t) m n))
+        → record_of_row (found m (rows_of n t ++ (row t n ∷ []))) ≡ record_found t (cond b (Some n) (place_of (number_key t) m n))
     go true e ih =
         let k : number_of (row t n) ≡ m = number_row t n ∙ eqb-true (number_key t n) m e in
         let new : found (number_of (row t n)) (rows_of n t ++ (row t n ∷ [])) ≡ some (row t n) =

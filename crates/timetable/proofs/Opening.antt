@@ -1,25 +1,40 @@
--- The loop of `insert`: the first i + 1 rows are as they were, and the rows from i on stand one row higher. Assumes nothing.
-use mathlib.Core.Path.{◌≡◌, refl, ◌∙◌}
-use mathlib.Core.Bool.{true, false}
-use mathlib.Core.List.{List, ◌++◌, append_assoc, append-nil}
-use Prim.Native.Nat.{ℕ, ◌+◌, ◌*◌, ◌≤◌}
+-- A row being put in: the first i + 1 rows are as they were, and the rows from i on stand one row higher. Assumes nothing.
+use mathlib.Core.Path.{◌≡◌, refl, ap, ◌∙◌}
+use mathlib.Core.Bool.{Bool, true, false, cond}
+use mathlib.Core.List.{List, ◌++◌, append_assoc}
+use Prim.Native.Nat.{ℕ, zero, suc, ◌+◌, ◌-◌, ◌*◌, ◌≤◌}
 use native.Mathlib.Numerals.{add-one}
 use native.Mathlib.Omega.{arith}
 use lib.Dec.{ltb}
-use lib.ListN.{length, take, drop, take-append-drop}
-use lib.Seq.{sets, sets-eq, length-sets, length-take-le, take-take, take-append-le, drop_at, slice_empty}
-use Rattle.rows.specs.Rows.{row_words, row, listed}
-use Rattle.rows.proofs.Seven.{row_listed}
+use lib.ListN.{length, take, drop, get_or}
+use lib.Seq.{sets, sets-eq, length-take-le, take-take, take-append-le, drop_at, get_or-take, get_or-drop}
+use Rattle.std.proofs.lemmas.List.{drop-take}
+use Rattle.std.specs.List.{copy_within}
+use Rattle.rows.specs.Rows.{row_words, row}
 use Rattle.timetable.specs.Moving.{number_of, place, new_row, inserted}
-use Rattle.timetable.proofs.Rows.{joined_append, joined_take, joined_drop, row_length, row_same, drop_row}
+use Rattle.timetable.proofs.Rows.{joined_append, joined_take, joined_drop}
 
--- where the loop stops is the new row's place
+-- a row's number, where the code reads it
+pub row_number : (t : List ℕ) (i : ℕ) → number_of (row t i) ≡ get_or t (row_words * i) 0
+row_number t i = get_or-take row_words (drop (row_words * i) t) 0 0 (omega arith) ∙ get_or-drop (row_words * i) t 0 0 ∙ ap (λ (n : ℕ). get_or t n 0) (omega arith)
+
+-- the last row below the number, and one that is not
 module _ (number : ℕ) (t : List ℕ) (i : ℕ) where
-  pub stops_low : i ≤ 0 → place number t i ≡ i
-  stops_low h = let e : i ≡ 0 = omega arith in rw e
-
   pub stops_below : (j : ℕ) → i ≡ j + 1 → ltb (number_of (row t j)) number ≡ true → place number t i ≡ i
   stops_below j e n = rw (e, add-one, n)
+
+  pub stops_not : (j : ℕ) → i ≡ j + 1 → ltb (number_of (row t j)) number ≡ false → place number t i ≡ place number t j
+  stops_not j e n = rw (e, add-one, n)
+
+-- where the new row goes, no more rows stand before it
+pub place_again : (number : ℕ) (t : List ℕ) (used : ℕ) → place number t (place number t used) ≡ place number t used
+place_again number t zero = refl
+place_again number t (suc n) = go (ltb (number_of (row t n)) number) refl (place_again number t n)
+  where
+    go : (b : Bool) → ltb (number_of (row t n)) number ≡ b → place number t (place number t n) ≡ place number t n
+        → place number t (cond b (suc n) (place number t n)) ≡ cond b (suc n) (place number t n)
+    go true e h = rw e
+    go false e h = h
 
 pub record Opened (number used : ℕ) (t : List ℕ) (i : ℕ) (words : List ℕ) : Type 0 where
   pub within : i ≤ used
@@ -28,14 +43,6 @@ pub record Opened (number used : ℕ) (t : List ℕ) (i : ℕ) (words : List ℕ
   pub are : words ≡ take (row_words * (i + 1)) t ++ drop (row_words * i) (take (row_words * used) t) ++ drop (row_words * (used + 1)) t
 
 module _ (number used : ℕ) (t : List ℕ) where
-  pub opened_none : Opened number used t used t
-  opened_none = record {
-    within = omega arith;
-    placed = refl;
-    long = refl;
-    are = rw (slice_empty, append-nil, take-append-drop);
-  }
-
   module _ (i : ℕ) (words : List ℕ) (fits : row_words * (used + 1) ≤ length t) (o : Opened number used t i words) where
     -- what stands before row i is as it was
     front : take (row_words * i) words ≡ take (row_words * i) t
@@ -56,29 +63,19 @@ module _ (number used : ℕ) (t : List ℕ) where
         rw (o.are, append_assoc) (drop_at (take (row_words * (i + 1)) t) _ _ (length-take-le (row_words * (i + 1)) t (omega arith))) in
         sets-eq r words (row_words * i) (omega arith) ∙ rw (front, next, behind)
 
-    module _ (j : ℕ) (e : i ≡ j + 1) where
-      pub opened_row : listed words j ≡ row t j
-      opened_row =
-          let w = o.within in
-          let l = o.long in
-          row_listed words j (omega arith) ∙ row_same words t j (omega arith) (omega arith) (rw e at front)
-
-      pub opened_on : ltb (number_of (row t j)) number ≡ false → Opened number used t j (sets words (row_words * i) (row t j))
-      opened_on n =
-          let w = o.within in record {
-            within = omega arith;
-            placed = o.placed ∙ rw (e, add-one, n);
-            long = length-sets words (row_words * i) (row t j) ∙ o.long;
-            are =
-                let all = take (row_words * used) t in
-                let same : row all j ≡ row t j =
-                row_same all t j (rw (length-take-le (row_words * used) t (omega arith)) (omega arith)) (omega arith) (take-take (row_words * (j + 1)) (row_words * used) t (omega arith)) in
-                put (row t j) (row_length t j (omega arith)) ∙ rw (e, drop_row all j, same) (simp append_assoc);
-          }
-
     pub opened_end : place number t i ≡ i → sets words (row_words * i) (new_row number) ≡ inserted number used t
     unfolding inserted
     opened_end e =
         let w = o.within in
         put (new_row number) refl
         ∙ rw (o.placed, e, joined_append, joined_take i used t w (omega arith), joined_drop i used t w (omega arith)) (simp append_assoc)
+
+-- the rows from i on, copied one row higher
+pub moved_up : (used : ℕ) (t : List ℕ) (i : ℕ) → i ≤ used → row_words * (used + 1) ≤ length t
+    → copy_within t (row_words * i) (row_words * used) (row_words * (i + 1))
+    ≡ take (row_words * (i + 1)) t ++ drop (row_words * i) (take (row_words * used) t) ++ drop (row_words * (used + 1)) t
+moved_up used t i within fits =
+    let long = row_words * used - row_words * i in
+    let end : row_words * (i + 1) + long ≡ row_words * (used + 1) = omega arith in
+    let all : row_words * used ≡ row_words * i + long = omega arith in
+    rw (end, ← drop-take (row_words * i) long t, ← all)

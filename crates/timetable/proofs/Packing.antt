@@ -64,9 +64,6 @@ module _ (test : List ℕ → Bool) where
     pub long : length words ≡ length t
     pub are : words ≡ joined (kept_of test i t) ++ drop (row_words * count) t
 
-  pub packed_none : (t : List ℕ) → Packed t 0 t 0
-  packed_none t = record { counted = refl; within = omega arith; long = refl; are = refl }
-
   module _ (t : List ℕ) (i : ℕ) (words : List ℕ) (count : ℕ) (fits : row_words * i ≤ length t) (p : Packed t i words count) where
     front : length (joined (kept_of test i t)) ≡ row_words * count
     front = joined_length (whole_kept (rows_whole i t fits)) ∙ ap (λ (n : ℕ). row_words * n) (sym p.counted)

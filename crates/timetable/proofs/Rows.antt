@@ -84,12 +84,6 @@ row_end t j h =
 pub row_same : (a b : List ℕ) (j : ℕ) → row_words * j ≤ length a → row_words * j ≤ length b → take (row_words * (j + 1)) a ≡ take (row_words * (j + 1)) b → row a j ≡ row b j
 row_same a b j ha hb e = row_end a j ha ∙ ap (drop (row_words * j)) e ∙ sym (row_end b j hb)
 
--- from row j on: row j, then what is behind it
-pub drop_row : (t : List ℕ) (j : ℕ) → drop (row_words * j) t ≡ row t j ++ drop (row_words * (j + 1)) t
-drop_row t j =
-    let e : row_words * (j + 1) ≡ row_words * j + row_words = omega arith in
-    rw (e, ← drop-drop) (sym (take-append-drop row_words (drop (row_words * j) t)))
-
 -- ---- the rows of the words of rows are the rows
 
 rows_front : (n : ℕ) (t : List ℕ) → rows_of (suc n) t ≡ take row_words t ∷ rows_of n (drop row_words t)

@@ -1,6 +1,6 @@
 -- The rows in use: how many they are, which they are, and what the checks of table and figures say of them. Assumes nothing.
 use mathlib.Core.Path.{◌≡◌, refl, sym, ap, ◌∙◌}
-use mathlib.Core.Bool.{Bool, true, false, not, ◌&&◌, and-true}
+use mathlib.Core.Bool.{Bool, true, false, not, ◌&&◌}
 use mathlib.Core.List.{List, [], ◌∷◌}
 use Prim.Native.Nat.{ℕ, zero, suc, ◌+◌, ◌*◌, ◌/◌, ◌≤◌, ◌<◌}
 use native.Mathlib.Omega.{arith}
@@ -8,17 +8,17 @@ use lib.Dec.{ltb}
 use lib.ListN.{length}
 use lib.Seq.{length-take-le, take-take}
 use borrow.Author.Tests.{lt-ltb, le-ltb, ltb-false}
+use Rattle.std.specs.Prelude.{Result, Ok, Err, IsErrAnd}
 use Rattle.answers.specs.Checks.{decide}
-use Rattle.answers.proofs.Tests.{and_no}
+use Rattle.answers.specs.declared.Refusal.{Refusal}
 use Rattle.numbers.specs.Numbers.{is_nobody}
-use Rattle.records.specs.declared.Notice.TheVariants.{Absent}
 use Rattle.records.specs.declared.Record.{Record}
 use Rattle.records.specs.Steps.{is_absent, has_run_out}
 use Rattle.rows.specs.Rows.{row_words, row_sound, row}
 use Rattle.tables.specs.Tables.{rows_in, table_sound}
 use Rattle.tables.proofs.Sound.{table_row}
 use Rattle.tables.proofs.Alone.{alone_row_sound}
-use Rattle.states.specs.States.{beside, figures_right, state_sound, refusal_of}
+use Rattle.states.specs.States.{beside, figures_right, state_sound, said_check, refusal_of}
 use Rattle.timetable.specs.Moving.{rows_of}
 use Rattle.timetable.specs.Timetable.{in_use, buffer_refusal}
 use Rattle.timetable.proofs.Rows.{row_same}
@@ -26,13 +26,13 @@ use Rattle.timetable.proofs.Lists.{AreRows}
 
 -- ---- a record that has run out
 
-pub out_absent : (r : Record) → r.notice ≡ Absent → (r.closed && is_nobody r.holder) ≡ has_run_out r
+pub run_out : (r : Record) → ((r.closed && is_nobody r.holder) && is_absent r.notice) ≡ has_run_out r
 unfolding has_run_out
-out_absent r e = rw e (sym (ap (λ (b : Bool). r.closed && b) (and-true (is_nobody r.holder))))
-
-pub out_pending : (r : Record) → is_absent r.notice ≡ false → false ≡ has_run_out r
-unfolding has_run_out
-out_pending r e = sym (and_no r.closed (is_nobody r.holder && is_absent r.notice) (and_no (is_nobody r.holder) (is_absent r.notice) e))
+run_out r = and_assoc r.closed (is_nobody r.holder) (is_absent r.notice)
+  where
+    and_assoc : (a b c : Bool) → ((a && b) && c) ≡ (a && (b && c))
+    and_assoc true b c = refl
+    and_assoc false b c = refl
 
 -- ---- the rows in use
 
@@ -100,3 +100,13 @@ module _ (words : List ℕ) (used : ℕ) (figures : List ℕ) where
         go false false b e = ap make e
         go false true false e = ap make e
         go false true true e = absurd (refused e)
+
+-- the check of the rows in use: it answers by a refusal, or they are right
+module _ (words : List ℕ) (used : ℕ) (figures : List ℕ) (answer : Result Unit Refusal) (said : said_check answer ≡ buffer_refusal words used figures) where
+  pub in_use_passes : {done : Unit} → answer ≡ Ok done → (used ≤ rows_in words) × (state_sound (beside (in_use words used) figures) ≡ true)
+  in_use_passes is = buffer_passes words used figures (said_check answer) said (ap said_check is)
+
+-- the error that `?` hands on is the one it met
+pub handed_on : {X : Type 0} (r : Result X Refusal) (e : Refusal) → IsErrAnd r (λ y. y ≡ e) → r ≡ Err e
+handed_on (Ok x) e h = absurd h
+handed_on (Err y) e h = ap Err h

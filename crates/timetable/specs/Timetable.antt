@@ -1,19 +1,15 @@
 -- Document 02, M-110, "Withdrawing numbers and reusing their rows": what closing, compacting and adding answer and leave, for every input. Assumes nothing.
-use Rattle.std.specs.Prelude.{ℕ, ◌+◌, ◌-◌, ◌*◌, Bool, true, false, not, ◌||◌, List, [], ◌∷◌, ◌++◌, map, length, take, ltb, leb}
+use Rattle.std.specs.Prelude.{ℕ, ◌+◌, ◌-◌, ◌*◌, Bool, true, false, not, ◌||◌, List, [], ◌∷◌, ◌++◌, map, length, take, ltb, leb, Some, None, Result, Ok, Err}
 use Rattle.answers.specs.Checks.{decide}
+use Rattle.answers.specs.Numbers.{refusal_number}
+use Rattle.answers.specs.declared.Refusal.{Refusal}
 use Rattle.numbers.specs.Numbers.{is_number}
 use Rattle.records.specs.Steps.{closing}
 use Rattle.rows.specs.Rows.{row_words, record_at, stored}
-use Rattle.tables.specs.declared.Found.{Found}
-use Rattle.tables.specs.declared.Found.TheVariants.{At, Nothing}
+use Rattle.tables.specs.Keys.{Found}
 use Rattle.tables.specs.Tables.{most_numbers, rows_in, row_of}
 use Rattle.states.specs.States.{State, beside, state_checks}
-use Rattle.timetable.specs.declared.Closed.{Closed}
-use Rattle.timetable.specs.declared.Closed.TheVariants as close
 use Rattle.timetable.specs.declared.Compacted.{Compacted}
-use Rattle.timetable.specs.declared.Compacted.TheVariants as compact
-use Rattle.timetable.specs.declared.Added.{Added}
-use Rattle.timetable.specs.declared.Added.TheVariants as add
 use Rattle.timetable.specs.Moving.{stay, compacted, inserted}
 
 -- ---- what is said, and what is left
@@ -52,8 +48,8 @@ abbrev pub number_checks : ℕ → List (Bool × ℕ)
 number_checks number = (not (is_number number), 7) ∷ []
 
 abbrev pub is_there : Found → Bool
-is_there (At i) = true
-is_there Nothing = false
+is_there (Some i) = true
+is_there None = false
 
 -- ---- closing
 
@@ -63,18 +59,18 @@ closing_checks s number = state_checks s ++ number_checks number ++ ((not (is_th
 
 -- "Closing a number keeps its holder, forbids new registration, and lets erasure and notices run out"
 abbrev pub closed_in : List ℕ → Found → List ℕ
-closed_in t (At i) = stored t i (closing (record_at t i))
-closed_in t Nothing = t
+closed_in t (Some i) = stored t i (closing (record_at t i))
+closed_in t None = t
 
 unfoldable pub closing_number : State → ℕ → Outcome
 closing_number s number = decide (map (untouched s.table) (closing_checks s number)) (leaving shut (closed_in s.table (row_of s.table number)))
 
 -- what the code's answer says in the paper's words
-abbrev pub said_close : Closed → Said
-said_close (close.Refused n) = refusal n
-said_close close.Done = shut
+abbrev pub said_close : Result Unit Refusal → Said
+said_close (Err r) = refusal (refusal_number r)
+said_close (Ok _) = shut
 
-abbrev pub made_close : Closed → List ℕ → Outcome
+abbrev pub made_close : Result Unit Refusal → List ℕ → Outcome
 made_close r words = leaving (said_close r) words
 
 -- ---- compacting
@@ -85,11 +81,11 @@ compacting words used figures =
     decide (map (untouched words) (buffer_checks words used figures))
     (leaving (went (used - length (stay used words)) (length (stay used words))) (compacted used words))
 
-abbrev pub said_compact : Compacted → Said
-said_compact (compact.Refused n) = refusal n
-said_compact (compact.Rows gone used) = went gone used
+abbrev pub said_compact : Result Compacted Refusal → Said
+said_compact (Err r) = refusal (refusal_number r)
+said_compact (Ok it) = went it.gone it.used
 
-abbrev pub made_compact : Compacted → List ℕ → Outcome
+abbrev pub made_compact : Result Compacted Refusal → List ℕ → Outcome
 made_compact r words = leaving (said_compact r) words
 
 -- ---- adding
@@ -106,11 +102,11 @@ unfoldable pub adding : List ℕ → ℕ → List ℕ → ℕ → Outcome
 adding words used figures number =
     decide (map (untouched words) (adding_checks words used figures number)) (leaving (rows (used + 1)) (inserted number used words))
 
-abbrev pub said_add : Added → Said
-said_add (add.Refused n) = refusal n
-said_add (add.Rows n) = rows n
+abbrev pub said_add : Result ℕ Refusal → Said
+said_add (Err r) = refusal (refusal_number r)
+said_add (Ok n) = rows n
 
-abbrev pub made_add : Added → List ℕ → Outcome
+abbrev pub made_add : Result ℕ Refusal → List ℕ → Outcome
 made_add r words = leaving (said_add r) words
 
 -- ---- what is left

@@ -5,60 +5,30 @@ ghost use Rattle.std.specs.Prelude.{◌≡◌, true, ◌+◌, ◌*◌, ◌≤◌
 ghost use Rattle.records.specs.Steps.{has_run_out};
 ghost use Rattle.rows.specs.Rows.{row_words, row_sound};
 ghost use Rattle.tables.specs.Tables.{rows_in, table_sound, row_of};
-ghost use Rattle.states.specs.States.{beside};
-ghost use Rattle.timetable.specs.Moving.{goes as rowGoes, stay, compacted, inserted};
+ghost use Rattle.states.specs.States.{beside, said_check};
+ghost use Rattle.timetable.specs.Moving.{goes as rowGoes, stay, compacted, place, inserted};
 ghost use Rattle.timetable.specs.Timetable.{in_use, is_there, buffer_refusal, closing_number, made_close, compacting, made_compact, adding, made_add};
 
+use answers::Refusal;
 use numbers::FunctionalNumber;
 use records::{Notice, Record};
 use rows::{NUMBER, ROW_WORDS};
-use tables::{Found, MOST_NUMBERS};
+use tables::MOST_NUMBERS;
 
-// What closing a number answers: a refusal by its number, or that the number is closed.
-#[derive(Clone, Copy)]
-pub enum Closed {
-    Refused(u8),
-    Done,
-}
-
-// What compacting answers: a refusal by its number, or how many rows went and how many are in use.
-#[derive(Clone, Copy)]
-pub enum Compacted {
-    Refused(u8),
-    Rows(usize, usize),
-}
-
-// What adding a number answers: a refusal by its number, or how many rows are in use.
-#[derive(Clone, Copy)]
-pub enum Added {
-    Refused(u8),
-    Rows(usize),
+// What compacting answers: how many rows went, and how many are in use.
+#[derive(Clone, Copy, Debug, PartialEq, Eq)]
+pub struct Compacted {
+    pub gone: usize,
+    pub used: usize,
 }
 
 // ---- rows
-
-// Sets every word to 0.
-fn clear(words: &mut [u64])
-    ensures { words.new ≡ replicate (length words.old) 0 }
-{
-    let mut i = 0;
-    while i < words.len() {
-        words[i] = 0;
-        i += 1;
-    }
-}
 
 // Whether a record is closed, with no holder and no notice.
 fn has_run_out(it: Record) -> bool
     ensures { result ≡ has_run_out it }
 {
-    let holder = it.holder;
-    let notice = it.notice;
-    match notice {
-        Notice::Absent => it.closed & (holder.0 == 0),
-        Notice::Waiting(_, _) => false,
-        Notice::InFlight(_) => false,
-    }
+    it.closed & (it.holder.0 == 0) & (it.notice == Notice::Absent)
 }
 
 // Whether a sound row is to be taken out.
@@ -75,82 +45,81 @@ fn remove(words: &mut [u64], used: usize) -> usize
     ensures { (result ≡ length (stay used words.old)) × (words.new ≡ compacted used words.old) }
 {
     let mut kept = 0;
-    let mut i = 0;
-    while i < used {
+    for i in 0..used {
         let r = rows::row_at(words, i);
         if !goes(r) {
             rows::put_row(words, kept, r);
             kept += 1;
         }
-        i += 1;
     }
-    let from = ROW_WORDS * kept;
-    let to = ROW_WORDS * used;
-    clear(&mut words[from..to]);
+    words[ROW_WORDS * kept..ROW_WORDS * used].fill(0);
     kept
 }
 
-// Puts an open number without holder behind the last row whose number is below it.
+// How many rows stand before a new number's: all up to the last whose number is below it.
+fn place(words: &[u64], used: usize, number: u64) -> usize
+    requires { row_words * used ≤ length words.now }
+    ensures bound { result ≤ used }
+    ensures place { result ≡ place number words.now used }
+{
+    for i in (0..used).rev() {
+        if words[ROW_WORDS * i] < number {
+            return i + 1;
+        }
+    }
+    0
+}
+
+// Puts an open number without holder in its place; the rows behind it move up by one.
 fn insert(words: &mut [u64], used: usize, number: u64)
     requires { row_words * (used + 1) ≤ length words.old }
     ensures { words.new ≡ inserted number used words.old }
 {
-    let mut i = used;
-    while 0 < i {
-        let r = rows::row_at(words, i - 1);
-        if r[NUMBER] < number {
-            break;
-        }
-        rows::put_row(words, i, r);
-        i -= 1;
-    }
+    let at = place(words, used, number);
+    words.copy_within(ROW_WORDS * at..ROW_WORDS * used, ROW_WORDS * (at + 1));
     let mut new = [0; ROW_WORDS];
     new[NUMBER] = number;
-    rows::put_row(words, i, new);
+    rows::put_row(words, at, new);
 }
 
 // ---- the calls
 
-// What is wrong with the rows in use: 2, 10, or 0 for nothing. No product is taken before the count is known to be within the buffer.
-fn refusal(words: &[u64], used: usize, figures: &[u64]) -> u8
-    ensures { result ≡ buffer_refusal words.now used figures.now }
+// Whether the rows in use are right. No product is taken before the count is known to be within the buffer.
+fn check(words: &[u64], used: usize, figures: &[u64]) -> Result<(), Refusal>
+    ensures { said_check result ≡ buffer_refusal words.now used figures.now }
 {
     if words.len() / ROW_WORDS < used {
-        return 2;
+        return Err(Refusal::UnsoundTable);
     }
-    let end = ROW_WORDS * used;
-    states::refusal(&words[..end], figures)
+    states::check(&words[..ROW_WORDS * used], figures)
 }
 
 // Closes a number; its holder and its notice stay.
-pub fn close(table: &mut [u64], figures: &[u64], number: FunctionalNumber) -> Closed
+pub fn close(table: &mut [u64], figures: &[u64], number: FunctionalNumber) -> Result<(), Refusal>
     ensures { made_close result table.new ≡ closing_number (beside table.old figures.now) number.0 }
 {
-    let refused = states::refusal(table, figures);
-    if refused != 0 {
-        return Closed::Refused(refused);
-    }
+    states::check(table, figures)?;
     if !numbers::is_number(number.0) {
-        return Closed::Refused(7);
+        return Err(Refusal::NoNumber);
     }
-    let Found::At(row) = tables::row_of(table, number) else {
-        return Closed::Refused(52);
+    let Some(row) = tables::row_of(table, number) else {
+        return Err(Refusal::NotThere);
     };
     let next = rows::load(table, row).close();
     rows::store(table, row, next);
-    Closed::Done
+    Ok(())
 }
 
 // Takes out the closed numbers that have neither holder nor notice.
-pub fn compact(words: &mut [u64], used: usize, figures: &[u64]) -> Compacted
+pub fn compact(words: &mut [u64], used: usize, figures: &[u64]) -> Result<Compacted, Refusal>
     ensures { made_compact result words.new ≡ compacting words.old used figures.now }
 {
-    let refused = refusal(words, used, figures);
-    if refused != 0 {
-        return Compacted::Refused(refused);
-    }
+    check(words, used, figures)?;
     let left = remove(words, used);
-    Compacted::Rows(used - left, left)
+    Ok(Compacted {
+        gone: used - left,
+        used: left,
+    })
 }
 
 // Whether a number stands in the rows in use.
@@ -158,30 +127,28 @@ fn is_there(words: &[u64], used: usize, number: FunctionalNumber) -> bool
     requires { (used ≤ rows_in words.now) × (table_sound (in_use words.now used) ≡ true) }
     ensures { result ≡ is_there (row_of (in_use words.now used) number.0) }
 {
-    let end = ROW_WORDS * used;
-    match tables::row_of(&words[..end], number) {
-        Found::At(_) => true,
-        Found::Nothing => false,
-    }
+    tables::row_of(&words[..ROW_WORDS * used], number).is_some()
 }
 
-// Puts a number in its place, open and without holder.
-pub fn add(words: &mut [u64], used: usize, figures: &[u64], number: FunctionalNumber) -> Added
+// Puts a number in its place, open and without holder, and says how many rows are in use.
+pub fn add(
+    words: &mut [u64],
+    used: usize,
+    figures: &[u64],
+    number: FunctionalNumber,
+) -> Result<usize, Refusal>
     ensures { made_add result words.new ≡ adding words.old used figures.now number.0 }
 {
-    let refused = refusal(words, used, figures);
-    if refused != 0 {
-        return Added::Refused(refused);
-    }
+    check(words, used, figures)?;
     if !numbers::is_number(number.0) {
-        return Added::Refused(7);
+        return Err(Refusal::NoNumber);
     }
     if is_there(words, used, number) {
-        return Added::Refused(51);
+        return Err(Refusal::AlreadyThere);
     }
     if (MOST_NUMBERS <= used) | (words.len() / ROW_WORDS <= used) {
-        return Added::Refused(50);
+        return Err(Refusal::TableFull);
     }
     insert(words, used, number.0);
-    Added::Rows(used + 1)
+    Ok(used + 1)
 }

@@ -22,6 +22,6 @@ module _ (t : List ℕ) (delay clock n i : ℕ) where
   unfolding first_due
   due_later h d = rw (one_row h, d, add-one i)
 
-  pub none_due_lem : n ≤ i → first_due t delay clock (n - i) i ≡ none_due
+  pub due_nowhere : n ≤ i → first_due t delay clock (n - i) i ≡ none_due
   unfolding first_due
-  none_due_lem h = let z : n - i ≡ 0 = omega arith in rw z
+  due_nowhere h = let z : n - i ≡ 0 = omega arith in rw z

@@ -1,10 +1,10 @@
--- A step of a row's record, answered and stored; what the record decides, by the operation. Assumes nothing.
+-- What an interrogation finds, and the steps of a sending and of a result, answered and stored. Assumes nothing.
 use mathlib.Core.Path.{◌≡◌, refl, sym, ap, ◌∙◌}
 use mathlib.Core.Bool.{Bool, true, false, not, cond}
 use mathlib.Core.List.{List, [], ◌∷◌}
 use Prim.Native.Nat.{ℕ, ◌<◌}
 use native.Mathlib.Omega.{arith}
-use Rattle.numbers.specs.Numbers.{is_number, number_or_nobody, two_digits, is_nobody}
+use Rattle.numbers.specs.Numbers.{is_number, number_or_nobody, is_nobody}
 use Rattle.numbers.specs.declared.FunctionalNumber.{FunctionalNumber}
 use Rattle.numbers.specs.declared.Msisdn.{Msisdn}
 use Rattle.strings.specs.Notices.{notice_text, notice_fields}
@@ -14,27 +14,20 @@ use Rattle.packing.specs.Packing.{packed}
 use Rattle.records.specs.declared.Notice.{Notice}
 use Rattle.records.specs.declared.Notice.TheVariants.{Absent, Waiting, InFlight}
 use Rattle.records.specs.declared.Record.{Record}
-use Rattle.records.specs.declared.Sending.{Sending}
-use Rattle.records.specs.declared.Sending.TheVariants as launches
-use Rattle.records.specs.declared.Holder.{Holder}
-use Rattle.records.specs.declared.Holder.TheVariants as holder
-use Rattle.records.specs.declared.Resulted.{Resulted}
-use Rattle.records.specs.declared.Resulted.TheVariants.{Refused, Delivered, Dropped, Again}
+use Rattle.records.specs.Sending.{Sending}
+use Rattle.records.specs.Sending as launches
+use Rattle.records.specs.Holder.{Holder}
+use Rattle.records.specs.Holder as holder
+use Rattle.records.specs.Resulted.{Resulted}
+use Rattle.records.specs.Resulted.{Refused}
 use Rattle.rows.specs.Rows.{record_sound}
 use Rattle.records.specs.Steps.{is_absent, is_waiting, is_due, with_notice, launched, delay_allowed, interrogated, sent}
 use Rattle.rows.proofs.Kept.{holder_number, pending_words}
 use Rattle.tables.specs.Tables.{rows_in}
 use Rattle.states.specs.States.{State, state_sound, record_in, stored_in}
 use Rattle.states.proofs.States.{stored_back}
-use Rattle.rules.specs.Answers.{Answer, outcome, refusal, sent_to, delivered, dropped, again, made, packed_over, octet_count}
-use Rattle.rules.specs.Requests.{Stepping, comes_to, says, replying}
-use Rattle.rules.specs.Visits.{Visited, visited, storing, tell_at, holder_answered, sent_step, result_step}
-
--- what a step comes to, said in the reply
-pub said_placed :
-    (new : State) (b after : List ℕ) (n : ℕ) (said : Answer) (s : Stepping) → comes_to (says n) new ≡ s → said ≡ outcome n (octet_count (two_digits n)) → after ≡ packed_over (two_digits n) b
-    → made said new after ≡ replying b s
-said_placed new b after n said s e f g = rw (f, g) (ap (replying b) e)
+use Rattle.rules.specs.Answers.{Answer, refusal, sent_to, made, packed_over, octet_count}
+use Rattle.rules.specs.Visits.{storing, sent_step, result_step}
 
 -- the holder that an interrogation of a sound record finds
 pub holder_found : (r : Record) (m : Msisdn) → record_sound r ≡ true → interrogated r ≡ holder.Held m → is_number m.0 ≡ true
@@ -45,26 +38,10 @@ holder_found r m sound e = go (is_nobody r.holder) refl e
     go true q f = absurd (let z : ◌≡◌ {A = ℕ} 0 1 = cc in omega arith)
     go false q f = let same : r.holder ≡ m = cc in rw (← same) (holder_number r sound q)
 
--- what an interrogation of a row's record answers leaves table and figures
-pub told_placed :
-    (t : State) (b after : List ℕ) (said : Answer) (r : Record) (h : Holder) → visited said after r ≡ holder_answered b r h → made said t after ≡ replying b (tell_at t h)
-told_placed t b after said r (holder.Stays n) g = ap (λ (v : Visited). made v.reply.answer t v.reply.buffer) g
-told_placed t b after said r (holder.Held m) g = ap (λ (v : Visited). made v.reply.answer t v.reply.buffer) g
-
--- a result's step, returned and stored
-module _ (t : State) (i : ℕ) (step : Resulted) where
-  pub result_refused : (n : ℕ) → state_sound t ≡ true → i < rows_in t.table → step ≡ Refused n → made (refusal n) t [] ≡ storing t i (result_step (record_in t i) step)
-  result_refused n sound within e = rw e (ap (λ s. made (refusal n) s []) (sym (stored_back t i sound within)))
-
-  module _ (next : Record) (new : State) (stores : new ≡ stored_in t i next) where
-    pub result_delivered : step ≡ Delivered next → made delivered new [] ≡ storing t i (result_step (record_in t i) step)
-    result_delivered e = rw (e, stores)
-
-    pub result_dropped : step ≡ Dropped next → made dropped new [] ≡ storing t i (result_step (record_in t i) step)
-    result_dropped e = rw (e, stores)
-
-    pub result_again : step ≡ Again next → made again new [] ≡ storing t i (result_step (record_in t i) step)
-    result_again e = rw (e, stores)
+-- a result's refusal, with the row's record stored as it was
+pub result_refused :
+    (t : State) (i : ℕ) (step : Resulted) (n : ℕ) → state_sound t ≡ true → i < rows_in t.table → step ≡ Refused n → made (refusal n) t [] ≡ storing t i (result_step (record_in t i) step)
+result_refused t i step n sound within e = rw e (ap (λ s. made (refusal n) s []) (sym (stored_back t i sound within)))
 
 -- the supervisor of a notice that is sent is a number, or nobody
 pub sent_supervisor : (delay clock : ℕ) (r next : Record) → record_sound r ≡ true → sent delay clock r ≡ launches.Launched next → number_or_nobody r.supervisor.0 ≡ true

@@ -4,15 +4,9 @@ use mathlib.Core.Bool.{true}
 use mathlib.Core.List.{List, [], ◌∷◌, ◌++◌, append-nil}
 use Prim.Native.Nat.{ℕ, ◌+◌, ◌≤◌}
 use native.Mathlib.Omega.{arith}
-use mathlib.Core.Logic.{⊎_elim}
-use denote.Enum.Declared.{tag_of}
-use types.Run.{OneOf}
 use lib.ListN.{length, take}
 use lib.Seq.{take-append-add, take_at}
 use native.Mathlib.Nat.{add_comm}
-use Rattle.answers.specs.contracts.Written.{the_type}
-use Rattle.answers.specs.declared.Written.{Written}
-use Rattle.answers.specs.declared.Written.TheVariants.{Count}
 use Rattle.packing.specs.Packing.{octets_for}
 use Rattle.numbers.specs.Numbers.{is_number, digits_of}
 use Rattle.numbers.proofs.Digits.{digits_most}
@@ -27,7 +21,3 @@ pub holder_front : (w n : ℕ) (new rest : List ℕ) → n ≡ length (digits_of
 holder_front w n new rest e f =
     rw (add_comm n 3)
     (take-append-add (48 ∷ 51 ∷ 32 ∷ []) (new ++ []) n ∙ ap (λ (l : List ℕ). 48 ∷ 51 ∷ 32 ∷ l) (rw (append-nil, f) (take_at (digits_of w) rest n (sym e))))
-
--- a writer that counts is in no other arm
-pub counts_only : {A : Type 0} (w : Written) (n : ℕ) → w ≡ Count n → OneOf (1 ∷ 2 ∷ []) (tag_of the_type w) → A
-counts_only w n e h = absurd (⊎_elim (λ z. omega arith) (λ z. omega arith) (rw e at h))

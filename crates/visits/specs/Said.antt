@@ -1,31 +1,50 @@
 -- The paper's class, number and values for each case of the answers of the node's calls. Assumes nothing.
+use Rattle.std.specs.Prelude.{Result, Ok, Err, Option, Some, None}
+use Rattle.answers.specs.Numbers.{refusal_number, outcome_number, error_number}
+use Rattle.answers.specs.declared.Refusal.{Refusal}
+use Rattle.answers.specs.declared.Failure.{Failure}
+use Rattle.answers.specs.declared.Failure.TheVariants as failure
+use Rattle.numbers.specs.declared.FunctionalNumber.{FunctionalNumber}
+use Rattle.records.specs.declared.Fate.{Fate}
+use Rattle.records.specs.declared.Fate.TheVariants as fate
 use Rattle.rules.specs.Answers.{Answer, refusal, error, outcome, holder_is, sent_to, delivered, dropped, again, found, none_due}
-use Rattle.visits.specs.declared.RequestAnswer.{RequestAnswer}
-use Rattle.visits.specs.declared.RequestAnswer.TheVariants as request
-use Rattle.visits.specs.declared.SendingAnswer.{SendingAnswer}
-use Rattle.visits.specs.declared.SendingAnswer.TheVariants as sending
-use Rattle.visits.specs.declared.ResultAnswer.{ResultAnswer}
-use Rattle.visits.specs.declared.ResultAnswer.TheVariants as result
-use Rattle.visits.specs.declared.FindingAnswer.{FindingAnswer}
-use Rattle.visits.specs.declared.FindingAnswer.TheVariants as finding
+use Rattle.visits.specs.declared.Reply.{Reply}
+use Rattle.visits.specs.declared.Reply.TheVariants as reply
+use Rattle.visits.specs.declared.Sent.{Sent}
 
-abbrev pub said_request : RequestAnswer → Answer
-said_request (request.Refused n) = refusal n
-said_request (request.Error n) = error n
-said_request (request.Outcome n octets) = outcome n octets
-said_request (request.Held msisdn octets) = holder_is msisdn.0 octets
+-- what a reply says
+abbrev pub said_reply : Reply → Answer
+said_reply (reply.Outcome o octets) = outcome (outcome_number o) octets
+said_reply (reply.Held msisdn octets) = holder_is msisdn.0 octets
 
-abbrev pub said_sending : SendingAnswer → Answer
-said_sending (sending.Refused n) = refusal n
-said_sending (sending.Sent addressee octets) = sent_to addressee.0 octets
+-- why there is no reply
+abbrev pub said_failure : Failure → Answer
+said_failure (failure.Refused r) = refusal (refusal_number r)
+said_failure (failure.Error e) = error (error_number e)
 
-abbrev pub said_result : ResultAnswer → Answer
-said_result (result.Refused n) = refusal n
-said_result result.Delivered = delivered
-said_result result.Dropped = dropped
-said_result result.Again = again
+abbrev pub said_request : Result Reply Failure → Answer
+said_request (Ok r) = said_reply r
+said_request (Err f) = said_failure f
 
-abbrev pub said_finding : FindingAnswer → Answer
-said_finding (finding.Refused n) = refusal n
-said_finding (finding.Due number) = found number.0
-said_finding finding.NoneDue = none_due
+abbrev pub said_sending : Result Sent Refusal → Answer
+said_sending (Ok sent) = sent_to sent.addressee.0 sent.octets
+said_sending (Err r) = refusal (refusal_number r)
+
+-- what became of a notice
+abbrev pub said_fate : Fate → Answer
+said_fate fate.Delivered = delivered
+said_fate fate.Dropped = dropped
+said_fate fate.Again = again
+
+abbrev pub said_result : Result Fate Refusal → Answer
+said_result (Ok f) = said_fate f
+said_result (Err r) = refusal (refusal_number r)
+
+-- the lowest due number, or that none is due
+abbrev pub said_due : Option FunctionalNumber → Answer
+said_due (Some number) = found number.0
+said_due None = none_due
+
+abbrev pub said_finding : Result (Option FunctionalNumber) Refusal → Answer
+said_finding (Ok due) = said_due due
+said_finding (Err r) = refusal (refusal_number r)

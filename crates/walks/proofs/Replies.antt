@@ -15,8 +15,7 @@ use Rattle.crews.specs.Crews.{codes_text, spaced_codes}
 use Rattle.strings.specs.declared.Operation.{Operation}
 use Rattle.strings.specs.declared.Operation.TheVariants.{Register, Erase, Interrogate}
 use Rattle.states.specs.States.{State}
-use Rattle.rules.specs.Answers.{Answer, outcome, made, packed_over, octet_count}
-use Rattle.rules.specs.Crews.{Walk, crew_number, codes_and_space, crew_reply, crew_outcome}
+use Rattle.rules.specs.Crews.{Walk, crew_number, codes_and_space, crew_reply}
 use Rattle.writers.proofs.Numerals.{numeral_short}
 use Rattle.rules.proofs.Taken.{digit_taken, takes_numeral, takes_both, takes_space}
 use Rattle.walks.specs.declared.Codes.{Codes}
@@ -96,22 +95,7 @@ takes_tally n tally t w small few stands =
 
 -- ---- the outcome
 
-crew_two : (o : Operation) → numeral (crew_number o) ≡ two_digits (crew_number o)
-crew_two Register = refl
-crew_two Erase = refl
-crew_two Interrogate = refl
-
 pub crew_small : (o : Operation) → crew_number o < 256
 crew_small Register = omega arith
 crew_small Erase = omega arith
 crew_small Interrogate = omega arith
-
-pub crew_answered :
-    (o : Operation) (tally : Tally) (t : State) (b after : List ℕ) (w : Walk) (n : ℕ) (said : Answer) → Tallies tally t w → n ≡ crew_number o
-    → said ≡ outcome n (octet_count (tally_text n tally)) → after ≡ packed_over (tally_text n tally) b → made said t after ≡ crew_outcome (crew_number o) b w
-crew_answered o tally t b after w n said stands e f g =
-    ap (λ (a : Answer). made a t after) f
-    ∙ ap (λ (r : List ℕ). made (outcome n (octet_count (tally_text n tally))) t r) g
-    ∙ ap (λ (m : ℕ). made (outcome m (octet_count (tally_text m tally))) t (packed_over (tally_text m tally) b)) e
-    ∙ ap (λ (x : List ℕ). made (outcome (crew_number o) (octet_count x)) t (packed_over x b)) (tally_text_lem tally t w stands (crew_number o) (crew_two o))
-    ∙ ap (λ (u : State). made (outcome (crew_number o) (octet_count (crew_reply (crew_number o) w))) u (packed_over (crew_reply (crew_number o) w) b)) stands.left

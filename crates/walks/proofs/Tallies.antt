@@ -6,7 +6,11 @@ use Prim.Native.Nat.{ℕ, suc, ◌+◌, ◌*◌, ◌/◌, ◌%◌, ◌≤◌, �
 use native.Mathlib.Omega.{arith}
 use lib.ListN.{length, set, take, drop, length-set, length-append}
 use lib.Seq.{take-suc-set}
+use mathlib.Core.Logic.{◌⊎◌, inl, inr}
 use Rattle.answers.specs.Leading.{each}
+use Rattle.answers.specs.Numbers.{outcome_number}
+use Rattle.answers.specs.declared.Outcome.{Outcome}
+use Rattle.answers.specs.declared.Outcome.TheVariants as outcome
 use Rattle.answers.proofs.Leading.{each_append}
 use Rattle.numbers.specs.Numbers.{is_digit, are_digits, two_digits}
 use Rattle.numbers.specs.declared.FunctionalNumber.{FunctionalNumber}
@@ -54,6 +58,26 @@ one_more c code l few small h = record {
 }
 
 -- ---- one step more
+
+-- "Success is 01 or 02"
+pub succeeds : (o : Outcome) → ((o ≡ outcome.Registered) ⊎ (o ≡ outcome.Erased)) → is_success (says (outcome_number o)) ≡ true
+succeeds o (inl e) = rw e
+succeeds o (inr e) = rw e
+
+pub fails : (o : Outcome) → (o ≡ outcome.Registered → ⊥) → (o ≡ outcome.Erased → ⊥) → is_success (says (outcome_number o)) ≡ false
+fails outcome.Registered r e = absurd (r refl)
+fails outcome.Erased r e = absurd (e refl)
+fails outcome.CrewRegistered r e = refl
+fails outcome.CrewErased r e = refl
+fails outcome.NoSupervisor r e = refl
+fails outcome.UnknownNumber r e = refl
+fails outcome.NoFollowMe r e = refl
+fails outcome.HeldByAnother r e = refl
+fails outcome.NoHolder r e = refl
+fails outcome.NotTheHolder r e = refl
+fails outcome.ClosedNumber r e = refl
+fails outcome.OwnNumber r e = refl
+fails outcome.NoticePending r e = refl
 
 module _ (tally : Tally) (t new : State) (n : ℕ) (requester : Msisdn) (o : Operation) (lead : FunctionalNumber) (code : ℕ)
     (stepped : comes_to (says n) new ≡ step t requester (member_of (plainly o lead) code)) (w : Walk) (stands : Tallies tally t w) (c : Codes) where

@@ -2,25 +2,28 @@
 #![tactic(auto)]
 
 ghost use Rattle.std.specs.Prelude.{◌≡◌, true, false, List, [], ◌∷◌, ◌++◌, ℕ, ◌+◌, ◌*◌, ◌≤◌, ◌<◌, length};
+ghost use Rattle.answers.specs.Numbers.{outcome_number};
 ghost use Rattle.answers.specs.Writing.{Stands};
 ghost use Rattle.packing.specs.Packing.{takes};
 ghost use Rattle.numbers.specs.Numbers.{is_number, are_digits};
 ghost use Rattle.crews.specs.Crews.{codes_in};
-ghost use Rattle.states.specs.States.{beside, state_sound};
-ghost use Rattle.rules.specs.Answers.{outcome, made, buffer_room, packed_over, octet_count};
+ghost use Rattle.states.specs.Lent.{state_in, SameLoans};
+ghost use Rattle.states.specs.States.{state_sound};
+ghost use Rattle.rules.specs.Answers.{outcome as outcome_of, made, buffer_room, packed_over, octet_count};
 ghost use Rattle.rules.specs.Requests.{is_interrogate, says, comes_to};
 ghost use Rattle.rules.specs.Requests as requests;
 ghost use Rattle.rules.specs.Crews.{Walk, crew_codes, walked, set_out, crew_number, crew_outcome};
-ghost use Rattle.visits.specs.Said.{said_request};
+ghost use Rattle.visits.specs.Said.{said_reply};
 ghost use Rattle.rules.specs.Crews.{most_steps};
 ghost use Rattle.rules.specs.Singles.{plainly};
 ghost use Rattle.walks.specs.Tallies.{codes_room, Holds, steps_counted, FitsReply, Tallies, gone_on, part_of, reply_room, tally_text};
 
+use answers::Outcome;
 use crews::LEAD_CODE;
 use numbers::{FunctionalNumber, Msisdn};
+use states::Lent;
 use strings::Operation;
-use tables::Found;
-use visits::RequestAnswer;
+use visits::Reply;
 
 // The lead and at most nine codes.
 const MOST_STEPS: usize = 10;
@@ -28,20 +31,16 @@ const MOST_STEPS: usize = 10;
 // `11`, and twice a space, two digits, a space and codes: ten codes in all.
 const REPLY_ROOM: usize = 30;
 
-// The outcomes of a crew's registration and of its erasure.
-const CREW_REGISTERED: u8 = 11;
-
-const CREW_ERASED: u8 = 12;
-
 // Codes by their digits, one behind the other.
-#[derive(Clone, Copy)]
+// Kept: fixed memory, a rule of the project: a walk is lent no words in which a slice of codes could stand.
+#[derive(Clone, Copy, Debug, PartialEq, Eq)]
 struct Codes {
     digits: [u8; 2 * MOST_STEPS],
     count: usize,
 }
 
 // The codes of the steps that succeeded, and of those that failed, each in their order.
-#[derive(Clone, Copy)]
+#[derive(Clone, Copy, Debug, PartialEq, Eq)]
 struct Tally {
     successes: Codes,
     failures: Codes,
@@ -70,86 +69,81 @@ fn with_code(codes: Codes, code: u64) -> Codes
     }
 }
 
-// The step of one number: what its single request comes to, by the outcome's number.
+// The step of one number: the outcome of its single request.
 fn step(
-    table: &mut [u64],
-    figures: &mut [u64],
+    lent: &mut Lent<'_>,
     requester: Msisdn,
     operation: Operation,
     number: FunctionalNumber,
-) -> u8
-    requires { (state_sound (beside table.old figures.old) ≡ true) × (is_interrogate operation ≡ false) }
-    ensures { comes_to (says result) (beside table.new figures.new) ≡ requests.step (beside table.old figures.old) requester (plainly operation number) }
+) -> Outcome
+    requires { (state_sound (state_in lent.old) ≡ true) × (is_interrogate operation ≡ false) }
+    ensures answer { comes_to (says (outcome_number result)) (state_in lent.new) ≡ requests.step (state_in lent.old) requester (plainly operation number) }
+    ensures loans { SameLoans lent.old lent.new }
 {
-    let found = tables::row_of(table, number);
-    let Found::At(row) = found else {
-        return 41;
+    let Some(row) = lent.row_of(number) else {
+        return Outcome::UnknownNumber;
     };
-    let record = rows::load(table, row);
-    let Operation::Register = operation else {
-        let step = record.erase(number, requester);
-        return visits::settle(table, figures, row, 2, step);
-    };
-    let step = record.register(number, requester);
-    visits::settle(table, figures, row, 1, step)
+    let record = lent.load(row);
+    match operation {
+        Operation::Register => {
+            let step = record.register(number, requester);
+            visits::settle(lent, row, Outcome::Registered, step)
+        }
+        _ => {
+            let step = record.erase(number, requester);
+            visits::settle(lent, row, Outcome::Erased, step)
+        }
+    }
 }
 
 // One step more: of the number with its last two digits replaced, its code among the successes or among the failures.
 fn step_on(
-    table: &mut [u64],
-    figures: &mut [u64],
+    lent: &mut Lent<'_>,
     requester: Msisdn,
     operation: Operation,
     lead: FunctionalNumber,
     code: u64,
     tally: Tally,
 ) -> Tally
-    requires figures_value { (state_sound (beside table.old figures.old) ≡ true) × (is_interrogate operation ≡ false) × (is_number requester.0 ≡ true) }
+    requires figures_value { (state_sound (state_in lent.old) ≡ true) × (is_interrogate operation ≡ false) × (is_number requester.0 ≡ true) }
     requires lead_value { (is_number lead.0 ≡ true) × (code < 100) × (steps_counted tally < most_steps) }
-    ensures { (state_sound (beside table.new figures.new) ≡ true) × (steps_counted result ≡ steps_counted tally + 1) × ((w : Walk) → Tallies tally (beside table.old figures.old) w → Tallies result (beside table.new figures.new) (gone_on requester operation lead code w)) }
+    ensures answer { (state_sound (state_in lent.new) ≡ true) × (steps_counted result ≡ steps_counted tally + 1) × ((w : Walk) → Tallies tally (state_in lent.old) w → Tallies result (state_in lent.new) (gone_on requester operation lead code w)) }
+    ensures loans { SameLoans lent.old lent.new }
 {
     let number = FunctionalNumber(100 * (lead.0 / 100) + code);
-    let n = step(table, figures, requester, operation, number);
-    let successes = tally.successes;
-    let failures = tally.failures;
-    if (n == 1) | (n == 2) {
-        return Tally {
-            successes: with_code(successes, code),
-            failures,
-        };
-    }
-    Tally {
-        successes,
-        failures: with_code(failures, code),
+    match step(lent, requester, operation, number) {
+        Outcome::Registered | Outcome::Erased => Tally {
+            successes: with_code(tally.successes, code),
+            ..tally
+        },
+        _ => Tally {
+            failures: with_code(tally.failures, code),
+            ..tally
+        },
     }
 }
 
 // The walk: the lead's step, then each code's, in their order.
 fn walk(
-    table: &mut [u64],
-    figures: &mut [u64],
+    lent: &mut Lent<'_>,
     requester: Msisdn,
     operation: Operation,
     lead: FunctionalNumber,
     digits: &[u8],
 ) -> Tally
-    requires figures_value { (state_sound (beside table.old figures.old) ≡ true) × (is_interrogate operation ≡ false) × (is_number requester.0 ≡ true) }
+    requires figures_value { (state_sound (state_in lent.old) ≡ true) × (is_interrogate operation ≡ false) × (is_number requester.0 ≡ true) }
     requires lead_value { (is_number lead.0 ≡ true) × (are_digits digits.now ≡ true) × (length digits.now < 2 * most_steps) }
-    ensures { (steps_counted result ≤ most_steps) × Tallies result (beside table.new figures.new) (walked requester (plainly operation lead) (crew_codes (codes_in digits.now)) (set_out (beside table.old figures.old))) }
+    ensures answer { (steps_counted result ≤ most_steps) × Tallies result (state_in lent.new) (walked requester (plainly operation lead) (crew_codes (codes_in digits.now)) (set_out (state_in lent.old))) }
+    ensures loans { SameLoans lent.old lent.new }
 {
-    let successes = no_codes();
-    let failures = no_codes();
-    let mut tally = Tally {
-        successes,
-        failures,
+    let none = Tally {
+        successes: no_codes(),
+        failures: no_codes(),
     };
-    tally = step_on(table, figures, requester, operation, lead, LEAD_CODE, tally);
-    let n = digits.len() / 2;
-    let mut i = 0;
-    while i < n {
+    let mut tally = step_on(lent, requester, operation, lead, LEAD_CODE, none);
+    for i in 0..digits.len() / 2 {
         let code = crews::code_at(digits, i);
-        tally = step_on(table, figures, requester, operation, lead, code, tally);
-        i += 1;
+        tally = step_on(lent, requester, operation, lead, code, tally);
     }
     tally
 }
@@ -190,43 +184,41 @@ fn write_reply(n: u8, tally: Tally, text: &mut [u8]) -> usize
 }
 
 // The outcome, its text in the reply.
-fn answer(n: u8, tally: Tally, reply: &mut [u8]) -> RequestAnswer
-    requires { FitsReply tally × (takes (tally_text n tally) ≡ true) × (buffer_room ≤ length reply.old) }
-    ensures { (said_request result ≡ outcome n (octet_count (tally_text n tally))) × (reply.new ≡ packed_over (tally_text n tally) reply.old) }
+fn answer(outcome: Outcome, tally: Tally, reply: &mut [u8]) -> Reply
+    requires { FitsReply tally × (takes (tally_text (outcome_number outcome) tally) ≡ true) × (buffer_room ≤ length reply.old) }
+    ensures { (said_reply result ≡ outcome_of (outcome_number outcome) (octet_count (tally_text (outcome_number outcome) tally))) × (reply.new ≡ packed_over (tally_text (outcome_number outcome) tally) reply.old) }
 {
     let mut text = [0u8; REPLY_ROOM];
-    let count = write_reply(n, tally, &mut text);
+    let count = write_reply(u8::from(outcome), tally, &mut text);
     let octets = visits::put(&text[..count], reply);
-    RequestAnswer::Outcome(n, octets)
+    Reply::Outcome(outcome, octets)
 }
 
-// The number of a crew's outcome.
-fn crew_number(operation: Operation) -> u8
-    ensures { result ≡ crew_number operation }
+// The outcome of a crew's registration or of its erasure.
+fn crew_success(operation: Operation) -> Outcome
+    ensures { outcome_number result ≡ crew_number operation }
 {
     match operation {
-        Operation::Register => CREW_REGISTERED,
-        Operation::Erase => CREW_ERASED,
-        Operation::Interrogate => CREW_ERASED,
+        Operation::Register => Outcome::CrewRegistered,
+        _ => Outcome::CrewErased,
     }
 }
 
 // The request of a crew: its lead's number and the digits of its codes.
 pub fn request_crew(
-    table: &mut [u64],
-    figures: &mut [u64],
+    lent: &mut Lent<'_>,
     reply: &mut [u8],
     requester: Msisdn,
     operation: Operation,
     lead: FunctionalNumber,
     digits: &[u8],
-) -> RequestAnswer
-    requires figures_value { (state_sound (beside table.old figures.old) ≡ true) × (is_interrogate operation ≡ false) × (is_number requester.0 ≡ true) }
+) -> Reply
+    requires figures_value { (state_sound (state_in lent.old) ≡ true) × (is_interrogate operation ≡ false) × (is_number requester.0 ≡ true) }
     requires lead_value { (is_number lead.0 ≡ true) × (are_digits digits.now ≡ true) × (length digits.now < 2 * most_steps) }
     requires buffer_room_in_bounds { buffer_room ≤ length reply.old }
-    ensures { made (said_request result) (beside table.new figures.new) reply.new ≡ crew_outcome (crew_number operation) reply.old (walked requester (plainly operation lead) (crew_codes (codes_in digits.now)) (set_out (beside table.old figures.old))) }
+    ensures answer { made (said_reply result) (state_in lent.new) reply.new ≡ crew_outcome (crew_number operation) reply.old (walked requester (plainly operation lead) (crew_codes (codes_in digits.now)) (set_out (state_in lent.old))) }
+    ensures loans { SameLoans lent.old lent.new }
 {
-    let tally = walk(table, figures, requester, operation, lead, digits);
-    let n = crew_number(operation);
-    answer(n, tally, reply)
+    let tally = walk(lent, requester, operation, lead, digits);
+    answer(crew_success(operation), tally, reply)
 }

@@ -13,8 +13,8 @@ use Rattle.numbers.specs.Numbers.{is_number, is_nobody}
 use Rattle.records.specs.declared.Record.{Record}
 use Rattle.records.specs.Steps.{is_absent, has_run_out}
 use Rattle.rows.specs.Rows.{one}
-use Rattle.tables.specs.declared.Found.{Found}
-use Rattle.tables.specs.declared.Found.TheVariants.{At, Nothing}
+use Rattle.tables.specs.Keys.{Found}
+use Rattle.std.specs.Prelude.{Some, None}
 use Rattle.tables.specs.Tables.{most_numbers, rows_in, row_of}
 use Rattle.tables.proofs.Stored.{record_found_lem}
 use Rattle.states.specs.States.{State, beside, state_sound, record_for, record_in}
@@ -98,12 +98,12 @@ closing_unbroken s number sound = record {
 
     go : (k : ℕ) (b : Bool) → is_number number ≡ b → (f : Found) → row_of s.table number ≡ f → (same : Bool) → eqb k number ≡ same → Same k (closing_number s number)
     go k false e f q same m = subst (Same k) (closing_malformed s number sound e) refl
-    go k true e Nothing q same m = subst (Same k) (closing_missing s number sound e q) refl
-    go k true e (At i) q true m =
+    go k true e None q same m = subst (Same k) (closing_missing s number sound e q) refl
+    go k true e (Some i) q true m =
         let found = record_found_lem s.table number i q in
         rw (eqb-true k number m) (subst (Same number) (sym (closing_done s number sound e i q))
         (ap pending_of (closed_own s number i sound q (record_in s i) found) ∙ sym (ap pending_of found)))
-    go k true e (At i) q false m =
+    go k true e (Some i) q false m =
         subst (Same k) (sym (closing_done s number sound e i q)) (ap pending_of (closed_other s number i sound q k (eqb-false k number m)))
 
 module _ (words : List ℕ) (used : ℕ) (figures : List ℕ) (within : used ≤ rows_in words) (sound : state_sound (beside (in_use words used) figures) ≡ true) where

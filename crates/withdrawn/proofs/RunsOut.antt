@@ -10,8 +10,8 @@ use borrow.Author.Tests.{eqb-true, eqb-false}
 use Rattle.numbers.specs.Numbers.{is_number}
 use Rattle.numbers.specs.declared.FunctionalNumber.{FunctionalNumber}
 use Rattle.records.specs.Steps.{closing}
-use Rattle.tables.specs.declared.Found.{Found}
-use Rattle.tables.specs.declared.Found.TheVariants.{At, Nothing}
+use Rattle.tables.specs.Keys.{Found}
+use Rattle.std.specs.Prelude.{Some, None}
 use Rattle.tables.specs.Tables.{row_of}
 use Rattle.tables.proofs.Stored.{record_found_lem}
 use Rattle.states.specs.States.{State, beside, state_sound, record_for, record_in}
@@ -52,12 +52,12 @@ module _ (list : List ℕ) (delay : ℕ) where
 
         go : (b : Bool) → is_number n ≡ b → (f : Found) → row_of s.table n ≡ f → (same : Bool) → eqb k n ≡ same → Stays (closing_number s n)
         go false e f q same m = subst Stays (closing_malformed s n sound e) refl
-        go true e Nothing q same m = subst Stays (closing_missing s n sound e q) refl
-        go true e (At i) q true m =
+        go true e None q same m = subst Stays (closing_missing s n sound e q) refl
+        go true e (Some i) q true m =
             let one = eqb-true k n m in
             let already : (record_in s i).closed ≡ true = sym (ap is_closed (record_found_lem s.table n i q)) ∙ ap (λ (x : ℕ). is_closed (record_for s x)) (sym one) ∙ c in
             subst Stays (sym (closed_already s n i sound q e already)) refl
-        go true e (At i) q false m = subst Stays (sym (closing_done s n sound e i q)) (closed_other s n i sound q k (eqb-false k n m))
+        go true e (Some i) q false m = subst Stays (sym (closing_done s n sound e i q)) (closed_other s n i sound q k (eqb-false k n m))
 
     event_withdrawn : (e : Event) (s : State) → state_sound s ≡ true → is_closed (record_for s k) ≡ true → Withdrawn k s (left_by list delay e s)
     event_withdrawn (called c) s sound closed = withdrawn list delay k (c ∷ []) s closed

@@ -10,7 +10,7 @@ ghost use Rattle.strings.specs.Outcomes.{writing_request};
 ghost use Rattle.strings.specs.Notices.{notice_text, notice_fields};
 ghost use Rattle.strings.specs.Writable.{msisdn_writable, Writable};
 
-use answers::Written;
+use answers::Refusal;
 use numbers::{FunctionalNumber, Msisdn};
 use strings::{Erasing, MOST_ADDITIONAL, MOST_CHARACTERS, Operation};
 
@@ -60,17 +60,15 @@ fn put_operation(operation: Operation, out: &mut [u8]) -> usize
     }
 }
 
-// Writes a number's digits and the star.
-fn put_number(word: u64, out: &mut [u8]) -> usize
+// Writes a number's digits and what stands behind them.
+pub fn put_number(word: u64, behind: &[u8], out: &mut [u8]) -> usize
     requires word_value { is_number word ≡ true }
-    requires most_digits_in_bounds { most_digits < length out.old }
-    ensures { Stands (digits_of word ++ star) out.old result out.new }
+    requires room { most_digits + length behind.now ≤ length out.old }
+    ensures { Stands (digits_of word ++ behind.now) out.old result out.new }
 {
     // A number, and room: nothing is refused.
-    let Written::Count(at) = numbers::write_digits(word, out) else {
-        return 0;
-    };
-    at + put(b"*", &mut out[at..])
+    let at = numbers::write_digits(word, out).unwrap();
+    at + put(behind, &mut out[at..])
 }
 
 // Writes an MSISDN's digits and the star; nobody has no digits.
@@ -82,7 +80,7 @@ fn put_msisdn(msisdn: Msisdn, out: &mut [u8]) -> usize
     if msisdn.0 == 0 {
         return put(b"*", out);
     }
-    put_number(msisdn.0, out)
+    put_number(msisdn.0, b"*", out)
 }
 
 // Writes supervisor field and MSISDN, each with its star.
@@ -109,45 +107,6 @@ fn put_additional(additional: &[u8], out: &mut [u8]) -> usize
     at + put(b"#", &mut out[at..])
 }
 
-// Writes the text of fields, a request's or a notice's.
-fn write_text(
-    operation: Operation,
-    number: FunctionalNumber,
-    erasing: Erasing,
-    additional: &[u8],
-    text: &mut [u8],
-) -> usize
-    requires writable { Writable (request_from operation number erasing additional.now) }
-    requires most_characters_in_bounds { most_characters ≤ length text.old }
-    ensures { Stands (text_of (request_from operation number erasing additional.now)) text.old result text.new }
-{
-    let at = put_operation(operation, text);
-    let at = at + put_number(number.0, &mut text[at..]);
-    let at = at + put_erasing(erasing, &mut text[at..]);
-    at + put_additional(additional, &mut text[at..])
-}
-
-// Writes the packed text of such fields.
-fn write_packed(
-    operation: Operation,
-    number: FunctionalNumber,
-    erasing: Erasing,
-    additional: &[u8],
-    out: &mut [u8],
-) -> usize
-    requires writable { Writable (request_from operation number erasing additional.now) }
-    requires most_octets_in_bounds { most_octets ≤ length out.old }
-    ensures { Stands (packed (text_of (request_from operation number erasing additional.now))) out.old result out.new }
-{
-    let mut text = [0u8; MOST_CHARACTERS];
-    let n = write_text(operation, number, erasing, additional, &mut text);
-    // Characters that the packer takes, and room: nothing is refused.
-    let Written::Count(count) = packing::pack(&text[..n], out) else {
-        return 0;
-    };
-    count
-}
-
 // Whether supervisor field and MSISDN keep the string's rules.
 fn erasing_sound(operation: Operation, erasing: Erasing) -> bool
     ensures { result ≡ erasing_sound operation erasing }
@@ -158,25 +117,55 @@ fn erasing_sound(operation: Operation, erasing: Erasing) -> bool
     }
 }
 
-// Whether fields keep the string's rules.
-fn request_sound(
+// The fields that a text is written from: a request's, or a notice's, whose supervisor stands in the MSISDN's place.
+#[derive(Clone, Copy)]
+struct Request<'a> {
     operation: Operation,
     number: FunctionalNumber,
     erasing: Erasing,
-    additional: &[u8],
-) -> bool
-    ensures { result ≡ request_sound (request_from operation number erasing additional.now) }
-{
-    let count = additional.len();
-    if MOST_ADDITIONAL < count {
-        return false;
+    additional: &'a [u8],
+}
+
+impl Request<'_> {
+    // Whether the fields keep the string's rules.
+    fn is_sound(self) -> bool
+        ensures { result ≡ request_sound (request_from self.entry.operation self.entry.number self.entry.erasing self.entry.additional.now) }
+    {
+        let count = self.additional.len();
+        if MOST_ADDITIONAL < count {
+            return false;
+        }
+        let leading = strings::leading_additional(self.additional);
+        let crew = crews::read_crew(self.additional);
+        numbers::is_number(self.number.0)
+            & erasing_sound(self.operation, self.erasing)
+            & (leading == count)
+            & strings::crew_allowed(self.operation, self.number, self.erasing, crew)
     }
-    let leading = strings::leading_additional(additional);
-    let crew = crews::read_crew(additional);
-    numbers::is_number(number.0)
-        & erasing_sound(operation, erasing)
-        & (leading == count)
-        & strings::crew_allowed(operation, number, erasing, crew)
+
+    // Writes the text.
+    fn write_text(self, text: &mut [u8]) -> usize
+        requires writable { Writable (request_from self.operation self.number self.erasing self.additional.now) }
+        requires most_characters_in_bounds { most_characters ≤ length text.old }
+        ensures { Stands (text_of (request_from self.entry.operation self.entry.number self.entry.erasing self.entry.additional.now)) text.old result text.new }
+    {
+        let at = put_operation(self.operation, text);
+        let at = at + put_number(self.number.0, b"*", &mut text[at..]);
+        let at = at + put_erasing(self.erasing, &mut text[at..]);
+        at + put_additional(self.additional, &mut text[at..])
+    }
+
+    // Writes the packed text.
+    fn write_packed(self, out: &mut [u8]) -> usize
+        requires writable { Writable (request_from self.operation self.number self.erasing self.additional.now) }
+        requires most_octets_in_bounds { most_octets ≤ length out.old }
+        ensures { Stands (packed (text_of (request_from self.entry.operation self.entry.number self.entry.erasing self.entry.additional.now))) out.old result out.new }
+    {
+        let mut text = [0u8; MOST_CHARACTERS];
+        let n = self.write_text(&mut text);
+        // Characters that the packer takes, and room: nothing is refused.
+        packing::pack(&text[..n], out).unwrap()
+    }
 }
 
 // Writes a request as a packed string; what lies beyond stays.
@@ -186,16 +175,22 @@ pub fn write_request(
     erasing: Erasing,
     additional: &[u8],
     out: &mut [u8],
-) -> Written
+) -> Result<usize, Refusal>
     ensures { made_write result out.new ≡ writing_request (request_from operation number erasing additional.now) out.old }
 {
     if out.len() < WRITER_ROOM {
-        return Written::TooShort;
+        return Err(Refusal::NoRoom);
     }
-    if !request_sound(operation, number, erasing, additional) {
-        return Written::Unfit;
+    let request = Request {
+        operation,
+        number,
+        erasing,
+        additional,
+    };
+    if !request.is_sound() {
+        return Err(Refusal::Unfit);
     }
-    Written::Count(write_packed(operation, number, erasing, additional, out))
+    Ok(request.write_packed(out))
 }
 
 // Writes a notice to a holder that was forced off: the supervisor in the MSISDN's place, or nobody.
@@ -204,11 +199,11 @@ pub fn write_notice(number: FunctionalNumber, supervisor: Msisdn, out: &mut [u8]
     requires most_octets_in_bounds { most_octets ≤ length out.old }
     ensures { Stands (packed (notice_text (notice_fields number supervisor))) out.old result out.new }
 {
-    write_packed(
-        Operation::Erase,
+    let request = Request {
+        operation: Operation::Erase,
         number,
-        Erasing::Forced(supervisor),
-        b"",
-        out,
-    )
+        erasing: Erasing::Forced(supervisor),
+        additional: b"",
+    };
+    request.write_packed(out)
 }

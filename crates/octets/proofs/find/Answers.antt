@@ -1,18 +1,18 @@
-use Rattle.std.proofs.Common.{arith}
-use Rattle.octets.proofs.Places.{found_here, found_behind, found_nowhere}
+use Rattle.std.proofs.Common.{arith, ◌≡◌, ◌-◌, ◌≤◌, take, drop, ℕ}
+use lib.ListN.{length-take}
+use Rattle.octets.specs.Octets.{index_of, slice}
+use Rattle.octets.proofs.Places.{index_counted, index_within}
 use Rattle.octets.proofs.find.Goals as goal
 
-pub returns-then-text-i : goal.returns-then-text-i
-returns-then-text-i c =
-    let e = found_here c.args.text.now c.loop-i.i c.args.end c.args.octet (omega arith) (omega arith) (omega arith) in
-    record { place = omega arith; bound = omega arith }
+counted : (c : goal.After-stand_before) → (c.stand_before.result ≡ index_of c.args.octet (slice c.args.start c.args.end c.args.text.now)) × (c.stand_before.result ≤ c.args.end - c.args.start)
+unfolding slice
+counted c =
+    let s = take (c.args.end - c.args.start) (drop c.args.start c.args.text.now) in
+    let e = index_counted c.args.octet s in
+    (omega (arith, c.stand_before.ensures), omega (arith, c.stand_before.ensures, index_within c.args.octet s, length-take {A = ℕ}))
 
-pub loop-i-preserved : goal.loop-i-preserved
-loop-i-preserved c =
-    let e = found_behind c.args.text.now c.loop-i.i c.args.end c.args.octet (omega arith) (omega arith) (λ k. omega arith) in
-    (omega arith, omega arith)
+pub overflow_add-result : goal.overflow_add-result
+overflow_add-result c = omega (arith, counted c)
 
 pub returns : goal.returns
-returns c =
-    let e = found_nowhere c.args.text.now c.loop-i.i c.args.end c.args.octet (omega arith) in
-    record { place = omega arith; bound = omega arith }
+returns c = record { place = omega (arith, counted c); bound = omega (arith, counted c) }

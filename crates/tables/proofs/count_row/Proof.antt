@@ -5,6 +5,7 @@ use native.Mathlib.Omega.{arith}
 use borrow.Author.Rules.{rules}
 use borrow.Author.Tests.{ne_eqb}
 use Rattle.rows.specs.Rows.{phase_at, one}
+use Rattle.rows.proofs.Rows.{flag_word}
 use Rattle.tables.specs.declared.Figures.{Figures}
 use Rattle.tables.specs.Figures.{is_held_at, waits_at, flies_at, with_row}
 use Rattle.tables.proofs.Counts.{one_most}
@@ -14,11 +15,11 @@ use Rattle.tables.proofs.count_row.Tie as tie
 bounds-words-1 : tie.Need-bounds-words-1
 bounds-words-1 c = search rules
 
-one_if-requires : tie.Need-one_if-requires
-one_if-requires c κs = search rules
+from-requires : tie.Need-from-requires
+from-requires c κs = search rules
 
 overflow_add-held : tie.Need-overflow_add-held
-overflow_add-held c = omega (arith, c.one_if.ensures, one_most (is_held_at c.args.words.now 0))
+overflow_add-held c = omega (arith, c.from.ensures, flag_word (is_held_at c.args.words.now 0), one_most (is_held_at c.args.words.now 0))
 
 bounds-words-2 : tie.Need-bounds-words-2
 bounds-words-2 c = search rules
@@ -42,7 +43,7 @@ returns-then-phase-eq0 : tie.Need-returns-then-phase-eq0
 returns-then-phase-eq0 c =
     let a = c.args in
     let n = absent a.words.now c.if-phase-eq0.true in
-    counted a.words.now a.figures _ _ _ (omega (arith, c.one_if.ensures)) (omega (arith, n.0)) (omega (arith, n.1))
+    counted a.words.now a.figures _ _ _ (omega (arith, c.from.ensures, flag_word (is_held_at c.args.words.now 0))) (omega (arith, n.0)) (omega (arith, n.1))
 
 overflow_add-result : tie.Need-overflow_add-result
 overflow_add-result c = search rules
@@ -51,7 +52,7 @@ returns-then-phase-eq1 : tie.Need-returns-then-phase-eq1
 returns-then-phase-eq1 c =
     let a = c.args in
     let n = odd a.words.now c.if-phase-eq1.true in
-    counted a.words.now a.figures _ _ _ (omega (arith, c.one_if.ensures)) (omega (arith, n.0)) (omega (arith, n.1))
+    counted a.words.now a.figures _ _ _ (omega (arith, c.from.ensures, flag_word (is_held_at c.args.words.now 0))) (omega (arith, n.0)) (omega (arith, n.1))
 
 overflow_add-result-2 : tie.Need-overflow_add-result-2
 overflow_add-result-2 c = search rules
@@ -60,14 +61,14 @@ returns : tie.Need-returns
 returns c =
     let a = c.args in
     let n = even a.words.now c.if-phase-eq0.false c.if-phase-eq1.false in
-    counted a.words.now a.figures _ _ _ (omega (arith, c.one_if.ensures)) (omega (arith, n.0)) (omega (arith, n.1))
+    counted a.words.now a.figures _ _ _ (omega (arith, c.from.ensures, flag_word (is_held_at c.args.words.now 0))) (omega (arith, n.0)) (omega (arith, n.1))
 
 pub count_row_spec : {M : Type 1} → statement M
 count_row_spec =
     tie.close
     (tie.spec
     bounds-words-1
-    one_if-requires
+    from-requires
     overflow_add-held
     bounds-words-2
     returns-then-phase-eq0

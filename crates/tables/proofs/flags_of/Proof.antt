@@ -15,9 +15,9 @@ enum_known-row : tie.Need-enum_known-row
 enum_known-row c = search rules
 
 -- the row found is one of the list's
-row_within : (c : tie.In-At) → c.in-At.row < subscribers_in c.args.list.now
+row_within : (c : tie.In-Some) → c.in-Some.row < subscribers_in c.args.list.now
 row_within c =
-    (place_found _ _ _ _ (sym c.place_of.ensures ∙ c.in-At.is)).0
+    (place_found _ _ _ _ (sym c.place_of.ensures ∙ c.in-Some.is)).0
 
 overflow_mul-result : tie.Need-overflow_mul-result
 overflow_mul-result c = omega (arith, row_within c)
@@ -34,14 +34,14 @@ bounds-list-row c = omega (arith, row_within c.before)
 enum_told-1 : tie.Need-enum_told-1
 enum_told-1 c = search rules
 
-returns-in-At : tie.Need-returns-in-At
+returns-in-Some : tie.Need-returns-in-Some
 unfolding flags_of
-returns-in-At c =
-    simp (sym c.place_of.ensures ∙ c.in-At.is)
+returns-in-Some c =
+    simp (sym c.place_of.ensures ∙ c.in-Some.is)
 
-returns-in-Nothing : tie.Need-returns-in-Nothing
+returns-in-None : tie.Need-returns-in-None
 unfolding flags_of
-returns-in-Nothing c = simp (sym c.place_of.ensures ∙ c.in-Nothing.is)
+returns-in-None c = simp (sym c.place_of.ensures ∙ c.in-None.is)
 
 pub flags_of_spec : {M : Type 1} → statement M
 flags_of_spec =
@@ -54,5 +54,5 @@ flags_of_spec =
     offset_bounds-list-row
     bounds-list-row
     enum_told-1
-    returns-in-At
-    returns-in-Nothing)
+    returns-in-Some
+    returns-in-None)

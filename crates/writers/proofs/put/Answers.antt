@@ -1,4 +1,3 @@
-use Rattle.std.proofs.Common.{rules}
 use Rattle.writers.proofs.put.Goals as goal
 
 pub returns : goal.returns

@@ -1,5 +1,5 @@
 use Rattle.std.proofs.Common.{◌≡◌, Bool, false, ap, rules, eq-eqb, ne_eqb}
-use Rattle.records.specs.declared.Step.TheVariants as step
+use Rattle.records.specs.Step.{Becomes}
 use Rattle.records.specs.Steps.{registered}
 use Rattle.records.proofs.Record.register.Statement.{statement}
 use Rattle.records.proofs.Record.register.Tie as tie
@@ -25,7 +25,7 @@ returns c =
     let a = c.args in
     let unclosed : a.self.closed ≡ false = c.if-self.false in
     rw (ne_eqb _ _ c.if-number_word-requester_word.false, unclosed, c.if-holder_word-requester_word.false, c.held_by.ensures)
-    (ap (λ (b : Bool). step.Becomes (record { holder = a.requester; notice = a.self.notice; addressee = a.self.addressee; supervisor = a.self.supervisor; closed = b })) unclosed)
+    (ap (λ (b : Bool). Becomes (record { holder = a.requester; notice = a.self.notice; addressee = a.self.addressee; supervisor = a.self.supervisor; closed = b })) unclosed)
 
 pub register_spec : {M : Type 1} → statement M
 register_spec = tie.close (tie.spec

@@ -1,0 +1,18 @@
+-- `frames::read_body` meets its contract: its tests are the definition's, in the same order. Assumes nothing.
+use mathlib.Core.Path.{sym}
+use Rattle.answers.proofs.Begins.{begins_within}
+use Rattle.frames.specs.Components.{operation}
+use Rattle.frames.proofs.Bodies.{body_other, body_told}
+use Rattle.frames.proofs.read_body.Goals as goal
+
+pub returns-then-not-begins_with : goal.returns-then-not-begins_with
+returns-then-not-begins_with c = body_other _ (sym c.if-not-begins_with.ensures)
+
+pub slice_bounds-read_argument-count : goal.slice_bounds-read_argument-count
+slice_bounds-read_argument-count c = begins_within operation _ (sym c.if-not-begins_with.ensures)
+
+pub slice_bounds-read_argument-start : goal.slice_bounds-read_argument-start
+slice_bounds-read_argument-start c = begins_within operation _ (sym c.if-not-begins_with.ensures)
+
+pub returns : goal.returns
+returns c = rw c.ok_or.ensures.value (body_told _ (sym c.if-not-begins_with.ensures) _ c.read_argument.ensures)

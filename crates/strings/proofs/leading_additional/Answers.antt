@@ -1,0 +1,17 @@
+-- Assumes nothing.
+use Rattle.std.proofs.Common.{refl, sym, ◌∙◌, rules, tests}
+use Rattle.std.proofs.lemmas.Iterator.{YieldsList-from_slice}
+use Rattle.std.proofs.lemmas.Iterator.Consumers.{count_from_yields_List}
+use Rattle.std.proofs.lemmas.Iterator.Search.{YieldsList-from_take_while}
+use Rattle.std.proofs.lemmas.List.Folds.{length-prefix_len}
+use Rattle.numbers.proofs.Prefix.{leading_prefix}
+use Rattle.strings.specs.Text.{is_additional}
+use Rattle.strings.proofs.leading_additional.Goals as goal
+
+pub returns : goal.returns
+returns c =
+    let part = c.args.part.now in
+    count_from_yields_List c.take_while.result _ c.count.ensures.ran
+    (YieldsList-from_take_while _ is_additional (YieldsList-from_slice part (cc)) c.take_while.ensures.closure c.take_while.ensures.done (λ x b q k. search (rules, tests)))
+    ∙ length-prefix_len is_additional part
+    ∙ sym (leading_prefix is_additional is_additional (λ x. refl) part)

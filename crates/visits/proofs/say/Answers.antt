@@ -1,0 +1,8 @@
+use Rattle.std.proofs.Common.{arith}
+use Rattle.packing.specs.Packing.{octets_for}
+use Rattle.rules.proofs.Taken.{takes_two}
+use Rattle.visits.proofs.say.Goals as goal
+
+pub put-octets-requires : goal.put-octets-requires
+unfolding octets_for
+put-octets-requires c = (takes_two c.from-n.result (omega arith), omega arith)
