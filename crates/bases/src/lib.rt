@@ -37,6 +37,7 @@ pub fn few(octets: &[u8], base: u64, above: u64) -> u64
 }
 
 // Stores the count lowest digits of a number to a base.
+// Kept: a count beside the octets, since the rest behind them stays (`pack`, `unpack`).
 pub fn store_few(out: &mut [u8], count: usize, whole: u64, base: u64)
     requires { (count ≤ length out.old) × (0 < base) × (base ≤ 256) }
     ensures { out.new ≡ digits base count whole ++ drop count out.old }

@@ -13,6 +13,7 @@ pub const LEAD_CODE: u64 = 1;
 const MOST_CODES: usize = 9;
 
 // What an additional field says: a single request, a crew by its count of codes, or `BULK` that breaks its rules.
+// Kept: an `Option` or a `Result` is no plainer, since these are three cases, and the codes stand at the field's end.
 #[derive(Clone, Copy, Debug, PartialEq, Eq)]
 pub enum Crew {
     Single,
@@ -34,6 +35,7 @@ fn is_among(code: u64, digits: &[u8]) -> bool
     requires { are_digits digits.now ≡ true }
     ensures { result ≡ is_in code (codes_in digits.now) }
 {
+    // Kept: `chunks_exact(2)` is no plainer: `code_at` is of digits and a place, as its definition is, and of a pair it would need a second one.
     for i in 0..digits.len() / 2 {
         if code_at(digits, i) == code {
             return true;
@@ -47,6 +49,7 @@ fn are_allowed(digits: &[u8]) -> bool
     requires { are_digits digits.now ≡ true }
     ensures { result ≡ codes_allowed (codes_in digits.now) }
 {
+    // Kept: by the place, as in `is_among`; the rest behind the place is searched too.
     for i in 0..digits.len() / 2 {
         let code = code_at(digits, i);
         if code == LEAD_CODE {
@@ -63,7 +66,7 @@ fn are_allowed(digits: &[u8]) -> bool
 fn read_codes(part: &[u8]) -> Option<usize>
     ensures { CodesAre result (sound_codes_at part.now) }
 {
-    if numbers::leading_digits(part) != part.len() {
+    if !numbers::are_digits(part) {
         return None;
     }
     if part.len() % 2 != 0 {

@@ -55,23 +55,12 @@ pub extern "C" fn ffn_write_request(
     ensures { returning result [] [] out.new ≡ of_writer (writing_fields (operation_of operation) (record { 0 = number }) (erasing_of msisdn) additional.now out.old) }
 {
     let erasing = structs_read::erasing_of(msisdn);
-    let Some(operation) = structs_read::operation_of(operation) else {
-        // breaks the string's rules, as nobody's number does: the writer refuses that 9, after 1
-        return structs::of_written(writers::write_request(
-            Operation::Register,
-            FunctionalNumber(0),
-            erasing,
-            additional,
-            out,
-        ));
+    // What is no operation breaks the string's rules, as nobody's number does: the writer refuses that 9, after 1.
+    let (operation, number) = match structs_read::operation_of(operation) {
+        Some(operation) => (operation, FunctionalNumber(number)),
+        None => (Operation::Register, FunctionalNumber(0)),
     };
-    structs::of_written(writers::write_request(
-        operation,
-        FunctionalNumber(number),
-        erasing,
-        additional,
-        out,
-    ))
+    structs::of_written(writers::write_request(operation, number, erasing, additional, out))
 }
 
 // Reads a packed request string; its characters go into the text, if it has room for them.
@@ -216,26 +205,17 @@ pub extern "C" fn ffn_write_register(
 ) -> Answer
     ensures { returning result [] [] frame.new ≡ of_writer (framing_fields transaction invoke (operation_of operation) (record { 0 = number }) (erasing_of msisdn) additional.now frame.old) }
 {
-    let nobody = FunctionalNumber(0);
-    let named = FunctionalNumber(number);
     let erasing = structs_read::erasing_of(msisdn);
-    let Some(operation) = structs_read::operation_of(operation) else {
-        // breaks the string's rules, as in ffn_write_request: refused 9, after 1
-        return structs::of_written(framers::write_register(
-            transaction,
-            invoke,
-            Operation::Register,
-            nobody,
-            erasing,
-            additional,
-            frame,
-        ));
+    // As in ffn_write_request: refused 9, after 1.
+    let (operation, number) = match structs_read::operation_of(operation) {
+        Some(operation) => (operation, FunctionalNumber(number)),
+        None => (Operation::Register, FunctionalNumber(0)),
     };
     structs::of_written(framers::write_register(
         transaction,
         invoke,
         operation,
-        named,
+        number,
         erasing,
         additional,
         frame,

@@ -1,20 +1,18 @@
 -- Fields of digits, read one digit after the other. Assumes nothing.
 use mathlib.Core.Path.{◌≡◌, refl, sym, ap, ◌∙◌}
-use mathlib.Core.Bool.{Bool, true, false, cond, ◌&&◌}
+use mathlib.Core.Bool.{Bool, true, false, cond, not, ◌&&◌}
 use mathlib.Core.Option.{none, some}
 use mathlib.Core.List.{List, [], ◌∷◌}
 use Prim.Native.Nat.{ℕ, ◌≤◌, ◌<◌}
 use native.Mathlib.Omega.{arith}
 use lib.ListN.{length, drop, drop_of_length-le}
 use lib.Seq.{take-length}
-use borrow.Author.Tests.{lt-ltb, le-ltb, eqb-true}
+use borrow.Author.Tests.{lt-ltb, le-ltb, eqb-true, ne_eqb}
 use Rattle.answers.proofs.Tests.{no_path, and_no}
 use Rattle.numbers.specs.Numbers.{is_digit, are_digits, pushed, stored_form, leading_digits, leading_number}
 use Rattle.numbers.proofs.Digits.{pushed_grows}
 use Rattle.answers.proofs.Leading.{each_leading}
-use Rattle.std.specs.List.{list_all}
-use Rattle.std.specs.Char.{is_ascii_digit}
-use Rattle.answers.specs.Leading.{each}
+use lib.Dec.{eqb}
 use Rattle.answers.proofs.Checks.{not_some}
 use Rattle.forms.specs.Reads.{value_in}
 use Rattle.std.specs.Prelude as core
@@ -24,15 +22,11 @@ use Rattle.forms.specs.Lines.{is_digits, is_number_long, number_of, asked_of, va
 
 -- ---- that a field is digits
 
-pub digits_none : (s : List ℕ) → length s ≡ 0 → is_digits s ≡ false
+-- at least one character, and all of them digits
+pub digits_test : (s : List ℕ) → (not (eqb (length s) 0) && are_digits s) ≡ is_digits s
 unfolding is_digits
-digits_none [] h = refl
-digits_none (c ∷ s) h = absurd (omega arith)
-
-pub digits_some : (s : List ℕ) → (length s ≡ 0 → ⊥) → is_digits s ≡ are_digits s
-unfolding is_digits
-digits_some [] h = absurd (h refl)
-digits_some (c ∷ s) h = refl
+digits_test [] = refl
+digits_test (c ∷ s) = rw (ne_eqb (length (c ∷ s)) 0 (λ e. omega arith))
 
 pub digits_all : (s : List ℕ) → is_digits s ≡ true → are_digits s ≡ true
 unfolding is_digits
@@ -100,9 +94,3 @@ asked_or_none s r h e = go (is_number_long s) refl r e
     go true l None e = not_some (rw (h, l) at e)
     go false l (Some v) e = not_some (sym (rw (h, l) at e))
     go false l None e = rw (h, l)
-
--- the library's test of each octet
-pub digits_listed : (s : List ℕ) → are_digits s ≡ list_all is_ascii_digit s
-unfolding each is_digit
-digits_listed [] = refl
-digits_listed (c ∷ s) = ap (λ (b : Bool). is_digit c && b) (digits_listed s)

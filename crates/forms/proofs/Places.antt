@@ -8,18 +8,17 @@ use Prim.Native.Nat.{ℕ, suc, ◌+◌, ◌-◌, ◌≤◌, ◌<◌}
 use native.Mathlib.Numerals.{add-one}
 use native.Mathlib.Omega.{arith}
 use lib.ListN.{length, take, drop, get_or, length-drop}
-use lib.Seq.{take_all}
-use lib.Dec.{eqb}
-use borrow.Author.Tests.{eq-eqb, ne_eqb}
+use lib.Dec.{eqb, ltb}
+use borrow.Author.Tests.{eq-eqb, ne_eqb, ltb-true, ltb-false}
+use Rattle.std.specs.Prelude as core
+use Rattle.std.specs.Prelude.{Some, None, MatchOption, position}
+use Rattle.std.specs.List.{position_or_len}
+use Rattle.std.proofs.lemmas.List.Recursion.{is_position_or_len}
 use Rattle.answers.proofs.Tests.{less_or_not}
 use Rattle.answers.proofs.Checks.{not_some}
 use Rattle.forms.specs.Reads.{Parted}
-use Rattle.octets.specs.Octets.{index_of, index_after, slice}
+use Rattle.octets.specs.Octets.{index_of, index_after}
 use Rattle.forms.specs.Lines.{line_feed, on_first, lines_of, space, first_field, behind_field, lettered, form_of}
-
-pub whole_slice : (s : List ℕ) → slice 0 (length s) s ≡ s
-unfolding slice
-whole_slice s = let n : length s - 0 ≡ length s = omega arith in rw n (take_all (length s) s (omega arith))
 
 pub field_front : (s : List ℕ) → first_field s ≡ take (index_of space s) s
 unfolding index_of index_after first_field
@@ -53,16 +52,26 @@ behind_none (c ∷ s) h = go (eqb c space) h (λ k. behind_none s k)
     go true k e = absurd (omega arith)
     go false k e = e (omega arith)
 
+-- the library's search for the first space
+space_at : (s : List ℕ) → index_of space s ≡ position_or_len (λ (c : ℕ). eqb c space) s
+unfolding index_of index_after
+space_at = is_position_or_len (index_of space) (λ (c : ℕ). eqb c space) refl (λ c s. go (eqb c space) (index_of space s))
+  where
+    go : (b : Bool) (n : ℕ) → index_after b n ≡ cond b 0 (1 + n)
+    go true n = refl
+    go false n = omega arith
+
 -- a part of a line, split at the place of its first space
 pub record Split (s : List ℕ) (end : ℕ) : Type 0 where
   pub field : first_field s ≡ take end s
   pub behind : behind_field s ≡ some (drop (end + 1) s)
 
-pub split : (s : List ℕ) (end : ℕ) → (end ≡ index_of space s) × (end ≤ length s) → (end ≡ length s → ⊥) → Split s end
-split s end (e, h) n = record { field = field_front s ∙ rw e; behind = behind_some s (omega arith) ∙ rw e }
-
-pub unsplit : (s : List ℕ) (end : ℕ) → (end ≡ index_of space s) × (end ≤ length s) → end ≡ length s → behind_field s ≡ none
-unsplit s end (e, h) n = behind_none s (omega arith)
+pub split : (s : List ℕ) (place : core.Option ℕ) → place ≡ position (λ (c : ℕ). eqb c space) s → MatchOption place (behind_field s ≡ none) (Split s)
+split s place found = go (ltb (index_of space s) (length s)) refl (rw (← space_at s) at found)
+  where
+    go : (b : Bool) → ltb (index_of space s) (length s) ≡ b → place ≡ cond b (Some (index_of space s)) None → MatchOption place (behind_field s ≡ none) (Split s)
+    go true t e = rw e (record { field = field_front s; behind = behind_some s (ltb-true _ _ t) })
+    go false t e = rw e (behind_none s (ltb-false _ _ t))
 
 -- what stands behind the first field is the end of the part
 pub parted : {rest field behind : List ℕ} → Parted rest field behind → (length behind ≤ length rest) × (drop (length rest - length behind) rest ≡ behind)

@@ -2,7 +2,6 @@
 #![tactic(auto)]
 
 ghost use Rattle.std.specs.Prelude.{◌≡◌, List, ℕ, ◌^◌, ◌≤◌, ◌<◌, length, MatchOption};
-ghost use Rattle.octets.specs.Octets.{index_of};
 ghost use Rattle.forms.specs.Lines.{is_digits, number_of, asked_of, value_below, number_form, subscriber_form, request_form, sending_form, result_fields, result_form, delay_form, lettered};
 ghost use Rattle.forms.specs.Reads.{value_in, Whole, Parted, Reads};
 
@@ -26,22 +25,11 @@ pub enum Line {
     Delay(u32),
 }
 
-// Where an octet first stands in a part; the part's length where it does not.
-// Kept: an `Option` is no plainer, since the part before it ends there in both cases.
-pub fn place_of(octet: u8, part: &[u8]) -> usize
-    ensures { (result ≡ index_of octet part.now) × (result ≤ length part.now) }
-{
-    octets::find(part, 0, part.len(), octet)
-}
-
 // The field up to the first space of a part, and what stands behind that space.
 fn split_at_space(rest: &[u8]) -> Option<(&[u8], &[u8])>
     ensures { MatchOption result (Whole rest.now) (λ parts. Parted rest.now parts.0.now parts.1.now) }
 {
-    let end = place_of(b' ', rest);
-    if end == rest.len() {
-        return None;
-    }
+    let end = rest.iter().position(|octet| *octet == b' ')?;
     Some((&rest[..end], &rest[end + 1..]))
 }
 
@@ -49,10 +37,7 @@ fn split_at_space(rest: &[u8]) -> Option<(&[u8], &[u8])>
 fn is_digits(field: &[u8]) -> bool
     ensures { result ≡ is_digits field.now }
 {
-    if field.is_empty() {
-        return false;
-    }
-    field.iter().all(|c| c.is_ascii_digit())
+    !field.is_empty() & numbers::are_digits(field)
 }
 
 // The value of a field of digits, which has to be below the limit.
@@ -159,6 +144,7 @@ fn read_delay(rest: &[u8]) -> Option<Line>
 }
 
 // The form of a line by its letter; none where it has no form.
+// Kept: a `match` on the letter is no plainer as a table of functions, which a proof would have to look up.
 pub fn read_form(letter: u8, rest: &[u8]) -> Option<Line>
     ensures { Reads rest.now result (lettered letter rest.now) }
 {

@@ -84,6 +84,7 @@ pub fn put_result(number: u8, string: &[u8], out: &mut [u8]) -> usize
 }
 
 // An answer that is no result: an error by its code, or a Reject by its problem.
+// Kept: octets and no enums, since the functions that this serves took any octet (`told_fault`).
 #[derive(Clone, Copy, Debug, PartialEq, Eq)]
 pub enum Fault {
     Error(u8),

@@ -88,6 +88,7 @@ impl From<Problem> for u8 {
 }
 
 // What a request asks with: the coding scheme, and how many octets the string has, which end the component.
+// Kept: the string by its count in place of a slice, since two answers to one message are equal (`read_invoke_one`), and a slice has an address.
 #[derive(Clone, Copy, Debug, PartialEq, Eq)]
 pub struct Asked {
     pub scheme: u8,
@@ -110,6 +111,7 @@ pub struct Register {
 }
 
 // An answer's component: a result by its invoke number and how many octets its string has, which end the component; an error by its invoke number and code; a Reject by its invoke number and problem.
+// Kept: codes and problems are octets, since a message may have any (`told_component`).
 #[derive(Clone, Copy, Debug, PartialEq, Eq)]
 pub enum Answer {
     Result(u8, usize),

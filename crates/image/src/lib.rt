@@ -119,14 +119,6 @@ fn read_trailer(image: &[u8]) -> Result<ImageRows, Refusal>
     })
 }
 
-// Room for so many words; a caller needs only its length.
-// Kept: the twin of `streams::filled`, since a library does not stand on the programs' input and output.
-fn room<const N: usize>() -> [u64; N]
-    ensures { N ≡ length result }
-{
-    [0; N]
-}
-
 // Copies sound contents, and the figures that a recount gives; unsound ones change nothing.
 fn put_contents(
     rows: &[u64],
@@ -144,7 +136,7 @@ fn put_contents(
     }
     table[..rows.len()].copy_from_slice(rows);
     list[..subscribers.len()].copy_from_slice(subscribers);
-    let words = [counted.held, counted.waiting, counted.flying];
+    let words = <[u64; 3]>::from(counted);
     figures[..FIGURES].copy_from_slice(&words);
     Ok(ImageRows {
         numbers: rows.len() / ROW_WORDS,
@@ -168,8 +160,8 @@ fn restore(
     if (table.len() < words) | (list.len() < entries) | (figures.len() < FIGURES) {
         return Err(Refusal::NoRoomForImage);
     }
-    let mut rows = room::<FULL_TABLE_WORDS>();
-    let mut others = room::<FULL_LIST_WORDS>();
+    let mut rows = octets::filled::<u64, FULL_TABLE_WORDS>(0);
+    let mut others = octets::filled::<u64, FULL_LIST_WORDS>(0);
     load_words(image, 0, &mut rows[..words]);
     load_words(image, WORD_OCTETS * words, &mut others[..entries]);
     put_contents(&rows[..words], &others[..entries], table, list, figures)

@@ -13,7 +13,7 @@ ghost use Rattle.lines.specs.Program.{questioned, last_key, may_follow, numbered
 ghost use Rattle.forms.specs.Reads.{form_of_line, start_of};
 ghost use Rattle.answers.specs.Writing.{Stands};
 ghost use Rattle.replies.specs.Replies.{answer_room};
-ghost use Rattle.lines.specs.Memory.{program_in, Fits, line_room, Did, Answered, ending, packed_room, Lent, ran, running};
+ghost use Rattle.lines.specs.Memory.{program_in, Fits, line_room, Did, Answered, ending, Lent, ran, running};
 
 use answers::Refusal;
 use forms::Line;
@@ -369,15 +369,10 @@ fn do_line(
         fresh: false,
         ..state
     };
-    // Kept: a slice pattern was tried, and the proof did not close: its two ways to fail come as one branch.
-    if line.len() < 2 {
+    let [letter, b' ', rest @ ..] = line else {
         return question(next, out);
-    }
-    if line[1] != b' ' {
-        return question(next, out);
-    }
-    let rest = &line[2..];
-    let Some(form) = forms::read_form(line[0], rest) else {
+    };
+    let Some(form) = forms::read_form(*letter, rest) else {
         return question(next, out);
     };
     carry_out(form, rest, state.fresh, next, table, list, packed, out)
@@ -402,26 +397,14 @@ fn run_lines(
         fresh: true,
         figures: [0; FIGURES],
     };
-    let mut at = 0;
     let mut n = 0;
-    // Kept: the place goes from line to line, and `split` would give one line more behind the last line feed, which would print `?`.
-    while at < input.len() {
-        let rest = &input[at..];
-        let end = forms::place_of(b'\n', rest);
-        let done = do_line(&rest[..end], state, table, list, packed, &mut out[n..]);
+    for ended in input.split_inclusive(|octet| *octet == b'\n') {
+        let line = ended.strip_suffix(b"\n").unwrap_or(ended);
+        let done = do_line(line, state, table, list, packed, &mut out[n..]);
         state = done.state;
         n += done.printed;
-        at += end + 1;
     }
     n
-}
-
-// An array for packed strings; a caller needs only its length.
-// Kept: a function, since the check of a caller that has the array in its hands computes with all its octets.
-fn packed_room() -> [u8; PACKED_ROOM]
-    ensures { packed_room ≡ length result }
-{
-    [0; PACKED_ROOM]
 }
 
 // The whole input: what its lines print is written over the front of the output, and table and list hold what they leave.
@@ -429,6 +412,6 @@ pub fn run(input: &[u8], table: &mut [u64], list: &mut [u64], out: &mut [u8]) ->
     requires { Lent input.now table.old list.old out.old }
     ensures { ran result table.new list.new out.new ≡ running input.now table.old list.old out.old }
 {
-    let mut packed = packed_room();
+    let mut packed = octets::filled::<u8, PACKED_ROOM>(0);
     run_lines(input, table, list, &mut packed, out)
 }

@@ -143,6 +143,9 @@ module _ (w : ℕ) (h : is_number w ≡ true) where
   pub digits_least : 10 ^ length (digits_of w) ≤ w
   digits_least = rw stored_digits at (stored_length (digits_of w) digits_are).0
 
+  pub digits_below : w < 2 * 10 ^ length (digits_of w)
+  digits_below = rw stored_digits at (stored_length (digits_of w) digits_are).1
+
 pub digits_stored : (cs : List ℕ) → are_digits cs ≡ true → length cs ≤ most_digits → digits_of (stored_form cs) ≡ cs
 unfolding digits_of
 digits_stored cs h l = digits_back cs most_digits h l

@@ -1,5 +1,5 @@
 -- How the least number as long as a word tells whether it is a number: the word is not below it, and below twice that. Assumes nothing.
-use Rattle.std.proofs.Common.{◌≡◌, ℕ, zero, suc, ◌+◌, ◌-◌, ◌*◌, ◌%◌, ◌^◌, ◌<◌, ◌≤◌, Bool, true, false, cond, ltb, leb, ◌⊎◌, sym, refl, ap, ◌∙◌, inl, inr, zero-le, lt_of_lt_of_le, not-suc-le-zero, add-zero, add-suc, pow-suc, arith, lit<, ltb-true, lt-ltb, le-leb, leb-true}
+use Rattle.std.proofs.Common.{◌≡◌, ℕ, zero, suc, ◌+◌, ◌-◌, ◌*◌, ◌^◌, ◌<◌, ◌≤◌, Bool, true, false, cond, ltb, leb, ◌⊎◌, sym, refl, ap, ◌∙◌, inl, inr, zero-le, lt_of_lt_of_le, not-suc-le-zero, add-zero, add-suc, pow-suc, arith, lit<, ltb-true, lt-ltb, le-leb, leb-true}
 use native.Mathlib.Nat.{pow-le-pow_right}
 use borrow.Author.Tests.{lt-leb}
 use Rattle.answers.proofs.Tests.{same_test, and_left, and_right, and_both}
@@ -109,11 +109,3 @@ least_tells w = same_test (is_from (least_for w) w) (is_number w) ((starts_for w
 -- and so does its end alone
 pub end_tells : (w : ℕ) → is_number w ≡ ltb w (2 * least_for w)
 end_tells w = sym (least_tells w) ∙ rw (le-leb (least_for w) w (least_le w))
-
--- x is w less p, modulo 2 ^ 64: the test whether x is below p
-pub wraps_from :
-    (w p x : ℕ) → p ≤ 10 ^ most_digits → w < 2 ^ 64 → x < 2 ^ 64 → (x + p) % 2 ^ 64 ≡ w → ltb x p ≡ is_from p w
-wraps_from w p x small fits x_Fits less =
-    same_test (ltb x p) (is_from p w)
-    (λ t. and_both (leb p w) (ltb w (2 * p)) (le-leb p w (omega (arith, ltb-true x p t))) (lt-ltb w (2 * p) (omega (arith, ltb-true x p t))))
-    (λ t. lt-ltb x p (omega (arith, leb-true p w (and_left (leb p w) _ t), ltb-true w (2 * p) (and_right (leb p w) _ t))))

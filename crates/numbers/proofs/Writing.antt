@@ -1,6 +1,6 @@
 -- A number's digits counted and written. Assumes nothing.
-use Rattle.std.proofs.Common.{◌≡◌, ℕ, zero, suc, ◌+◌, ◌-◌, ◌/◌, ◌%◌, ◌^◌, ◌<◌, ◌≤◌, true, false, not, ◌⊎◌, List, [], ◌∷◌, ◌++◌, length, drop, set, sym, ap, ◌∙◌, inl, inr, pow-suc, arith, lit<, length-append, drop-cons, get_or-set_same, drop-set-lt, lt-length-set, le-ltb, lt-ltb}
-use native.Mathlib.Nat.{one-le-pow}
+use Rattle.std.proofs.Common.{◌≡◌, ℕ, suc, ◌+◌, ◌*◌, ◌/◌, ◌%◌, ◌^◌, ◌<◌, ◌≤◌, true, false, not, ◌⊎◌, List, ◌++◌, length, drop, set, sym, ap, ◌∙◌, inl, inr, pow-suc, arith, lit<, drop-cons, get_or-set_same, drop-set-lt, lt-length-set, le-ltb, lt-ltb}
+use native.Mathlib.Nat.{one-le-pow, pow-le-pow_right}
 use lib.Seq.{append_snoc}
 use Rattle.answers.specs.Writing.{made_write}
 use Rattle.std.specs.Prelude.{Result, Ok, Err}
@@ -9,31 +9,18 @@ use Rattle.answers.specs.declared.Refusal.TheVariants.{NoRoom, Unfit}
 use Rattle.answers.proofs.Tests.{less_or_not}
 use Rattle.answers.proofs.Writing.{writing_short, writing_unfit, writing_good, wrote_count, done_good}
 use Rattle.numbers.specs.Numbers.{most_digits, is_number, digits_up_to, digits_of, writing_digits}
-use Rattle.numbers.proofs.Digits.{digits_none, digits_last, digits_fit}
+use Rattle.numbers.proofs.Digits.{digits_last, digits_fit, digits_least, digits_below}
 
 -- ---- counting
 
--- room for one digit more changes nothing where the digits fit
-digits_room : (room w : ℕ) → w < 10 ^ suc room → digits_up_to (suc room) w ≡ digits_up_to room w
-digits_room zero w h = digits_none 1 w (omega arith) ∙ sym (digits_none 0 w (omega arith))
-digits_room (suc room) w h = go (less_or_not w 10) (digits_room room (w / 10) (omega (arith, pow-suc 10 (suc room))))
+-- so many digits stand behind a number's first as its size says
+pub count_is : (w n : ℕ) → is_number w ≡ true → 10 ^ n ≤ w → w < 10 * 10 ^ n → n ≡ length (digits_of w)
+count_is w n h least below = go (less_or_not n (length (digits_of w))) (less_or_not (length (digits_of w)) n)
   where
-    go : (w < 10) ⊎ (10 ≤ w) → digits_up_to (suc room) (w / 10) ≡ digits_up_to room (w / 10) → digits_up_to (suc (suc room)) w ≡ digits_up_to (suc room) w
-    go (inl l) e = digits_none (suc (suc room)) w l ∙ sym (digits_none (suc room) w l)
-    go (inr m) e = digits_last (suc room) w m ∙ rw e (sym (digits_last room w m))
-
-pub count_end : (w : ℕ) → w < 10 → length (digits_of w) ≡ 0
-unfolding digits_of
-count_end w h = rw (digits_none most_digits w h)
-
-count_room : (room w : ℕ) → 10 ≤ w → w < 10 ^ suc (suc room) → length (digits_up_to (suc room) w) ≡ suc (length (digits_up_to (suc room) (w / 10)))
-count_room room w m h =
-    rw (digits_last room w m, digits_room room (w / 10) (omega (arith, pow-suc 10 (suc room))))
-    (length-append (digits_up_to room (w / 10)) ((48 + w % 10) ∷ []) ∙ omega arith)
-
-pub count_more : (w : ℕ) → 10 ≤ w → w < 10 ^ suc most_digits → length (digits_of w) ≡ suc (length (digits_of (w / 10)))
-unfolding digits_of
-count_more w m h = count_room (most_digits - 1) w m h
+    go : (n < length (digits_of w)) ⊎ (length (digits_of w) ≤ n) → (length (digits_of w) < n) ⊎ (n ≤ length (digits_of w)) → n ≡ length (digits_of w)
+    go (inl p) q = absurd (omega (arith, below, pow-suc 10 n, digits_least w h, pow-le-pow_right {n = 10} (lit< tt) p))
+    go (inr p) (inl q) = absurd (omega (arith, least, pow-suc 10 (length (digits_of w)), digits_below w h, pow-le-pow_right {n = 10} (lit< tt) q))
+    go (inr p) (inr q) = omega arith
 
 -- ---- writing from the last digit down
 

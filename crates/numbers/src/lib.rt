@@ -13,6 +13,7 @@ use answers::Refusal;
 pub struct FunctionalNumber(pub u64);
 
 // The "true" number of a subscriber, in stored form; 0 is nobody.
+// Kept: two types alike, a form that the project was given; and 0 in place of an `Option`, since C lends the word and `nobody` of the rules is 0.
 #[derive(Clone, Copy, Debug, PartialEq, Eq)]
 pub struct Msisdn(pub u64);
 
@@ -83,7 +84,7 @@ pub fn is_from(word: u64, start: u64) -> bool
     requires { start ≤ 10 ^ most_digits }
     ensures { result ≡ is_from start word }
 {
-    std::num::wrapping_sub_u64(word, start) < start
+    word.wrapping_sub(start) < start
 }
 
 // Whether word is a number in stored form: it is from the least number as long as it on.
@@ -98,6 +99,13 @@ pub fn leading_digits(part: &[u8]) -> usize
     ensures { result ≡ leading_digits part.now }
 {
     part.iter().take_while(|c| c.is_ascii_digit()).count()
+}
+
+// Whether a part is all digits.
+pub fn are_digits(part: &[u8]) -> bool
+    ensures { result ≡ are_digits part.now }
+{
+    part.iter().all(|c| c.is_ascii_digit())
 }
 
 // The stored form of digits: they are put behind a 1.
@@ -132,14 +140,8 @@ fn count_digits(word: u64) -> usize
     requires { is_number word ≡ true }
     ensures { result ≡ length (digits_of word) }
 {
-    // Kept: a `for` is no plainer: the word is divided until one digit is left, and no index is counted.
-    let mut rest = word;
-    let mut n = 0;
-    while 10 <= rest {
-        rest = rest / 10;
-        n += 1;
-    }
-    n
+    // The 1 in front is the first of its digits.
+    word.ilog10() as usize
 }
 
 // Writes the last n digits of word over the front of out, from the last one down.

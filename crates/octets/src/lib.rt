@@ -1,19 +1,15 @@
-// Octets copied over the front of others, and the place of one among others: what the kit's crate of that kind had.
+// Memory of a fixed size, and the place of an octet among others.
 #![tactic(auto)]
 
-ghost use Rattle.std.specs.Prelude.{◌≡◌, ◌==◌, ◌+◌, ◌≤◌, ◌++◌, length, take, drop};
+ghost use Rattle.std.specs.Prelude.{◌≡◌, ◌==◌, ◌+◌, ◌≤◌, length};
 ghost use Rattle.std.specs.List.{position_or_len};
 ghost use Rattle.octets.specs.Octets.{index_of, slice};
 
-// Writes octets over the front of others; how many they are.
-pub fn copy(from: &[u8], to: &mut [u8]) -> usize
-    requires { length from.now ≤ length to.old }
-    ensures count { result ≡ length from.now }
-    ensures written { to.new ≡ from.now ++ drop (length from.now) to.old }
+// Memory of a fixed size, each item the same: a caller needs only its length.
+pub fn filled<T: Copy, const N: usize>(item: T) -> [T; N]
+    ensures { N ≡ length result }
 {
-    let n = from.len();
-    to[..n].copy_from_slice(from);
-    n
+    [item; N]
 }
 
 // How many octets stand before the first of this value; all of them where it does not stand there.

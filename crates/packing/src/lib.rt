@@ -12,7 +12,8 @@ use bases::{few, load, store, store_few};
 
 const CARRIAGE_RETURN: u8 = 13;
 
-// Whether the packer takes every character. It looks at all of them, which is faster than to stop at the first that it refuses.
+// Whether the packer takes every character.
+// Kept: `all` stops at the first character that is refused, and a compiler runs that slower than a look at all of them (the packer's bar of speed).
 fn takes_all(chars: &[u8]) -> bool
     ensures { result ≡ takes chars.now }
 {
@@ -52,7 +53,7 @@ fn filler(count: usize) -> u64
     ensures { (result ≡ value_of 128 (return_if (eqb count 7))) × (result < 128) }
 {
     if count == 7 {
-        return CARRIAGE_RETURN as u64;
+        return u64::from(CARRIAGE_RETURN);
     }
     0
 }
@@ -78,11 +79,7 @@ fn write_octets(chars: &[u8], out: &mut [u8])
 fn last_octet(octets: &[u8]) -> u8
     ensures { result ≡ get_or octets.now (length octets.now - 1) 0 }
 {
-    let m = octets.len();
-    if m == 0 {
-        return 0;
-    }
-    octets[m - 1]
+    octets.last().copied().unwrap_or(0)
 }
 
 // Whether the unused bits are 0: m octets leave m % 7, at the top of the last.
@@ -90,7 +87,7 @@ fn is_readable(octets: &[u8]) -> bool
     ensures { result ≡ readable octets.now }
 {
     let unused = octets.len() % 7;
-    let last = last_octet(octets) as u32;
+    let last = u32::from(last_octet(octets));
     last >> (8 - unused) == 0
 }
 

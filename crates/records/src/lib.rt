@@ -12,6 +12,7 @@ use answers::{Outcome, Refusal};
 use numbers::{FunctionalNumber, Msisdn};
 
 // "a notice is absent, waiting or in flight": with the sendings done, and the second of the last failure.
+// Kept: three cases of one enum, a form that the project was given (docs/DECISIONS.md, "Forms").
 #[derive(Clone, Copy, Debug, PartialEq, Eq)]
 pub enum Notice {
     Absent,
@@ -49,6 +50,7 @@ const USUAL_DELAY: u32 = 300;
 pub const MOST_SENDINGS: u8 = 6;
 
 // "5 any other error".
+// Kept: a number and no enum, since every number is taken as a kind (refusal 3), and C gives it.
 const LAST_KIND: u32 = 5;
 
 // Seconds from the last failure to the clock's reading, on a counter that wraps.

@@ -37,18 +37,11 @@ pub enum RoutingAnswer {
     Routed(Msisdn, Option<Subaddress>),
 }
 
-// Whether all characters are digits.
-fn are_digits(characters: &[u8]) -> bool
-    ensures { result ≡ are_digits characters.now }
-{
-    numbers::leading_digits(characters) == characters.len()
-}
-
 // Whether characters are an international code.
 fn is_international_code(code: &[u8]) -> bool
     ensures { result ≡ is_international_code code.now }
 {
-    (code.len() == CODE_LENGTH) & are_digits(code)
+    (code.len() == CODE_LENGTH) & numbers::are_digits(code)
 }
 
 // Whether so many digits, with the node's code in front where they have none, are too few or too many for a number.
@@ -129,7 +122,7 @@ pub fn routing(
     if !is_international_code(home) {
         return Err(Failure::Error(RequestError::UnexpectedData));
     }
-    if !are_digits(asked) {
+    if !numbers::are_digits(asked) {
         return Err(Failure::Error(RequestError::UnexpectedData));
     }
     if is_outside(coded, asked.len()) {

@@ -64,8 +64,8 @@ fn phase_of(notice: Notice) -> u64
 {
     match notice {
         Notice::Absent => 0,
-        Notice::Waiting(sendings, _) => 2 * (sendings as u64) + 1,
-        Notice::InFlight(sendings) => 2 * (sendings as u64),
+        Notice::Waiting(sendings, _) => 2 * u64::from(sendings) + 1,
+        Notice::InFlight(sendings) => 2 * u64::from(sendings),
     }
 }
 
@@ -74,7 +74,7 @@ fn second_of(notice: Notice) -> u64
 {
     match notice {
         Notice::Absent => 0,
-        Notice::Waiting(_, second) => second as u64,
+        Notice::Waiting(_, second) => u64::from(second),
         Notice::InFlight(_) => 0,
     }
 }

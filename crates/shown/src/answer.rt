@@ -1,4 +1,7 @@
 // What the calls answer, and its text.
+ghost use Rattle.std.specs.Prelude.{◌≡◌};
+ghost use Rattle.shown.specs.Answers.{of_reply, of_framed};
+
 use answers::{Outcome, RequestError};
 use crews::Crew;
 use exchange::Framed;
@@ -29,6 +32,8 @@ pub enum Answer {
 }
 
 impl From<Reply> for Answer {
+    ghost from_gives = { λ reply answer. answer ≡ of_reply reply };
+
     fn from(reply: Reply) -> Answer {
         match reply {
             Reply::Outcome(outcome, octets) => Answer::Outcome(outcome, octets),
@@ -38,6 +43,8 @@ impl From<Reply> for Answer {
 }
 
 impl From<Framed> for Answer {
+    ghost from_gives = { λ framed answer. answer ≡ of_framed framed };
+
     fn from(framed: Framed) -> Answer {
         match framed {
             Framed::Outcome(outcome, octets) => Answer::Outcome(outcome, octets),

@@ -1,4 +1,8 @@
 // The calls, by their names and the words of their lines.
+ghost use Rattle.std.specs.Prelude.{◌≡◌, [], ◌∷◌, IfSome};
+ghost use Rattle.answers.specs.Ascii.{ascii};
+ghost use Rattle.shown.specs.Calls.{operation_word, erasing_words, wanted_words, name_of, words_of, takes_tail, packs_characters};
+
 use numbers::{FunctionalNumber, Msisdn};
 use strings::{Erasing, Operation};
 
@@ -29,7 +33,9 @@ pub enum Call {
     Released,
 }
 
-fn read_operation(word: u64) -> Option<Operation> {
+fn read_operation(word: u64) -> Option<Operation>
+    ensures { IfSome result (λ operation. operation_word operation ≡ word) }
+{
     match word {
         0 => Some(Operation::Register),
         1 => Some(Operation::Erase),
@@ -39,7 +45,9 @@ fn read_operation(word: u64) -> Option<Operation> {
 }
 
 // An MSISDN, where a line has that word.
-fn read_erasing(words: &[u64]) -> Option<Erasing> {
+fn read_erasing(words: &[u64]) -> Option<Erasing>
+    ensures { IfSome result (λ erasing. erasing_words erasing ≡ words.now) }
+{
     match words {
         [] => Some(Erasing::Empty),
         [msisdn] => Some(Erasing::Forced(Msisdn(*msisdn))),
@@ -47,7 +55,9 @@ fn read_erasing(words: &[u64]) -> Option<Erasing> {
     }
 }
 
-fn read_wanted(words: &[u64]) -> Option<Wanted> {
+fn read_wanted(words: &[u64]) -> Option<Wanted>
+    ensures { IfSome result (λ wanted. wanted_words wanted ≡ words.now) }
+{
     let [operation, number, erasing @ ..] = words else {
         return None;
     };
@@ -58,7 +68,9 @@ fn read_wanted(words: &[u64]) -> Option<Wanted> {
     })
 }
 
-fn read_register(words: &[u64]) -> Option<Call> {
+fn read_register(words: &[u64]) -> Option<Call>
+    ensures { IfSome result (λ call. (name_of call ≡ ascii "register") × (words_of call ≡ words.now)) }
+{
     let [transaction, invoke, wanted @ ..] = words else {
         return None;
     };
@@ -70,7 +82,9 @@ fn read_register(words: &[u64]) -> Option<Call> {
 }
 
 // A number with a delay or kind, and a clock.
-fn read_numbered(words: &[u64]) -> Option<(FunctionalNumber, u32, u32)> {
+fn read_numbered(words: &[u64]) -> Option<(FunctionalNumber, u32, u32)>
+    ensures { IfSome result (λ read. read.0.0 ∷ read.1 ∷ read.2 ∷ [] ≡ words.now) }
+{
     let [number, second, clock] = words else {
         return None;
     };
@@ -81,14 +95,18 @@ fn read_numbered(words: &[u64]) -> Option<(FunctionalNumber, u32, u32)> {
     ))
 }
 
-fn read_request(words: &[u64]) -> Option<Call> {
+fn read_request(words: &[u64]) -> Option<Call>
+    ensures { IfSome result (λ call. (name_of call ≡ ascii "request") × (words_of call ≡ words.now)) }
+{
     let [requester, scheme] = words else {
         return None;
     };
     Some(Call::Request(Msisdn(*requester), u8::try_from(*scheme).ok()?))
 }
 
-fn read_finding(words: &[u64]) -> Option<Call> {
+fn read_finding(words: &[u64]) -> Option<Call>
+    ensures { IfSome result (λ call. (name_of call ≡ ascii "finding") × (words_of call ≡ words.now)) }
+{
     let [delay, clock] = words else {
         return None;
     };
@@ -96,7 +114,9 @@ fn read_finding(words: &[u64]) -> Option<Call> {
 }
 
 // A call with at most one word.
-fn read_short(name: &[u8], words: &[u64]) -> Option<Call> {
+fn read_short(name: &[u8], words: &[u64]) -> Option<Call>
+    ensures { IfSome result (λ call. (name_of call ≡ name.now) × (words_of call ≡ words.now)) }
+{
     match (name, words) {
         (b"framed", [requester]) => Some(Call::Framed(Msisdn(*requester))),
         (b"number", [word]) => Some(Call::Number(*word)),
@@ -112,7 +132,9 @@ fn read_short(name: &[u8], words: &[u64]) -> Option<Call> {
 
 impl Call {
     // The call of a name, where these are its words.
-    pub fn read(name: &[u8], words: &[u64]) -> Option<Call> {
+    pub fn read(name: &[u8], words: &[u64]) -> Option<Call>
+        ensures { IfSome result (λ call. (name_of call ≡ name.now) × (words_of call ≡ words.now)) }
+    {
         match name {
             b"request" => read_request(words),
             b"sending" => {
@@ -131,7 +153,9 @@ impl Call {
     }
 
     // Whether its line may have a tail.
-    pub fn takes_tail(self) -> bool {
+    pub fn takes_tail(self) -> bool
+        ensures { result ≡ takes_tail self }
+    {
         !matches!(
             self,
             Call::Sending(..)
@@ -143,7 +167,9 @@ impl Call {
     }
 
     // Whether the characters of a tail are packed first: those of a request's string.
-    pub fn packs_characters(self) -> bool {
+    pub fn packs_characters(self) -> bool
+        ensures { result ≡ packs_characters self }
+    {
         matches!(self, Call::Request(..) | Call::Read)
     }
 

@@ -4,7 +4,7 @@
 mod answer;
 mod call;
 
-ghost use Rattle.std.specs.Prelude.{◌≤◌};
+ghost use Rattle.std.specs.Prelude.{◌≡◌, ◌≤◌};
 
 use answer::Answer;
 use answers::{Failure, Refusal};
@@ -24,7 +24,11 @@ pub struct Blank {
 }
 
 impl Blank {
-    pub fn none() -> Blank {
+    ghost use Rattle.shown.specs.Blanks.{said_blank, blank_of};
+
+    pub fn none() -> Blank
+        ensures { (result.octets ≡ 0) × (result.filling ≡ 0) }
+    {
         Blank {
             octets: 0,
             filling: 0,
@@ -32,7 +36,9 @@ impl Blank {
     }
 
     // A buffer by the words of its line.
-    pub fn read(octets: u64, filling: u64) -> Option<Blank> {
+    pub fn read(octets: u64, filling: u64) -> Option<Blank>
+        ensures { said_blank result ≡ blank_of octets filling }
+    {
         let octets = usize::try_from(octets).ok()?;
         if MOST_OCTETS < octets {
             return None;

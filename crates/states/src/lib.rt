@@ -26,7 +26,7 @@ pub const FIGURES: usize = 3;
 fn same_figures(figures: &[u64], counted: Figures) -> bool
     ensures { result ≡ same_words figures.now (figure_words counted) }
 {
-    figures == [counted.held, counted.waiting, counted.flying].as_slice()
+    figures == <[u64; 3]>::from(counted).as_slice()
 }
 
 // Whether table and figures are right; the table is passed over once.

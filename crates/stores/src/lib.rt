@@ -166,6 +166,7 @@ pub fn begin(radio: Radio, about: u64) -> Radio
     ensures { result ≡ holding radio radio.invoke (begun (is_due radio about) (entries_in radio)) }
 {
     let mut entries = radio.entries;
+    // Kept: a `for` over `iter_mut` does not prove: of what was written through it std says the length, and no element.
     for i in 0..radio.count {
         let to_ask = due_flag(radio.hand_held, about, entries[i].number);
         entries[i] = Entry {

@@ -3,18 +3,12 @@
 
 ghost use Rattle.std.specs.Prelude.{◌≡◌, ◌≤◌, length};
 
+pub use octets::filled;
 use std::fmt::Display;
 use std::io::{Input, Read};
 
 // Room for the input of a program.
 pub const INPUT_ROOM: usize = 65_536;
-
-// Memory of a fixed size, each item the same: a caller needs only its length.
-pub fn filled<T: Copy, const N: usize>(item: T) -> [T; N]
-    ensures { N ≡ length result }
-{
-    [item; N]
-}
 
 // Says what a program lost. There is no other place to say that this was lost too.
 pub fn say(rt: &impl Eprint, program: &str, lost: &str) {

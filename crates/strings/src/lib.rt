@@ -38,6 +38,7 @@ pub enum Erasing {
 }
 
 // The fields of a request; the additional field by its start and its count of characters in the unpacked text, and what it says of a crew.
+// Kept: a start and a count in place of a slice, since the text is returned beside the fields.
 #[derive(Clone, Copy, Debug, PartialEq, Eq)]
 pub struct Fields {
     pub operation: Operation,

@@ -39,6 +39,7 @@ const ROWS: u32 = 13;
 
 // What a function answers: the class; the number of a refusal, an error, an outcome or a result; the count of octets or characters;
 // the holder's MSISDN, the notice's addressee or the number found.
+// Kept: C gets this struct (include/ffn.h), so its class is a number and what an answer lacks is 0.
 #[repr(C)]
 #[derive(Clone, Copy, Debug, PartialEq, Eq)]
 pub struct Answer {
@@ -49,6 +50,7 @@ pub struct Answer {
 }
 
 // What a recount answers: the class; the number of a refusal; the numbers held, the notices waiting and the notices in flight.
+// Kept: C gets this struct (include/ffn.h), so its class is a number and what an answer lacks is 0.
 #[repr(C)]
 #[derive(Clone, Copy, Debug, PartialEq, Eq)]
 pub struct FiguresRead {
@@ -60,6 +62,7 @@ pub struct FiguresRead {
 }
 
 // What an image's reader answers: the class; the number of a refusal; how many rows of the table and of the list it has.
+// Kept: C gets this struct (include/ffn.h), so its class is a number and what an answer lacks is 0.
 #[repr(C)]
 #[derive(Clone, Copy, Debug, PartialEq, Eq)]
 pub struct ImageCounts {
@@ -120,6 +123,7 @@ pub fn of_recount(recounted: Result<Figures, Refusal>) -> FiguresRead
             waiting: figures.waiting,
             in_flight: figures.flying,
         },
+        // Kept: the number of the refusal at hand does not prove, since `of_figures` says 2 of every recount that did not count.
         Err(_) => FiguresRead {
             class: REFUSAL,
             number: number_of(Refusal::UnsoundTable),

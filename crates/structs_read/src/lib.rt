@@ -16,6 +16,7 @@ use structs::{READ, REFUSAL, REJECT, RETURN_ERROR};
 
 // What the request's reader answers: the class; the number of an error; the operation, whether it is of a crew, the functional number, the
 // MSISDN that a forced erasure names, or 0; the start and the length of the additional field in the text, and how many codes it ends in.
+// Kept: C gets this struct (include/ffn.h), so its class is a number and what an answer lacks is 0.
 #[repr(C)]
 #[derive(Clone, Copy, Debug, PartialEq, Eq)]
 pub struct RequestRead {
@@ -32,6 +33,7 @@ pub struct RequestRead {
 
 // What a message's reader answers: the class; the number of a refusal, of an error or of a Reject; the first octet and the invoke number;
 // the string by its coding scheme, its start in the message and its length.
+// Kept: C gets this struct (include/ffn.h), so its class is a number and what an answer lacks is 0.
 #[repr(C)]
 #[derive(Clone, Copy, Debug, PartialEq, Eq)]
 pub struct FrameRead {

@@ -2,13 +2,13 @@
 use mathlib.Core.Path.{◌≡◌, refl, ap}
 use mathlib.Core.Logic.{⊎_elim}
 use mathlib.Core.Bool.{Bool, true, false}
-use Prim.Native.Nat.{ℕ, zero, suc, ◌+◌, ◌*◌, ◌/◌, ◌≤◌, ◌<◌}
-use native.Mathlib.Nat.{lt_of_lt_of_le, mul-lt-mul_of_pos_left, mul-div-le, not-suc-le-zero, not-le_of_lt, le_of_suc-le-suc, eq-or-lt_of_le}
+use Prim.Native.Nat.{ℕ, zero, suc, ◌+◌, ◌≤◌, ◌<◌}
+use native.Mathlib.Nat.{not-suc-le-zero, le_of_suc-le-suc, eq-or-lt_of_le}
 use native.Mathlib.Numerals.{add-one}
 use native.Mathlib.Omega.{arith}
 use lib.Dec.{eqb, ltb}
 use borrow.Author.Tests.{eq-eqb, ne_eqb, eqb-true, ltb-true}
-use Rattle.answers.proofs.Tests.{and_left, and_right, and_no, less_or_not}
+use Rattle.answers.proofs.Tests.{and_left, and_right, and_no}
 use Rattle.std.specs.Prelude.{Some, None}
 use Rattle.tables.specs.Keys.{every, ascends, place_of}
 
@@ -49,10 +49,6 @@ ascends_before k (suc i) = refl
 pub ascends_same : (k l : ℕ → ℕ) (i : ℕ) → ((i : ℕ) → k i ≡ l i) → ascends k i ≡ ascends l i
 ascends_same k l zero h = simp (h 0)
 ascends_same k l (suc i) h = simp (h i, h (suc i))
-
--- the first word of a row stands in the list
-pub first_within : (width n i : ℕ) → 0 < width → i < n / width → width * i < n
-first_within width n i w l = lt_of_lt_of_le (mul-lt-mul_of_pos_left l w) (mul-div-le n width)
 
 -- ---- where a key stands
 
@@ -101,44 +97,3 @@ module _ (k : ℕ → ℕ) (n : ℕ) (sorted : every (ascends k) n ≡ true) whe
             let other : k m ≡ wanted → ⊥ = λ y. omega arith in
             simp (ne_eqb _ _ other) (go m (omega arith) x))
             (eq-or-lt_of_le (le_of_suc-le-suc l))
-
--- ---- halving
-
--- below `low` the keys are smaller than the one wanted, from `high` on they are larger
-pub record Bracket (k : ℕ → ℕ) (n wanted low high : ℕ) : Type 0 where
-  pub order : low ≤ high
-  pub within : high ≤ n
-  pub smaller : (i : ℕ) → i < low → k i < wanted
-  pub larger : (i : ℕ) → high ≤ i → i < n → wanted < k i
-
-pub bracket_all : (k : ℕ → ℕ) (n wanted : ℕ) → Bracket k n wanted 0 n
-bracket_all k n wanted = record {
-  order = omega arith;
-  within = omega arith;
-  smaller = λ i l. absurd (not-suc-le-zero l);
-  larger = λ i l m. absurd (not-le_of_lt m l);
-}
-
-module _ (k : ℕ → ℕ) (n wanted low high : ℕ) (b : Bracket k n wanted low high) where
-  pub bracket_none : high ≤ low → None ≡ place_of k wanted n
-  bracket_none h =
-      place_none k wanted n
-      (λ i l q. ⊎_elim (λ x. let y = b.smaller i x in omega arith) (λ x. let y = b.larger i (omega arith) l in omega arith) (less_or_not i low))
-
-  module _ (sorted : every (ascends k) n ≡ true) (m : ℕ) (l : low ≤ m) (h : m < high) where
-    pub bracket_up : k m < wanted → Bracket k n wanted (m + 1) high
-    bracket_up x = record {
-      order = omega arith;
-      within = b.within;
-      smaller = λ i il.
-          ⊎_elim (λ q. rw q x) (λ q. let y = ascending k n sorted i m q (omega arith) in omega arith) (eq-or-lt_of_le (le_of_suc-le-suc (rw add-one at il)));
-      larger = b.larger;
-    }
-
-    pub bracket_down : (k m ≡ wanted → ⊥) → wanted ≤ k m → Bracket k n wanted low m
-    bracket_down o x = record {
-      order = l;
-      within = omega arith;
-      smaller = b.smaller;
-      larger = λ i mi il. ⊎_elim (λ q. rw (← q) (omega arith)) (λ q. let y = ascending k n sorted m i q il in omega arith) (eq-or-lt_of_le mi);
-    }

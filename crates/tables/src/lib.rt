@@ -1,12 +1,12 @@
 // The lent table and the lent list: whether they are sound, what the figures of a table are, and where a number or a subscriber stands in them.
 #![tactic(auto)]
 
-ghost use Rattle.std.specs.Prelude.{◌≡◌, IfErr, true, ◌*◌, ◌/◌, ◌^◌, ◌<◌, length, leb};
+ghost use Rattle.std.specs.Prelude.{◌≡◌, IfErr, true, ◌*◌, ◌/◌, ◌^◌, ◌<◌, length, get_or, leb};
 ghost use Rattle.answers.specs.declared.Refusal.TheVariants.{UnsoundTable};
 ghost use Rattle.tables.specs.Keys.{key, every, ascends, place_of};
 ghost use Rattle.tables.specs.Tables.{most_numbers, rows_in, table_sound, row_of, most_flags, list_sound, flags_of};
 ghost use Rattle.tables.specs.Ends.{end_for, within, pair_within};
-ghost use Rattle.tables.specs.Figures.{Few, with_row, said_recount, recounted};
+ghost use Rattle.tables.specs.Figures.{Few, figure_words, with_row, said_recount, recounted};
 
 use answers::Refusal;
 use numbers::{FunctionalNumber, Msisdn, least_for};
@@ -18,6 +18,15 @@ pub struct Figures {
     pub held: u64,
     pub waiting: u64,
     pub flying: u64,
+}
+
+// The three words of figures, in that order.
+impl From<Figures> for [u64; 3] {
+    ghost from_gives = { λ figures words. words ≡ figure_words figures };
+
+    fn from(figures: Figures) -> [u64; 3] {
+        [figures.held, figures.waiting, figures.flying]
+    }
 }
 
 // "at most 1,024 numbers".
@@ -170,28 +179,20 @@ pub fn list_sound(list: &[u64]) -> bool
     true
 }
 
-// Where a word stands among the first words of rows that ascend, by halving.
-fn place_of(words: &[u64], width: usize, wanted: u64) -> Option<usize>
-    requires width_nonzero { 0 < width }
-    requires width_value { every (ascends (key width words.now)) (length words.now / width) ≡ true }
-    ensures { result ≡ place_of (key width words.now) wanted (length words.now / width) }
+// Where a word stands among the first words of rows that ascend.
+fn place_of<const WIDTH: usize>(words: &[u64], wanted: u64) -> Option<usize>
+    requires width_bounds { (0 < WIDTH) × (WIDTH < 8) }
+    requires width_value { every (ascends (key WIDTH words.now)) (length words.now / WIDTH) ≡ true }
+    ensures { result ≡ place_of (key WIDTH words.now) wanted (length words.now / WIDTH) }
 {
-    // Kept: the library's search is no plainer: it wants a slice of rows, and these are flat words, of one width in a table and of another in a list.
-    let mut low = 0;
-    let mut high = words.len() / width;
-    while low < high {
-        let middle = low + (high - low) / 2;
-        let first = words[width * middle];
-        if first == wanted {
-            return Some(middle);
-        }
-        if first < wanted {
-            low = middle + 1;
-        } else {
-            high = middle;
-        }
-    }
-    None
+    let (rows, _) = words.as_chunks::<WIDTH>();
+    rows.binary_search_by_key(
+        &wanted,
+        |row: &[u64; WIDTH]| -> u64
+            ensures { result ≡ get_or row.now 0 0 }
+        { row.first().copied().unwrap_or(0) },
+    )
+    .ok()
 }
 
 // The row of a functional number.
@@ -199,7 +200,7 @@ pub fn row_of(table: &[u64], number: FunctionalNumber) -> Option<usize>
     requires { table_sound table.now ≡ true }
     ensures { result ≡ row_of table.now number.0 }
 {
-    place_of(table, ROW_WORDS, number.0)
+    place_of::<ROW_WORDS>(table, number.0)
 }
 
 // The flags of a subscriber; 0 where the list does not have her.
@@ -208,7 +209,7 @@ pub fn flags_of(list: &[u64], msisdn: Msisdn) -> u64
     requires { list_sound list.now ≡ true }
     ensures { result ≡ flags_of list.now msisdn.0 }
 {
-    match place_of(list, SUBSCRIBER_WORDS, msisdn.0) {
+    match place_of::<SUBSCRIBER_WORDS>(list, msisdn.0) {
         Some(row) => list[SUBSCRIBER_WORDS * row + FLAGS],
         None => 0,
     }

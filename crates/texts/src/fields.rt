@@ -1,5 +1,6 @@
 // The fields of a line: a name, words in decimal, and perhaps a tail of characters or octets.
-ghost use Rattle.std.specs.Prelude.{◌<◌, IfSome};
+ghost use Rattle.std.specs.Prelude.{◌<◌, ◌≤◌, length, IfSome};
+ghost use Rattle.texts.specs.Tails.{AsItStands};
 
 use crate::words::Words;
 
@@ -76,7 +77,9 @@ fn read_digit(character: u8) -> Option<u8>
 }
 
 // Octets of two hexadecimal digits each.
-fn read_octets<'a>(digits: &[u8], out: &'a mut [u8]) -> Option<&'a [u8]> {
+fn read_octets<'a>(digits: &[u8], out: &'a mut [u8]) -> Option<&'a [u8]>
+    ensures { IfSome result (λ octets. length octets.now ≤ length out.old) }
+{
     let (pairs, rest) = digits.as_chunks::<2>();
     if !rest.is_empty() {
         return None;
@@ -90,7 +93,10 @@ fn read_octets<'a>(digits: &[u8], out: &'a mut [u8]) -> Option<&'a [u8]> {
 
 impl<'a> Tail<'a> {
     // The octets or the characters, which leave room in the memory that is lent.
-    pub fn read(self, memory: &'a mut [u8]) -> Option<&'a [u8]> {
+    pub fn read(self, memory: &'a mut [u8]) -> Option<&'a [u8]>
+        ensures fits { IfSome result (λ octets. length octets.now ≤ length memory.old) }
+        ensures characters { IfSome result (λ octets. AsItStands self.entry octets.now) }
+    {
         match self {
             Tail::Characters(characters) => {
                 if memory.len() <= characters.len() {

@@ -40,6 +40,7 @@ fn goes(r: [u64; ROW_WORDS]) -> bool
 }
 
 // Takes the rows out that have run out, and says how many are left; the words that they leave are 0.
+// Kept: words with the rows in use beside them, as C lends them: the words behind are room that is lent too.
 fn remove(words: &mut [u64], used: usize) -> usize
     requires { (used ≤ rows_in words.old) × (table_sound (in_use words.old used) ≡ true) }
     ensures { (result ≡ length (stay used words.old)) × (words.new ≡ compacted used words.old) }

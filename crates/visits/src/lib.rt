@@ -50,8 +50,7 @@ pub fn say(outcome: Outcome, reply: &mut [u8]) -> Reply
     requires { buffer_room ≤ length reply.old }
     ensures { (said_reply result ≡ outcome_of (outcome_number outcome) (octet_count (two_digits (outcome_number outcome)))) × (reply.new ≡ packed_over (two_digits (outcome_number outcome)) reply.old) }
 {
-    let n = u8::from(outcome);
-    let text = [b'0' + n / 10, b'0' + n % 10];
+    let text = writers::two_digits(u8::from(outcome));
     let octets = put(&text, reply);
     Reply::Outcome(outcome, octets)
 }

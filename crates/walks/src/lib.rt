@@ -61,8 +61,9 @@ fn with_code(codes: Codes, code: u64) -> Codes
 {
     let mut digits = codes.digits;
     let count = codes.count;
-    digits[2 * count] = b'0' + (code / 10) as u8;
-    digits[2 * count + 1] = b'0' + (code % 10) as u8;
+    let [tens, ones] = writers::two_digits(code as u8);
+    digits[2 * count] = tens;
+    digits[2 * count + 1] = ones;
     Codes {
         digits,
         count: count + 1,
@@ -141,6 +142,7 @@ fn walk(
         failures: no_codes(),
     };
     let mut tally = step_on(lent, requester, operation, lead, LEAD_CODE, none);
+    // Kept: `chunks_exact(2)` is no plainer: the contract of `crews::code_at` goes by the place.
     for i in 0..digits.len() / 2 {
         let code = crews::code_at(digits, i);
         tally = step_on(lent, requester, operation, lead, code, tally);

@@ -4,7 +4,7 @@
 ghost use Rattle.std.specs.Prelude.{◌≡◌, true, ◌++◌, ◌+◌, ◌<◌, ◌≤◌, length};
 ghost use Rattle.answers.specs.Writing.{made_write, Stands};
 ghost use Rattle.packing.specs.Packing.{packed};
-ghost use Rattle.numbers.specs.Numbers.{most_digits, is_number, number_or_nobody, digits_of, numeral};
+ghost use Rattle.numbers.specs.Numbers.{most_digits, is_number, number_or_nobody, digits_of, numeral, two_digits};
 ghost use Rattle.strings.specs.Text.{erasing_sound, request_from, request_sound, operation_text, service_text, star, hash, supervisor_text, msisdn_text, text_of, most_characters, most_octets};
 ghost use Rattle.strings.specs.Outcomes.{writing_request};
 ghost use Rattle.strings.specs.Notices.{notice_text, notice_fields};
@@ -22,7 +22,16 @@ pub fn put(characters: &[u8], out: &mut [u8]) -> usize
     requires { length characters.now ≤ length out.old }
     ensures { Stands characters.now out.old result out.new }
 {
-    octets::copy(characters, out)
+    let n = characters.len();
+    out[..n].copy_from_slice(characters);
+    n
+}
+
+// The two digits of a number below 100.
+pub fn two_digits(n: u8) -> [u8; 2]
+    ensures { result ≡ two_digits n }
+{
+    [b'0' + n / 10, b'0' + n % 10]
 }
 
 // Writes a number below 100 in its one or two digits.
@@ -34,9 +43,7 @@ pub fn put_numeral(n: u8, out: &mut [u8]) -> usize
         out[0] = b'0' + n;
         return 1;
     }
-    out[0] = b'0' + n / 10;
-    out[1] = b'0' + n % 10;
-    2
+    put(&two_digits(n), out)
 }
 
 // Writes words and a number behind them.

@@ -2,9 +2,15 @@ use Rattle.std.proofs.Common.{ap, ◌∙◌}
 use Rattle.ffn_c.specs.Calls.{of_writer}
 use Rattle.ffn_c.proofs.Writer.{nobody_refused}
 use Rattle.ffn_c.proofs.ffn_write_request.Goals as goal
-
-pub returns-in_default : goal.returns-in_default
-returns-in_default c = rw (c.of_written.ensures, ← c.operation_of.ensures, c.in_default.is) (ap of_writer (c.write_request.ensures ∙ nobody_refused _ _ _))
+use Rattle.ffn_c.proofs.ffn_write_request.Goals.{in-Some, in-None}
 
 pub returns : goal.returns
-returns c = rw (c.of_written-2.ensures, ← c.operation_of.ensures, c.in-Some.is, ← c.erasing_of-erasing.ensures) (ap of_writer c.write_request-2.ensures)
+returns c =
+    elim c.match-operation_of.branch [
+      | in-Some w ↦
+          let e = rw w.operation-is at c.write_request.ensures in
+          rw (c.of_written.ensures, ← c.operation_of.ensures, w.in-Some.is, ← c.erasing_of-erasing.ensures) (ap of_writer e)
+      | in-None w ↦
+          let e = rw w.operation-is at c.write_request.ensures in
+          rw (c.of_written.ensures, ← c.operation_of.ensures, w.in-None.is) (ap of_writer (e ∙ nobody_refused _ _ _))
+    ]

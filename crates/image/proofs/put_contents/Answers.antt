@@ -22,4 +22,4 @@ returns c =
     let a = c.args in
     let counts = said_counted _ _ c.recount.ensures.figures _ (c.in_ok-counted.was) in
     sound_contents a.rows.now a.subscribers.now a.table.now a.list.now a.figures.now counts.0 (sym c.list_sound.ensures ∙ c.if-not-list_sound.false) _ _ _ _ counts.1
-    (rw c.copy_from_slice.ensures.after) (rw c.copy_from_slice-2.ensures.after) (rw c.copy_from_slice-3.ensures.after)
+    (rw c.copy_from_slice.ensures.after) (rw c.copy_from_slice-2.ensures.after) (rw (c.copy_from_slice-3.ensures.after, c.from-words.ensures))

@@ -32,38 +32,38 @@ returns-then-table-words c =
     reading_room a.image.now a.table.now a.list.now a.figures.now _ _ (counted _ _ _ c.requires) c.if-table-words.true
 
 pub slice_bounds-rows-end : goal.slice_bounds-rows-end
-slice_bounds-rows-end c = omega (arith, c.room-rows.ensures, few_rows _ _ _ c.requires)
+slice_bounds-rows-end c = omega (arith, c.filled-rows.ensures, few_rows _ _ _ c.requires)
 
 pub slice_bounds-load_words-end : goal.slice_bounds-load_words-end
-slice_bounds-load_words-end c = sym (length-take-le _ _ (omega (arith, c.room-rows.ensures, few_rows _ _ _ c.requires)))
+slice_bounds-load_words-end c = sym (length-take-le _ _ (omega (arith, c.filled-rows.ensures, few_rows _ _ _ c.requires)))
 
 pub load_words-requires : goal.load_words-requires
 load_words-requires c =
-    rw (length-take-le (row_words * c.args.counted.numbers) c.room-rows.result (omega (arith, c.room-rows.ensures, few_rows _ _ _ c.requires))) (omega (arith, whole _ _ _ c.requires))
+    rw (length-take-le (row_words * c.args.counted.numbers) c.filled-rows.result (omega (arith, c.filled-rows.ensures, few_rows _ _ _ c.requires))) (omega (arith, whole _ _ _ c.requires))
 
 pub slice_bounds-others-end : goal.slice_bounds-others-end
-slice_bounds-others-end c = omega (arith, c.room-others.ensures, few_others _ _ _ c.requires)
+slice_bounds-others-end c = omega (arith, c.filled-others.ensures, few_others _ _ _ c.requires)
 
 pub slice_bounds-load_words-end-2 : goal.slice_bounds-load_words-end-2
-slice_bounds-load_words-end-2 c = sym (length-take-le _ _ (omega (arith, c.room-others.ensures, few_others _ _ _ c.requires)))
+slice_bounds-load_words-end-2 c = sym (length-take-le _ _ (omega (arith, c.filled-others.ensures, few_others _ _ _ c.requires)))
 
 pub load_words-requires-2 : goal.load_words-requires-2
 load_words-requires-2 c =
-    rw (length-take-le (subscriber_words * c.args.counted.subscribers) c.room-others.result (omega (arith, c.room-others.ensures, few_others _ _ _ c.requires))) (omega (arith, whole _ _ _ c.requires))
+    rw (length-take-le (subscriber_words * c.args.counted.subscribers) c.filled-others.result (omega (arith, c.filled-others.ensures, few_others _ _ _ c.requires))) (omega (arith, whole _ _ _ c.requires))
 
 pub slice_bounds-rows-end-2 : goal.slice_bounds-rows-end-2
-slice_bounds-rows-end-2 c = front_room c.args.image.now 0 _ c.room-rows.result _ (omega (arith, c.room-rows.ensures, few_rows _ _ _ c.requires)) c.load_words.ensures
+slice_bounds-rows-end-2 c = front_room c.args.image.now 0 _ c.filled-rows.result _ (omega (arith, c.filled-rows.ensures, few_rows _ _ _ c.requires)) c.load_words.ensures
 
 pub slice_bounds-put_contents-end : goal.slice_bounds-put_contents-end
-slice_bounds-put_contents-end c = front_length c.args.image.now 0 _ c.room-rows.result _ (omega (arith, c.room-rows.ensures, few_rows _ _ _ c.requires)) c.load_words.ensures
+slice_bounds-put_contents-end c = front_length c.args.image.now 0 _ c.filled-rows.result _ (omega (arith, c.filled-rows.ensures, few_rows _ _ _ c.requires)) c.load_words.ensures
 
 pub slice_bounds-others-end-2 : goal.slice_bounds-others-end-2
 slice_bounds-others-end-2 c =
-    front_room c.args.image.now (word_octets * (row_words * c.args.counted.numbers)) _ c.room-others.result _ (omega (arith, c.room-others.ensures, few_others _ _ _ c.requires)) c.load_words-2.ensures
+    front_room c.args.image.now (word_octets * (row_words * c.args.counted.numbers)) _ c.filled-others.result _ (omega (arith, c.filled-others.ensures, few_others _ _ _ c.requires)) c.load_words-2.ensures
 
 pub slice_bounds-put_contents-end-2 : goal.slice_bounds-put_contents-end-2
 slice_bounds-put_contents-end-2 c =
-    front_length c.args.image.now (word_octets * (row_words * c.args.counted.numbers)) _ c.room-others.result _ (omega (arith, c.room-others.ensures, few_others _ _ _ c.requires)) c.load_words-2.ensures
+    front_length c.args.image.now (word_octets * (row_words * c.args.counted.numbers)) _ c.filled-others.result _ (omega (arith, c.filled-others.ensures, few_others _ _ _ c.requires)) c.load_words-2.ensures
 
 pub returns : goal.returns
 returns c =
@@ -72,10 +72,10 @@ returns c =
     let m = a.counted.subscribers in
     let k = counted a.image.now n m c.requires in
     let rows =
-    front_loaded a.image.now 0 (row_words * n) c.room-rows.result c.load_words.new.words (omega (arith, c.room-rows.ensures, few_rows _ _ _ c.requires)) c.load_words.ensures
+    front_loaded a.image.now 0 (row_words * n) c.filled-rows.result c.load_words.new.words (omega (arith, c.filled-rows.ensures, few_rows _ _ _ c.requires)) c.load_words.ensures
     ∙ table_by a.image.now n k.numbers in
     let others =
-    front_loaded a.image.now (word_octets * (row_words * n)) (subscriber_words * m) c.room-others.result c.load_words-2.new.words (omega (arith, c.room-others.ensures, few_others _ _ _ c.requires)) c.load_words-2.ensures
+    front_loaded a.image.now (word_octets * (row_words * n)) (subscriber_words * m) c.filled-others.result c.load_words-2.new.words (omega (arith, c.filled-others.ensures, few_others _ _ _ c.requires)) c.load_words-2.ensures
     ∙ list_by a.image.now n m k.numbers k.subscribers in
     reading_rest a.image.now a.table.now a.list.now a.figures.now n m k _ _ rows others c.if-table-words.false
     (made_read c.put_contents.result c.put_contents.new.table c.put_contents.new.list c.put_contents.new.figures) c.put_contents.ensures

@@ -1,5 +1,5 @@
 -- The digits that are left, and what stands behind them, are what is to be written. Assumes nothing.
-use Rattle.std.proofs.Common.{◌≡◌, ◌^◌, ◌≤◌, ◌++◌, length, drop}
+use Rattle.std.proofs.Common.{◌≡◌, ◌^◌, ◌≤◌, ◌++◌, drop}
 use Rattle.numbers.specs.Numbers.{digits_up_to}
 use Rattle.numbers.proofs.write_last.Given as goal
 

@@ -5,4 +5,5 @@ use Rattle.visits.proofs.say.Goals as goal
 
 pub put-octets-requires : goal.put-octets-requires
 unfolding octets_for
-put-octets-requires c = (takes_two c.from-n.result (omega arith), omega arith)
+put-octets-requires c =
+    rw c.two_digits-text.ensures (takes_two c.from.result (omega arith), omega arith)

@@ -1,0 +1,2 @@
+-- `Rows`: rows put in behind other words, as far as there is room.
+pub mod Rows
