@@ -53,7 +53,7 @@ const CHARACTERS: usize = 182;
 // ---- lines
 
 fn put(rt: &(impl Print + Eprint), text: &(impl Display + Drop)) {
-    streams::print_output(rt, "cab", text);
+    streams::print_output(rt, b"cab", text);
 }
 
 // The octets that were written, if any were.
@@ -67,7 +67,7 @@ fn put_string(rt: &(impl Print + Eprint), string: &[u8]) {
     let count = packing::unpack(string, &mut text);
     match written(&text, count) {
         Some(text) => {
-            streams::write_output(rt, "cab", text);
+            streams::write_output(rt, b"cab", text);
             put(rt, &"\n");
         }
         None => put(rt, &"unreadable\n"),
@@ -79,7 +79,7 @@ fn put_number(rt: &(impl Print + Eprint), number: u64) {
     let mut digits = [0; MOST_DIGITS];
     let count = numbers::write_digits(number, &mut digits);
     match written(&digits, count) {
-        Some(digits) => streams::write_output(rt, "cab", digits),
+        Some(digits) => streams::write_output(rt, b"cab", digits),
         None => put(rt, &"no number"),
     }
 }
@@ -95,7 +95,7 @@ fn put_subscriber(rt: &(impl Print + Eprint), msisdn: u64) {
 
 // A string that passes between the node and a subscriber.
 fn put_passing(rt: &(impl Print + Eprint), way: &str, msisdn: u64, string: &[u8]) {
-    put(rt, &format_args!("node {way} "));
+    put(rt, &way);
     put_subscriber(rt, msisdn);
     put(rt, &" ");
     put_string(rt, string);
@@ -152,7 +152,7 @@ impl Node {
             string,
         );
         let reply = reply.get(..reply_octets(answer)).unwrap_or_default();
-        put_passing(rt, "->", requester, reply);
+        put_passing(rt, "node -> ", requester, reply);
         reply
     }
 
@@ -165,7 +165,7 @@ impl Node {
             put(rt, &"nothing packed\n");
             return;
         };
-        put_passing(rt, "<-", requester, string);
+        put_passing(rt, "node <- ", requester, string);
         self.ask(rt, &mut reply, requester, string);
     }
 
@@ -202,7 +202,7 @@ impl Node {
             return &[];
         };
         let notice = notice.get(..sent.octets).unwrap_or_default();
-        put_passing(rt, "->", sent.addressee.0, notice);
+        put_passing(rt, "node -> ", sent.addressee.0, notice);
         notice
     }
 

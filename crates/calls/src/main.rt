@@ -108,9 +108,9 @@ fn put_line(rt: &(impl Print + Eprint), line: &[u8], state: &mut State) {
 
 fn main(rt: HostRuntime) {
     let mut buffer = streams::filled::<u8, INPUT_ROOM>(0);
-    let input = streams::read_input(&rt, "calls", &mut buffer);
+    let input = streams::input_in(&rt, b"calls", &mut buffer);
     if input.len() == INPUT_ROOM {
-        streams::say(&rt, "calls", ": more input than there is room for\n");
+        streams::say(&rt, b"calls", b": more input than there is room for\n");
     }
     let mut state = State::new();
     for line in input.split_inclusive(|octet| *octet == b'\n') {

@@ -21,22 +21,24 @@ pub struct State {
     blank: Blank,
 }
 
-// What a line's words are to memory: all that it holds, more of it, or rows of more.
-fn filled<const N: usize>(memory: &Words<N>, sign: &[u8], words: &[u64]) -> Option<Words<N>> {
-    let mut next = *memory;
+// Puts a line's words into memory: all that it holds, more of it, or rows of more. Where there is no room they are taken back; all that it holds has room, since a
+// line has few words. Memory is not copied: that would cost all its room for each line.
+fn fill<const N: usize>(memory: &mut Words<N>, sign: &[u8], words: &[u64]) -> Option<()> {
+    let used = memory.as_slice().len();
     match (sign, words) {
         (b"", words) => {
-            next = Words::new();
-            next.extend(words);
+            memory.truncate(0);
+            memory.extend(words);
         }
-        (b"+", words) => next.extend(words),
-        (b"*", [rows, first, others @ ..]) => next.extend_rows(*rows, *first, others),
+        (b"+", words) => memory.extend(words),
+        (b"*", [rows, first, others @ ..]) => memory.extend_rows(*rows, *first, others),
         _ => return None,
     }
-    if next.is_full() {
+    if memory.is_full() {
+        memory.truncate(used);
         return None;
     }
-    Some(next)
+    Some(())
 }
 
 // The figures of a table; zeros where it is unsound.
@@ -64,11 +66,11 @@ impl State {
     // Sets memory by a name and words; nothing where they have another form, or no room.
     pub fn set(&mut self, name: &[u8], words: &[u64]) -> Option<()> {
         if let Some(sign) = name.strip_prefix(b"table") {
-            self.table = filled(&self.table, sign, words)?;
+            fill(&mut self.table, sign, words)?;
             self.figures = recounted(self.table.as_slice());
             self.shows_figures = false;
         } else if let Some(sign) = name.strip_prefix(b"list") {
-            self.list = filled(&self.list, sign, words)?;
+            fill(&mut self.list, sign, words)?;
         } else {
             match (name, words) {
                 (b"buffer", [octets, filling]) => self.blank = Blank::read(*octets, *filling)?,

@@ -7,10 +7,10 @@ use tables::{FULL_LIST_WORDS, FULL_TABLE_WORDS};
 
 fn main(rt: HostRuntime) {
     let mut buffer = streams::filled::<u8, INPUT_ROOM>(0);
-    let input = streams::read_input(&rt, "ffn", &mut buffer);
+    let input = streams::input_in(&rt, b"ffn", &mut buffer);
     let mut table = streams::filled::<u64, FULL_TABLE_WORDS>(0);
     let mut list = streams::filled::<u64, FULL_LIST_WORDS>(0);
     let mut out = streams::filled::<u8, MOST_OUTPUT>(0);
     let printed = lines::run(input, &mut table, &mut list, &mut out);
-    streams::write_output(&rt, "ffn", &out[..printed]);
+    streams::write_output(&rt, b"ffn", &out[..printed]);
 }

@@ -74,7 +74,8 @@ impl Display for Answer {
     fn fmt<W: fmt::Write>(&self, f: &mut fmt::Formatter<W>) -> fmt::Result {
         match self {
             Answer::Outcome(outcome, octets) => {
-                write!(f, "outcome {:02}, {octets} octets", u8::from(*outcome))
+                let number = u8::from(*outcome);
+                write!(f, "outcome {}{}, {octets} octets", number / 10, number % 10)
             }
             Answer::Held(msisdn, octets) => {
                 write!(f, "outcome 03, holder {}, {octets} octets", msisdn.0)
@@ -123,18 +124,18 @@ fn put_register<W: fmt::Write>(
     register: &Register,
     length: usize,
 ) -> fmt::Result {
-    write!(f, "first {}, invoke {}, ", register.first, register.number)?;
+    write!(f, "first {}, invoke {}", register.first, register.number)?;
     match register.body {
         Ok(asked) => {
             let count = asked.count;
             let start = length.wrapping_sub(VERSION.len()).wrapping_sub(count);
             write!(
                 f,
-                "scheme {}, string from {start}, {count} octets",
+                ", scheme {}, string from {start}, {count} octets",
                 asked.scheme
             )
         }
-        Err(problem) => write!(f, "problem {}", u8::from(problem)),
+        Err(problem) => write!(f, ", problem {}", u8::from(problem)),
     }
 }
 
@@ -171,9 +172,9 @@ fn put_request<W: fmt::Write>(f: &mut fmt::Formatter<W>, request: &ReadRequest) 
 
 fn operation_text(operation: Operation) -> &'static str {
     match operation {
-        Operation::Register => "register",
-        Operation::Erase => "erase",
-        Operation::Interrogate => "interrogate",
+        Operation::Register => "register, number ",
+        Operation::Erase => "erase, number ",
+        Operation::Interrogate => "interrogate, number ",
     }
 }
 
@@ -184,20 +185,19 @@ fn put_fields<W: fmt::Write>(
     text: &[u8; MOST_CHARACTERS],
 ) -> fmt::Result {
     let operation = operation_text(fields.operation);
-    write!(f, "{operation}, number {}, MSISDN ", fields.number.0)?;
+    write!(f, "{operation}{}", fields.number.0)?;
     match fields.erasing {
-        Erasing::Empty => f.write_str("none")?,
-        Erasing::Forced(msisdn) => write!(f, "{}", msisdn.0)?,
+        Erasing::Empty => f.write_str(", MSISDN none, additional from ")?,
+        Erasing::Forced(msisdn) => write!(f, ", MSISDN {}, additional from ", msisdn.0)?,
     }
     let start = fields.start;
     let count = fields.count;
-    write!(f, ", additional from {start}, {count} characters '")?;
-    for character in text.iter().skip(start).take(count) {
-        write!(f, "{}", char::from(*character))?;
-    }
-    f.write_str("'")?;
+    write!(f, "{start}, {count} characters '")?;
+    let (_, behind) = text.split_at(start.min(text.len()));
+    let (additional, _) = behind.split_at(count.min(behind.len()));
+    f.write_str(str::from_utf8(additional).unwrap_or_default())?;
     match fields.crew {
-        Crew::Codes(codes) => write!(f, ", of a crew, codes {codes}"),
-        Crew::Single | Crew::Broken => Ok(()),
+        Crew::Codes(codes) => write!(f, "', of a crew, codes {codes}"),
+        Crew::Single | Crew::Broken => f.write_str("'"),
     }
 }

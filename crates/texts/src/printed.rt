@@ -3,14 +3,35 @@ ghost use Rattle.std.specs.Prelude.{◌<◌};
 
 use std::fmt::{self, Display};
 
-// Each piece is written at once: an output that is lent through all functions would make each of their proofs dearer.
+// Each piece of a text is written at once: an output that is lent through all functions would make each of their proofs dearer.
 pub fn put(rt: &(impl Print + Eprint), text: &(impl Display + Drop)) {
-    streams::print_output(rt, "calls", text);
+    streams::print_output(rt, b"calls", text);
 }
 
 // Octets as they are, characters or not.
 pub fn put_octets(rt: &(impl Print + Eprint), octets: &[u8]) {
-    streams::write_output(rt, "calls", octets);
+    streams::write_output(rt, b"calls", octets);
+}
+
+// The character of a hexadecimal digit.
+fn digit_of(value: u8) -> u8
+    requires { value < 16 }
+{
+    if value < 10 {
+        return b'0' + value;
+    }
+    b'a' + (value - 10)
+}
+
+// An octet as two hexadecimal digits, one piece.
+#[derive(Clone, Copy, Debug)]
+struct Hexadecimal(u8);
+
+impl Display for Hexadecimal {
+    fn fmt<W: fmt::Write>(&self, f: &mut fmt::Formatter<W>) -> fmt::Result {
+        let digits = [digit_of(self.0 / 16), digit_of(self.0 % 16)];
+        f.write_str(str::from_utf8(&digits).unwrap_or("?"))
+    }
 }
 
 // The octets that a call wrote, how many beyond hold what the buffer was filled with, and whether another is among them.
@@ -26,14 +47,14 @@ impl Display for Buffer<'_> {
         let filling = self.filling;
         write!(f, " [")?;
         for octet in self.written {
-            write!(f, " {octet:02x}")?;
+            write!(f, " {}", Hexadecimal(*octet))?;
         }
         let left = self
             .beyond
             .iter()
             .filter(|octet| **octet == filling)
             .count();
-        write!(f, " ] {left} of {filling:02x}")?;
+        write!(f, " ] {left} of {}", Hexadecimal(filling))?;
         if left < self.beyond.len() {
             write!(f, ", others changed")?;
         }

@@ -42,6 +42,13 @@ impl<const N: usize> Words<N> {
         &mut memory[..used]
     }
 
+    // Takes words back from the end, where there are more than so many.
+    pub fn truncate(&mut self, used: usize)
+        ensures { in_use self.new ≡ take used (in_use self.old) }
+    {
+        self.used = self.used.min(used);
+    }
+
     pub fn push(&mut self, word: u64)
         ensures { in_use self.new ≡ take N (in_use self.old ++ word ∷ []) }
     {
