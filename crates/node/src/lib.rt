@@ -49,7 +49,7 @@ fn ask_single(lent: &mut Lent<'_>, reply: &mut [u8], requester: Msisdn, fields: 
 {
     match lent.row_of(fields.number) {
         Some(row) => visits::decide_at(lent, row, reply, requester, fields),
-        None => visits::say(Outcome::UnknownNumber, reply),
+        None => visits::answer(Outcome::UnknownNumber, reply),
     }
 }
 
@@ -69,10 +69,10 @@ fn ask(
 {
     let flags = tables::flags_of(list, requester);
     if flags % 2 != 1 {
-        return Ok(visits::say(Outcome::NoFollowMe, reply));
+        return Ok(visits::answer(Outcome::NoFollowMe, reply));
     }
     if is_forbidden(fields.erasing, flags) {
-        return Ok(visits::say(Outcome::NoSupervisor, reply));
+        return Ok(visits::answer(Outcome::NoSupervisor, reply));
     }
     match fields.crew {
         Crew::Single => Ok(ask_single(lent, reply, requester, fields)),

@@ -1,7 +1,7 @@
 // A call's visit to the row of its number: the record is read, a step of it taken and stored, and what the step says is written. The answers of the node's calls.
 #![tactic(auto)]
 
-ghost use Rattle.std.specs.Prelude.{◌≡◌, true, [], ◌≤◌, ◌<◌, length};
+ghost use Rattle.std.specs.Prelude.{◌≡◌, true, [], ◌≤◌, ◌<◌, length, ℕ};
 ghost use Rattle.answers.specs.Numbers.{outcome_number};
 ghost use Rattle.packing.specs.Packing.{takes, octets_for};
 ghost use Rattle.numbers.specs.Numbers.{is_number, two_digits};
@@ -15,6 +15,7 @@ ghost use Rattle.rules.specs.Answers.{made, outcome as outcome_of, holder_is, bu
 ghost use Rattle.rules.specs.Requests.{says, comes_to, replying};
 ghost use Rattle.rules.specs.Notices as notices;
 ghost use Rattle.rules.specs.Visits.{visited, storing, step_at, decides_at, holder_answered, erases, sent_step, visit_result};
+ghost use Rattle.visits.specs.Settled.{step_by};
 ghost use Rattle.visits.specs.Said.{said_reply, said_sending, said_result, said_due};
 
 use answers::{Outcome, Refusal};
@@ -45,13 +46,21 @@ pub fn put(text: &[u8], out: &mut [u8]) -> usize
     packing::pack(text, out).unwrap()
 }
 
+// A number's two characters in the reply; how many octets they are.
+pub fn say(n: u8, reply: &mut [u8]) -> usize
+    requires { buffer_room ≤ length reply.old }
+    ensures { (result ≡ octet_count (two_digits n)) × (reply.new ≡ packed_over (two_digits n) reply.old) }
+{
+    let text = writers::two_digits(n);
+    put(&text, reply)
+}
+
 // An outcome: its two characters in the reply.
-pub fn say(outcome: Outcome, reply: &mut [u8]) -> Reply
+pub fn answer(outcome: Outcome, reply: &mut [u8]) -> Reply
     requires { buffer_room ≤ length reply.old }
     ensures { (said_reply result ≡ outcome_of (outcome_number outcome) (octet_count (two_digits (outcome_number outcome)))) × (reply.new ≡ packed_over (two_digits (outcome_number outcome)) reply.old) }
 {
-    let text = writers::two_digits(u8::from(outcome));
-    let octets = put(&text, reply);
+    let octets = say(u8::from(outcome), reply);
     Reply::Outcome(outcome, octets)
 }
 
@@ -68,15 +77,10 @@ fn tell(msisdn: Msisdn, reply: &mut [u8]) -> Reply
     Reply::Held(msisdn, octets)
 }
 
-// A step of the record of a row, stored where the record becomes the next one: its outcome, `success` there.
-pub fn settle(
-    lent: &mut Lent<'_>,
-    row: usize,
-    success: Outcome,
-    step: Result<Record, Outcome>,
-) -> Outcome
+// A step of the record of a row, stored where the record becomes the next one: its outcome, `success` there, in whatever outcomes are told by, a number too.
+pub fn settle<O: Copy>(lent: &mut Lent<'_>, row: usize, success: O, step: Result<Record, O>) -> O
     requires { (state_sound (state_in lent.old) ≡ true) × (row < rows_in lent.old.table.now) }
-    ensures answer { comes_to (says (outcome_number result)) (state_in lent.new) ≡ step_at (state_in lent.old) row (outcome_number success) (said_step step) }
+    ensures answer { (number : O → ℕ) → comes_to (says (number result)) (state_in lent.new) ≡ step_at (state_in lent.old) row (number success) (step_by number step) }
     ensures loans { SameLoans lent.old lent.new }
 {
     match step {
@@ -110,7 +114,7 @@ fn answer_holder(held: Record, reply: &mut [u8]) -> Reply
 {
     match held.interrogate() {
         Ok(msisdn) => tell(msisdn, reply),
-        Err(outcome) => say(outcome, reply),
+        Err(outcome) => answer(outcome, reply),
     }
 }
 
@@ -132,12 +136,12 @@ pub fn decide_at(
         Operation::Register => {
             let step = record.register(number, requester);
             let outcome = settle(lent, row, Outcome::Registered, step);
-            say(outcome, reply)
+            answer(outcome, reply)
         }
         Operation::Erase => {
             let step = erasure(record, fields.erasing, number, requester);
             let outcome = settle(lent, row, Outcome::Erased, step);
-            say(outcome, reply)
+            answer(outcome, reply)
         }
         Operation::Interrogate => answer_holder(record, reply),
     }

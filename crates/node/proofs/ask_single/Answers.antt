@@ -15,4 +15,4 @@ returns-in-Some-clause-answer c =
 pub returns-in-None-clause-answer : goal.returns-in-None-clause-answer
 returns-in-None-clause-answer c =
     let a = c.args in
-    single_misses (state_in a.lent.now) a.reply.now a.requester a.fields _ _ (sym c.row_of.ensures ∙ c.in-None.is) c.say.ensures.0 c.say.ensures.1
+    single_misses (state_in a.lent.now) a.reply.now a.requester a.fields _ _ (sym c.row_of.ensures ∙ c.in-None.is) c.answer.ensures.0 c.answer.ensures.1

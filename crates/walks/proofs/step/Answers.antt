@@ -3,6 +3,8 @@ use Rattle.tables.proofs.Stored.{row_found}
 use Rattle.states.specs.Lent.{state_in}
 use Rattle.rules.proofs.Visits.{step_misses}
 use Rattle.rules.specs.Singles.{plainly}
+use Rattle.answers.specs.Numbers.{outcome_number}
+use Rattle.visits.proofs.Settled.{by_number}
 use Rattle.walks.proofs.Stepping.{erases_only, step_registers, step_erases}
 use Rattle.walks.proofs.step.Goals as goal
 
@@ -24,10 +26,10 @@ pub returns-in-Register-clause-answer : goal.returns-in-Register-clause-answer
 returns-in-Register-clause-answer c =
     let a = c.args in
     step_registers (state_in a.lent.now) a.requester a.number _ (sym c.row_of.ensures ∙ c.in-Some.is) c.load-record.result c.load-record.ensures.record a.operation _
-    c.in-Register.is (c.settle.ensures.answer ∙ rw c.register-step.ensures)
+    c.in-Register.is (c.settle.ensures.answer outcome_number ∙ rw (by_number c.register-step.result, c.register-step.ensures))
 
 pub returns-in_default-operation-clause-answer : goal.returns-in_default-operation-clause-answer
 returns-in_default-operation-clause-answer c =
     let a = c.args in
     step_erases (state_in a.lent.now) a.requester a.number _ (sym c.row_of.ensures ∙ c.in-Some.is) c.load-record.result c.load-record.ensures.record a.operation _
-    (erases_only a.operation c.in_default-operation.not-Register c.requires.1) (c.settle-in_default-operation.ensures.answer ∙ rw c.erase-step.ensures)
+    (erases_only a.operation c.in_default-operation.not-Register c.requires.1) (c.settle-in_default-operation.ensures.answer outcome_number ∙ rw (by_number c.erase-step.result, c.erase-step.ensures))
