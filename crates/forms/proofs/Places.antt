@@ -8,6 +8,7 @@ use Prim.Native.Nat.{ℕ, suc, ◌+◌, ◌-◌, ◌≤◌, ◌<◌}
 use native.Mathlib.Numerals.{add-one}
 use native.Mathlib.Omega.{arith}
 use lib.ListN.{length, take, drop, get_or, length-drop}
+use lib.Seq.{take_all}
 use lib.Dec.{eqb, ltb}
 use borrow.Author.Tests.{eq-eqb, ne_eqb, ltb-true, ltb-false}
 use Rattle.std.specs.Prelude as core
@@ -17,8 +18,12 @@ use Rattle.std.proofs.lemmas.List.Recursion.{is_position_or_len}
 use Rattle.answers.proofs.Tests.{less_or_not}
 use Rattle.answers.proofs.Checks.{not_some}
 use Rattle.forms.specs.Reads.{Parted}
-use Rattle.octets.specs.Octets.{index_of, index_after}
+use Rattle.octets.specs.Octets.{index_of, index_after, slice}
 use Rattle.forms.specs.Lines.{line_feed, on_first, lines_of, space, first_field, behind_field, lettered, form_of}
+
+pub whole_slice : (s : List ℕ) → slice 0 (length s) s ≡ s
+unfolding slice
+whole_slice s = let n : length s - 0 ≡ length s = omega arith in rw n (take_all (length s) s (omega arith))
 
 pub field_front : (s : List ℕ) → first_field s ≡ take (index_of space s) s
 unfolding index_of index_after first_field

@@ -2,6 +2,7 @@
 #![tactic(auto)]
 
 ghost use Rattle.std.specs.Prelude.{◌≡◌, List, ℕ, ◌^◌, ◌≤◌, ◌<◌, length, MatchOption};
+ghost use Rattle.octets.specs.Octets.{index_of};
 ghost use Rattle.forms.specs.Lines.{is_digits, number_of, asked_of, value_below, number_form, subscriber_form, request_form, sending_form, result_fields, result_form, delay_form, lettered};
 ghost use Rattle.forms.specs.Reads.{value_in, Whole, Parted, Reads};
 
@@ -23,6 +24,13 @@ pub enum Line {
     Sending(u32, FunctionalNumber),
     Result(u32, FunctionalNumber, u32),
     Delay(u32),
+}
+
+// Where an octet first stands in a part; the part's length where it does not.
+pub fn place_of(octet: u8, part: &[u8]) -> usize
+    ensures { (result ≡ index_of octet part.now) × (result ≤ length part.now) }
+{
+    octets::find(part, 0, part.len(), octet)
 }
 
 // The field up to the first space of a part, and what stands behind that space.

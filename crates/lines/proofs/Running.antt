@@ -1,23 +1,14 @@
 -- The lines of an input, carried out one after the other: what holds before each of them. Assumes nothing.
-use mathlib.Core.Path.{◌≡◌, refl, sym, ap, ap₂, subst, ◌∙◌}
-use mathlib.Core.Bool.{Bool, true, false}
-use mathlib.Core.Logic.{⊎_elim}
+use mathlib.Core.Path.{◌≡◌, refl, sym, ap, ap₂, ◌∙◌}
+use mathlib.Core.Bool.{true}
 use mathlib.Core.List.{List, [], ◌∷◌, ◌++◌, append-nil, append_assoc}
-use Prim.Native.Nat.{ℕ, zero, suc, ◌+◌, ◌-◌, ◌*◌, ◌≤◌, ◌<◌, min}
+use Prim.Native.Nat.{ℕ, ◌+◌, ◌-◌, ◌*◌, ◌≤◌, ◌<◌}
 use native.Mathlib.Omega.{arith}
 use borrow.Rule.Slice.PartMut.{put_mid}
-use lib.ListN.{length, take, drop, get_or, length-append, length-drop, take-append-drop, drop_of_length-le}
+use lib.ListN.{length, take, drop, length-append, length-drop, take-append-drop, drop_of_length-le}
 use lib.Seq.{length-take-le, take_at, drop_at, take-append-add, drop-append-add, take-append_seam, drop-drop}
 use Rattle.answers.proofs.Parts.{rest_of, rest_back}
-use lib.Dec.{eqb}
-use borrow.Author.Tests.{eqb-true}
-use denote.Ref.{Bor}
-use Rattle.std.specs.Prelude as core
-use Rattle.std.specs.Prelude.{Some, None, MatchOption}
-use Rattle.std.specs.List.{IsFirstMatchOrLen}
-use Rattle.std.proofs.lemmas.List.{take_more, nil_from_length}
-use Rattle.answers.proofs.Tests.{no_path, less_or_not}
-use Rattle.octets.specs.Octets.{index_of, index_after}
+use Rattle.octets.specs.Octets.{index_of}
 use Rattle.rows.specs.Rows.{row_words}
 use Rattle.tables.specs.Tables.{subscriber_words}
 use Rattle.tables.specs.Figures.{recount}
@@ -167,130 +158,6 @@ module _
       table_stays = put_rest did.numbers ∙ later (row_words * s.numbers) (row_words * d.state.numbers) t table (omega (arith, did.more_numbers)) before.table_stays;
       list_stays = put_rest did.subscribers ∙ later (subscriber_words * s.subscribers) (subscriber_words * d.state.subscribers) l list (omega (arith, did.more_subscribers)) before.list_stays;
       out_stays = stays;
-    }
-
--- ---- a line, cut off with the line feed that ends it
-
--- where the library's search stops is the first line feed
-first_feed : (s : List ℕ) (i : ℕ) → IsFirstMatchOrLen (λ (c : ℕ). eqb c line_feed) s i → i ≡ index_of line_feed s
-unfolding index_of index_after
-first_feed [] zero h = refl
-first_feed [] (suc i) h = no_path (sym (h.0 0 line_feed (omega arith) (omega arith)))
-first_feed (c ∷ s) zero h = rw (h.1 (omega arith) 0)
-first_feed (c ∷ s) (suc i) h =
-    let e : eqb c line_feed ≡ false = h.0 0 0 (omega arith) (omega arith) in
-    rw (e, ← first_feed s i ((λ k d a b. h.0 (suc k) d (omega arith) (omega arith)), (λ l d. h.1 (omega arith) d)))
-
-within_part : (c : ℕ) (s : List ℕ) → index_of c s ≤ length s
-unfolding index_of index_after
-within_part c [] = omega arith
-within_part c (d ∷ s) = go (eqb d c) (within_part c s)
-  where
-    go : (b : Bool) → index_of c s ≤ length s → index_after b (index_of c s) ≤ suc (length s)
-    go true h = omega arith
-    go false h = omega arith
-
--- what is left of the input, its first line, and what is left behind that
-pub record Piece (rest line behind : List ℕ) : Type 0 where
-  pub end : ℕ
-  pub found : (end ≡ index_of line_feed rest) × (end ≤ length rest)
-  pub is_first : line ≡ take end rest
-  pub is_behind : behind ≡ drop (end + 1) rest
-
-at_end : (x behind : List ℕ) (c d : ℕ) → get_or (x ++ (c ∷ behind)) (length x) d ≡ c
-at_end [] behind c d = refl
-at_end (a ∷ x) behind c d = at_end x behind c d
-
-abbrev feed : List ℕ
-feed = line_feed ∷ []
-
-module _ (rest ended behind : List ℕ) (i : ℕ) (cut : rest ≡ ended ++ behind) (long : length ended ≡ min (i + 1) (length rest))
-    (first : IsFirstMatchOrLen (λ (c : ℕ). eqb c line_feed) rest i) where
-  place : i ≡ index_of line_feed rest
-  place = first_feed rest i first
-
-  within : i ≤ length rest
-  within = omega (arith, place, within_part line_feed rest)
-
-  total : length rest ≡ length ended + length behind
-  total = ap length cut ∙ length-append ended behind
-
-  is_behind : behind ≡ drop (i + 1) rest
-  is_behind = ⊎_elim
-      (λ (h : i < length rest). sym (ap (drop (i + 1)) cut ∙ drop_at ended behind (i + 1) (omega arith)))
-      (λ (h : length rest ≤ i). nil_from_length behind (omega (arith, total)) ∙ sym (drop_of_length-le rest (omega arith)))
-      (less_or_not i (length rest))
-
-  -- a line that ends the input has no line feed
-  unended : ((front : List ℕ) → ended ≡ front ++ feed → ⊥) → ended ≡ take i rest
-  unended h = ⊎_elim
-      (λ (l : i < length rest).
-      let last : get_or rest i 0 ≡ line_feed = eqb-true _ _ (first.1 l 0) in
-      let e : ended ≡ take (i + 1) rest = sym (ap (take (i + 1)) cut ∙ take_at ended behind (i + 1) (omega arith)) in
-      absurd (h (take i rest) (e ∙ take_more rest i 0 l ∙ ap (λ (c : ℕ). take i rest ++ (c ∷ [])) last)))
-      (λ (l : length rest ≤ i). sym (ap (take i) cut ∙ take_at ended behind i (omega (arith, total, within))))
-      (less_or_not i (length rest))
-
-  -- the line in front of its line feed
-  in_front : (x : List ℕ) → ended ≡ x ++ feed → x ≡ take i rest
-  in_front x e =
-      let whole : rest ≡ x ++ (line_feed ∷ behind) = cut ∙ ap (λ (l : List ℕ). l ++ behind) e ∙ append_assoc x feed behind in
-      let count : length ended ≡ length x + 1 = ap length e ∙ length-append x feed in
-      ⊎_elim
-      (λ (l : length x < i).
-      let none : eqb (get_or rest (length x) 0) line_feed ≡ false = first.0 (length x) 0 (omega arith) l in
-      let seen : get_or rest (length x) 0 ≡ line_feed = ap (λ (l : List ℕ). get_or l (length x) 0) whole ∙ at_end x behind line_feed 0 in
-      no_path (sym (rw seen at none)))
-      (λ (l : i ≤ length x).
-      let same : length x ≡ i = omega (arith, count, total) in
-      sym (ap (take i) whole ∙ take_at x (line_feed ∷ behind) i same))
-      (less_or_not (length x) i)
-
-  pub piece : (r : core.Option (Bor (List ℕ))) (whole : Bor (List ℕ)) → whole.now ≡ ended → MatchOption r ((front : List ℕ) → ended ≡ front ++ feed → ⊥) (λ x. ended ≡ x.now ++ feed)
-      → Piece rest (core.unwrap_or r whole).now behind
-  piece None whole same h = record { end = i; found = (place, within); is_first = same ∙ unended h; is_behind = is_behind }
-  piece (Some x) whole same h = record { end = i; found = (place, within); is_first = in_front x.now h; is_behind = is_behind }
-
--- before each line: the place is where the rest of the input begins
-pub record Going (input table list out : List ℕ) (s : Progress) (n : ℕ) (t l o rest : List ℕ) : Type 0 where
-  pub at : ℕ
-  pub runs : Run input table list out s at n t l o
-  pub left : rest ≡ drop at input
-
-pub more_left : {input table list out : List ℕ} {s : Progress} {n : ℕ} {t l o rest : List ℕ} (g : Going input table list out s n t l o rest) → 0 < length rest → g.at < length input
-more_left {input} g h = omega (arith, ap length g.left, length-drop g.at input)
-
-module _
-    {input table list out : List ℕ} {s : Progress} {n : ℕ} {t l o rest : List ℕ} (before : Going input table list out s n t l o rest) (lent : Lent input table list out)
-    (more : 0 < length rest) where
-  pub room_left : n + 61 ≤ length o
-  room_left = so_far before.runs lent (more_left before more)
-
-  pub line_within : {line behind : List ℕ} → Piece rest line behind → length line ≤ length input
-  line_within p = omega (arith, ap length p.is_first, length-take-le p.end rest p.found.1, p.found.1, ap length before.left, length-drop before.at input)
-
-  module _
-      {line behind : List ℕ} (p : Piece rest line behind) {d : Done} {newTable newList part : List ℕ}
-      (did : Did (line_effect line (program_in s t l)) s t l (take (length o - n) (drop n o)) d newTable newList part)
-      (sameTable : length newTable ≡ length t) (same_list : length newList ≡ length l) (samePart : length part ≡ length (take (length o - n) (drop n o))) where
-    found : (p.end ≡ index_of line_feed (drop before.at input)) × (p.end ≤ length (drop before.at input))
-    found = rw before.left at p.found
-
-    same : line ≡ take p.end (drop before.at input)
-    same = p.is_first ∙ ap (take p.end) before.left
-
-    done : Did (line_effect (take p.end (drop before.at input)) (program_in s t l)) s t l (take (length o - n) (drop n o)) d newTable newList part
-    done = subst (λ (x : List ℕ). Did (line_effect x (program_in s t l)) s t l (take (length o - n) (drop n o)) d newTable newList part) same did
-
-    pub printed_fits : n + d.printed ≤ 7 * (length input + 1)
-    printed_fits =
-        omega (arith, printed_most before.runs lent (more_left before more) found done sameTable same_list samePart, before.runs.most, found.1, length-drop before.at input, more_left before more)
-
-    pub going_step : Going input table list out d.state (n + d.printed) newTable newList (put_mid n (length o - n) o part) behind
-    going_step = record {
-      at = before.at + (p.end + 1);
-      runs = run_step before.runs lent (more_left before more) found done sameTable same_list samePart;
-      left = p.is_behind ∙ ap (drop (p.end + 1)) before.left ∙ drop-drop (p.end + 1) before.at input;
     }
 
 -- ---- behind the last line

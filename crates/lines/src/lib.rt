@@ -397,12 +397,16 @@ fn run_lines(
         fresh: true,
         figures: [0; FIGURES],
     };
+    let mut at = 0;
     let mut n = 0;
-    for ended in input.split_inclusive(|octet| *octet == b'\n') {
-        let line = ended.strip_suffix(b"\n").unwrap_or(ended);
-        let done = do_line(line, state, table, list, packed, &mut out[n..]);
+    // Kept: over the library's `split_inclusive` the wrong program that passes over an octet is refused for its form alone, as the same program in other words is.
+    while at < input.len() {
+        let rest = &input[at..];
+        let end = forms::place_of(b'\n', rest);
+        let done = do_line(&rest[..end], state, table, list, packed, &mut out[n..]);
         state = done.state;
         n += done.printed;
+        at += end + 1;
     }
     n
 }
