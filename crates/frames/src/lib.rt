@@ -182,7 +182,11 @@ fn read_body(octets: &[u8]) -> Result<Asked, Problem>
     if !begins_with(octets, &[INTEGER_TAG, 1, OPERATION_CODE]) {
         return Err(Problem::UnrecognizedOperation);
     }
-    read_argument(&octets[OCTET_PART..]).ok_or(Problem::MistypedParameter)
+    // Kept: no `ok_or`: it moves the whole value, with the octets that lie unused in it, and a processor waits for these; so too in `end_body`.
+    let Some(Asked { scheme, count }) = read_argument(&octets[OCTET_PART..]) else {
+        return Err(Problem::MistypedParameter);
+    };
+    Ok(Asked { scheme, count })
 }
 
 // A request's component, which fills the octets.
@@ -217,14 +221,16 @@ fn element_end(kind: u8, message: &[u8]) -> Option<usize>
 fn end_body(rest: &[u8], body: Result<Asked, Problem>) -> Result<Asked, Problem>
     ensures { result ≡ ended_body rest.now body }
 {
-    let asked = body?;
+    let Asked { scheme, count } = body?;
     if (rest.len() == VERSION.len()) & begins_with(rest, &VERSION) {
-        return Ok(asked);
+        return Ok(Asked { scheme, count });
     }
     Err(Problem::MistypedParameter)
 }
 
 // A Register.
+// Inlined: its callers take the answer apart at once, and a processor waits where it is laid down part by part and then read whole.
+#[inline(always)]
 pub fn read_register(message: &[u8]) -> Result<Register, Refusal>
     ensures { told_register result message.now ≡ or_unread (register_of message.now) }
 {

@@ -1,5 +1,6 @@
 -- `frames::read_body` meets its contract: its tests are the definition's, in the same order. Assumes nothing.
 use mathlib.Core.Path.{sym}
+use Rattle.std.proofs.Common.{Some, None}
 use Rattle.answers.proofs.Begins.{begins_within}
 use Rattle.frames.specs.Components.{operation}
 use Rattle.frames.proofs.Bodies.{body_other, body_told}
@@ -14,5 +15,8 @@ slice_bounds-read_argument-count c = begins_within operation _ (sym c.if-not-beg
 pub slice_bounds-read_argument-start : goal.slice_bounds-read_argument-start
 slice_bounds-read_argument-start c = begins_within operation _ (sym c.if-not-begins_with.ensures)
 
+pub returns-in_default : goal.returns-in_default
+returns-in_default c = body_told _ (sym c.if-not-begins_with.ensures) None c.in_default.ensures
+
 pub returns : goal.returns
-returns c = rw c.ok_or.ensures.value (body_told _ (sym c.if-not-begins_with.ensures) _ c.read_argument.ensures)
+returns c = body_told _ (sym c.if-not-begins_with.ensures) (Some _) c.in-Some.ensures
