@@ -229,7 +229,7 @@ fn end_body(rest: &[u8], body: Result<Asked, Problem>) -> Result<Asked, Problem>
 }
 
 // A Register.
-// Inlined: its callers take the answer apart at once, and a processor waits where it is laid down part by part and then read whole.
+// Inlined: the export and the framed request take the answer apart at once, and a processor waits where it is laid down part by part and then read whole.
 #[inline(always)]
 pub fn read_register(message: &[u8]) -> Result<Register, Refusal>
     ensures { told_register result message.now ≡ or_unread (register_of message.now) }
