@@ -182,7 +182,7 @@ fn read_body(octets: &[u8]) -> Result<Asked, Problem>
     if !begins_with(octets, &[INTEGER_TAG, 1, OPERATION_CODE]) {
         return Err(Problem::UnrecognizedOperation);
     }
-    // Kept: no `ok_or`: it moves the whole value, with the octets that lie unused in it, and a processor waits for these; so too in `end_body`.
+    // Kept: no `ok_or`: it moves the whole value, with the octets that lie unused in it, and a processor waits for these.
     let Some(Asked { scheme, count }) = read_argument(&octets[OCTET_PART..]) else {
         return Err(Problem::MistypedParameter);
     };
@@ -221,9 +221,9 @@ fn element_end(kind: u8, message: &[u8]) -> Option<usize>
 fn end_body(rest: &[u8], body: Result<Asked, Problem>) -> Result<Asked, Problem>
     ensures { result ≡ ended_body rest.now body }
 {
-    let Asked { scheme, count } = body?;
+    let asked = body?;
     if (rest.len() == VERSION.len()) & begins_with(rest, &VERSION) {
-        return Ok(Asked { scheme, count });
+        return Ok(asked);
     }
     Err(Problem::MistypedParameter)
 }
